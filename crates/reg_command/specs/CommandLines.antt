@@ -1,5 +1,5 @@
 -- The tool's command line (this project's own).
-use Rattle.std.specs.Prelude.{ℕ, ◌<◌, ◌≡◌, ◌≢◌, List, [], ◌∷◌, map, codes, pos, Option, Some, None, true, string_bytes, String}
+use Rattle.std.specs.Prelude.{ℕ, ◌<◌, ◌≡◌, ◌≢◌, List, [], ◌∷◌, map, codes, pos, Option, Some, None, Bool, true, false, string_bytes, String}
 use Rattle.std.specs.Str.Parse.{IsNumeral, digits_value, without_leading_plus}
 use Rattle.clap.specs.Words.{App, Kinds, Row, Rule, Text, fault_of, new_app, new_rule, one_of, subcommand_of, with_rule, with_subcommand}
 use Rattle.clap.specs.declared.builder.value_parser.ValueParser.TheVariants as parser
@@ -78,3 +78,8 @@ pub record IsCommandLine (words : List (List ℕ)) (request : Request) : Type 0 
 -- these words are no command line of the tool: whatever is asked, they don't ask for it
 abbrev pub AsksNothing : List (List ℕ) → Type 0
 AsksNothing words = (request : Request) → IsCommandLine words request → ⊥
+
+-- whether these words are a command line of the tool
+abbrev pub IsUnderstood : List (List ℕ) → Bool → Type 0
+IsUnderstood words true = (request : Request) × IsCommandLine words request
+IsUnderstood words false = AsksNothing words

@@ -16,7 +16,7 @@ mod words;
 
 ghost use Rattle.std.specs.Prelude.{◌≡◌, ◌≤◌, OnOk, IfOk, IfErr};
 ghost use Rattle.clap.specs.Values.{kind_of};
-ghost use Rattle.reg_command.specs.CommandLines.{texts, IsCommandLine};
+ghost use Rattle.reg_command.specs.CommandLines.{texts, IsCommandLine, IsUnderstood};
 ghost use Rattle.reg_command.specs.Failures.{Does, Stops, IsDone, IsRefused, IsBefore, IsTold, IsFailure, IsStopped};
 ghost use Rattle.reg_command.specs.Internal.Steps.{IsAnswered};
 
@@ -27,7 +27,7 @@ use crate::words::{Request, read_words};
 use clap::Error;
 use clap::error::ErrorKind;
 use reg_text::{Sink, write_counted};
-use std::alloc::Global;
+use std::alloc::{AllocError, Global};
 use std::io::{Read, Write};
 
 fn usage(alloc: Global, error: &Error) -> Failure
@@ -110,6 +110,17 @@ fn tell<E: Sink>(alloc: Global, errors: &mut E, stop: Stop) {
         Stop::Memory => {
             let _ = write_counted(errors, b"error 8\n");
         }
+    }
+}
+
+/// Whether words, the program's name first, are a command line of [`tool`]. Want of memory is its one fault.
+pub fn understands(alloc: Global, words: &[String]) -> Result<bool, AllocError>
+    ensures { IfOk result (λ is. IsUnderstood (texts words.now) is) }
+{
+    match ask(alloc, words) {
+        Ok(_) => Ok(true),
+        Err(Failure::Usage(_)) => Ok(false),
+        Err(_) => Err(AllocError),
     }
 }
 

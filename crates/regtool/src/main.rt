@@ -7,7 +7,7 @@
 
 ghost use Rattle.std.specs.Prelude.{◌≡◌, ◌≢◌, codes};
 
-pub use reg_command::tool;
+pub use reg_files::file_tool;
 use std::io::ErrorKind;
 use std::process::ExitCode;
 use std::{env, io};
@@ -41,5 +41,12 @@ fn main(rt: HostRuntime) -> ExitCode {
     let mut input = rt.reader();
     let mut output = io::writer(&rt);
     let mut errors = rt.stderr();
-    ExitCode::from(tool(alloc, words, &mut input, &mut output, &mut errors))
+    ExitCode::from(file_tool(
+        alloc,
+        &rt,
+        words,
+        &mut input,
+        &mut output,
+        &mut errors,
+    ))
 }

@@ -1,0 +1,272 @@
+//! A host that refuses a step: whatever that is, the file is as it was, and nothing is left beside it.
+use crate::support::{bytes_of, names_in, new_folder, told};
+use reg_files::Lockable;
+use std::alloc::Allocator;
+use std::fs;
+use std::fs::{File, Metadata, OpenFile, OpenOptions, Permissions, TryLockError};
+use std::io;
+use std::io::{ErrorKind, Read, Seek, SeekFrom, Write};
+use std::path::PathBuf;
+use std::rt::{Clock, Files};
+use std::test::Fail;
+use std::time::Duration;
+
+/// What a host refuses.
+#[derive(Clone, Copy, Debug, PartialEq, Eq)]
+enum Refused {
+    Nothing,
+    Clock,
+    Create,
+    Permit,
+    /// Writes past so many bytes.
+    Write(usize),
+    Sync,
+    Rename,
+    /// To open a folder.
+    Folder,
+    /// Reads past so many bytes.
+    Read(usize),
+    /// The lock, as where another one has it.
+    Lock,
+}
+
+/// The system's host, but for what it refuses.
+#[derive(Drop)]
+struct Refusing<'a> {
+    rt: &'a HostRuntime,
+    refused: Refused,
+}
+
+/// A file of such a host.
+#[derive(Drop)]
+struct RefusingFile {
+    file: File,
+    refused: Refused,
+    done: usize,
+}
+
+fn refusal() -> io::Error {
+    io::Error::from(ErrorKind::StorageFull)
+}
+
+impl RefusingFile {
+    /// How many of these bytes may pass, where a limit is set.
+    fn room(&self, limit: Option<usize>, wanted: usize) -> io::Result<usize> {
+        match limit {
+            Some(limit) if self.done >= limit => Err(refusal()),
+            Some(limit) => Ok(wanted.min(limit - self.done)),
+            None => Ok(wanted),
+        }
+    }
+}
+
+impl Read for RefusingFile {
+    fn read(&mut self, buf: &mut [u8]) -> io::Result<usize> {
+        let limit = match self.refused {
+            Refused::Read(limit) => Some(limit),
+            _ => None,
+        };
+        let room = self.room(limit, buf.len())?;
+        let count = self.file.read(&mut buf[..room])?;
+        self.done = self.done.saturating_add(count);
+        Ok(count)
+    }
+}
+
+impl Write for RefusingFile {
+    fn write(&mut self, buf: &[u8]) -> io::Result<usize> {
+        let limit = match self.refused {
+            Refused::Write(limit) => Some(limit),
+            _ => None,
+        };
+        let room = self.room(limit, buf.len())?;
+        let count = self.file.write(&buf[..room])?;
+        self.done = self.done.saturating_add(count);
+        Ok(count)
+    }
+
+    fn flush(&mut self) -> io::Result<()> {
+        self.file.flush()
+    }
+}
+
+impl Seek for RefusingFile {
+    fn seek(&mut self, to: SeekFrom) -> io::Result<u64> {
+        self.file.seek(to)
+    }
+}
+
+impl OpenFile for RefusingFile {
+    fn metadata(&self) -> io::Result<Metadata> {
+        self.file.metadata()
+    }
+
+    fn set_len(&self, size: u64) -> io::Result<()> {
+        self.file.set_len(size)
+    }
+
+    fn sync_all(&self) -> io::Result<()> {
+        if self.refused == Refused::Sync {
+            return Err(refusal());
+        }
+        self.file.sync_all()
+    }
+
+    fn sync_data(&self) -> io::Result<()> {
+        self.file.sync_data()
+    }
+
+    fn set_permissions(&self, perm: Permissions) -> io::Result<()> {
+        if self.refused == Refused::Permit {
+            return Err(refusal());
+        }
+        self.file.set_permissions(perm)
+    }
+}
+
+impl Lockable for RefusingFile {
+    fn try_lock(&self) -> Result<(), TryLockError> {
+        if self.refused == Refused::Lock {
+            return Err(TryLockError::WouldBlock);
+        }
+        self.file.try_lock()
+    }
+}
+
+impl Clock for Refusing<'_> {
+    fn monotonic(&self) -> io::Result<Duration> {
+        self.rt.monotonic()
+    }
+
+    fn since_1970(&self) -> io::Result<Duration> {
+        if self.refused == Refused::Clock {
+            return Err(refusal());
+        }
+        Ok(Duration::from_secs(0))
+    }
+}
+
+impl Files for Refusing<'_> {
+    type File = RefusingFile;
+
+    type Dir = <HostRuntime as Files>::Dir;
+
+    fn open_file(&self, how: &OpenOptions, path: &str) -> io::Result<RefusingFile> {
+        if self.refused == Refused::Create && how.asks_create_new() {
+            return Err(refusal());
+        }
+        if self.refused == Refused::Folder && fs::metadata(self.rt, path).is_ok_and(|m| m.is_dir()) {
+            return Err(refusal());
+        }
+        Ok(RefusingFile {
+            file: self.rt.open_file(how, path)?,
+            refused: self.refused,
+            done: 0,
+        })
+    }
+
+    fn open_dir(&self, path: &str) -> io::Result<Self::Dir> {
+        self.rt.open_dir(path)
+    }
+
+    fn metadata(&self, path: &str) -> io::Result<Metadata> {
+        Files::metadata(self.rt, path)
+    }
+
+    fn symlink_metadata(&self, path: &str) -> io::Result<Metadata> {
+        self.rt.symlink_metadata(path)
+    }
+
+    fn copy(&self, from: &str, to: &str) -> io::Result<u64> {
+        self.rt.copy(from, to)
+    }
+
+    fn rename(&self, from: &str, to: &str) -> io::Result<()> {
+        if self.refused == Refused::Rename {
+            return Err(refusal());
+        }
+        self.rt.rename(from, to)
+    }
+
+    fn remove_file(&self, path: &str) -> io::Result<()> {
+        self.rt.remove_file(path)
+    }
+
+    fn create_dir(&self, path: &str) -> io::Result<()> {
+        self.rt.create_dir(path)
+    }
+
+    fn remove_dir(&self, path: &str) -> io::Result<()> {
+        self.rt.remove_dir(path)
+    }
+
+    fn remove_dir_all<B: Allocator>(&self, alloc: B, path: &str) -> io::Result<()> {
+        self.rt.remove_dir_all(alloc, path)
+    }
+
+    fn canonicalize<B: Allocator>(&self, alloc: B, path: &str) -> io::Result<PathBuf<B>> {
+        self.rt.canonicalize(alloc, path)
+    }
+}
+
+const SCRIPT: &str = "root 983103\ncreate 0 =A 983103\n";
+
+/// What an edit under a refusal tells, with `--now`, and whether the file is as it was and alone.
+fn edited(rt: &HostRuntime, at: &str, refused: Refused) -> Result<String, Fail> {
+    let alloc = rt.alloc();
+    let before = bytes_of(rt, at, "a")?;
+    let host = Refusing { rt, refused };
+    let mut text = told(alloc, &host, at, "regtool edit @/a --now", SCRIPT)?;
+    let same = bytes_of(rt, at, "a")?.as_slice() == before.as_slice();
+    let names = names_in(rt, at)?;
+    write!(text, " {same} {}", names.as_str())?;
+    Ok(text)
+}
+
+#[test]
+fn leaves_the_file_whatever_is_refused(rt: HostRuntime) -> Result<(), Fail> {
+    let folder = new_folder(&rt)?;
+    let at = folder.as_str();
+    told(rt.alloc(), &rt, at, "regtool new @/a", "")?;
+    let rows = [
+        (Refused::Clock, "1;error clock @/a: no storage space\n; true a "),
+        (Refused::Lock, "1;error busy @/a\n; true a "),
+        (Refused::Read(0), "1;error read @/a: no storage space\n; true a "),
+        (Refused::Read(5000), "1;error read @/a: no storage space\n; true a "),
+        (Refused::Create, "1;error create @/a: no storage space\n;0 handle 0\n0 handle 1 disposition 1\n true a "),
+        (Refused::Permit, "1;error permit @/a: no storage space\n;0 handle 0\n0 handle 1 disposition 1\n true a "),
+        (Refused::Write(0), "1;error write @/a: no storage space\n;0 handle 0\n0 handle 1 disposition 1\n true a "),
+        (Refused::Write(8191), "1;error write @/a: no storage space\n;0 handle 0\n0 handle 1 disposition 1\n true a "),
+        (Refused::Sync, "1;error sync @/a: no storage space\n;0 handle 0\n0 handle 1 disposition 1\n true a "),
+        (Refused::Rename, "1;error rename @/a: no storage space\n;0 handle 0\n0 handle 1 disposition 1\n true a "),
+        // the new file took its place, and may be lost where the machine stops
+        (Refused::Folder, "1;error sync folder of @/a: no storage space\n;0 handle 0\n0 handle 1 disposition 1\n false a "),
+    ];
+    for (refused, wanted) in rows {
+        let text = edited(&rt, at, refused)?;
+        assert_eq!(rt; text.as_str(), wanted);
+    }
+    fs::remove_dir_all(&rt, at)?;
+    Ok(())
+}
+
+/// A new file that can't be written is taken away.
+#[test]
+fn leaves_no_part_of_a_new_file(rt: HostRuntime) -> Result<(), Fail> {
+    let folder = new_folder(&rt)?;
+    let at = folder.as_str();
+    for refused in [Refused::Create, Refused::Write(0), Refused::Write(4096), Refused::Sync] {
+        let host = Refusing { rt: &rt, refused };
+        let text = told(rt.alloc(), &host, at, "regtool new @/a", "")?;
+        assert!(rt; text.starts_with("1;error "));
+        assert_eq!(rt; names_in(&rt, at)?.as_str(), "");
+    }
+    let host = Refusing { rt: &rt, refused: Refused::Nothing };
+    assert_eq!(rt; told(rt.alloc(), &host, at, "regtool new @/a", "")?.as_str(), "0;;");
+    // the clock of that host stands at the beginning of 1970
+    assert_eq!(rt; told(rt.alloc(), &host, at, "regtool edit @/a --now", SCRIPT)?.as_str(),
+        "0;;0 handle 0\n0 handle 1 disposition 1\n");
+    assert_eq!(rt; crate::support::block_of(&rt, at, "a")?, (2, 2, 116_444_736_000_000_000));
+    fs::remove_dir_all(&rt, at)?;
+    Ok(())
+}

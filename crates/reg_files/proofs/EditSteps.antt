@@ -1,0 +1,55 @@
+-- What an edit did, put together of what its steps did.
+use Rattle.std.proofs.Common.{◌≡◌, ◌≢◌, ◌∙◌, ◌++◌, List, ℕ, ap, sym, subst, inl, inr}
+use Rattle.std.specs.Prelude.{Option, Some, None}
+use Rattle.reg_model.specs.Callbacks.{Callbacks, no_callbacks}
+use Rattle.std.specs.Io.KnownBytes.{Appends, Consumes, IsAtEnd, prepend_known}
+use Rattle.reg_calls.specs.Views.{View}
+use Rattle.reg_script.specs.LineWords.{lines_of}
+use Rattle.reg_script.specs.Lines.{LinesTo}
+use Rattle.reg_script.specs.Stops.{AreWithin, Stops}
+use Rattle.reg_script.specs.declared.engine.ScriptFault.{ScriptFault}
+use Rattle.reg_image.specs.Loads.{IsLoaded}
+use Rattle.reg_command.specs.ScriptRuns.{image_at}
+use Rattle.reg_files.specs.Edits.{at_line, Opens, LeadsOn, IsToSave, Halts, RunStops, Edits, EditStops, begin_of, next_sequence, sequence_in}
+use Rattle.reg_files.specs.declared.edits.EditFault.{EditFault}
+use Rattle.reg_files.specs.declared.edits.EditFault.TheVariants.{Load, Script, Memory}
+
+module _ (begin : ℕ) (old last : View) (callbacks : Callbacks) (unread whole left chain_left before after : Option (List ℕ))
+    (none : callbacks ≡ no_callbacks) (is_whole : whole ≡ prepend_known (at_line begin) unread) where
+  pub leads_on : (moment : ℕ) → chain_left ≡ left → IsAtEnd chain_left →
+      ((script : List ℕ) × (text : List ℕ) × Consumes whole chain_left script × LinesTo callbacks old script text last moment ×
+      Appends before after text × AreWithin (lines_of script))
+      → LeadsOn begin old last moment unread left before after
+  leads_on moment is_left at_end h = record {
+    at_end = subst IsAtEnd is_left at_end;
+    script = h.0;
+    consumed = subst (λ o. Consumes o left h.0) is_whole (subst (λ o. Consumes whole o h.0) is_left h.2);
+    text = h.1;
+    lines = subst (λ (asked : Callbacks). LinesTo asked old h.0 h.1 last moment) none h.3;
+    appended = h.4;
+  }
+
+  pub halts : (fault : ScriptFault) → Stops fault whole chain_left callbacks old last before after → Halts fault begin old unread before after
+  halts fault h = (
+    last,
+    chain_left,
+    subst (λ o. Stops fault o chain_left no_callbacks old last before after) is_whole
+    (subst (λ (asked : Callbacks). Stops fault whole chain_left asked old last before after) none h),
+  )
+
+-- what was loaded
+pub opens : (bytes rest : List ℕ) (hive : View) → ((image : List ℕ) × Consumes (Some bytes) (Some rest) image × IsLoaded image hive) → Opens bytes hive
+opens bytes rest hive h = record { image = h.0; rest = rest; bytes_are = h.1; loaded = h.2 }
+
+module _ (bytes : List ℕ) (begin : Option ℕ) (old last : View) (moment : ℕ) (unread left before after : Option (List ℕ)) (is_open : Opens bytes old)
+    (leads : LeadsOn (begin_of begin bytes) old last moment unread left before after) where
+  pub edited : (saved : Option (List ℕ)) → IsToSave old last moment (next_sequence (sequence_in bytes)) saved →
+      Edits bytes begin saved unread left before after
+  edited saved h = record { old = old; opens = is_open; last = last; moment = moment; leads = leads; to_save = h }
+
+-- a script that ended early
+pub edit_stops : (fault : EditFault) (bytes : List ℕ) (begin : Option ℕ) (old : View) (unread left before after : Option (List ℕ)) → Opens bytes old →
+    RunStops fault (begin_of begin bytes) old unread left before after → EditStops fault bytes begin unread left before after
+edit_stops (Load fault) bytes begin old unread left before after o h = absurd h
+edit_stops (Script fault) bytes begin old unread left before after o h = (old, o, h)
+edit_stops Memory bytes begin old unread left before after o h = (old, o, inl h)

@@ -1,0 +1,3 @@
+pub mod ImageBins
+pub mod ScriptFronts
+pub mod EditSteps

@@ -1,0 +1,3 @@
+pub mod CommandLines
+pub mod Edits
+pub mod Moments

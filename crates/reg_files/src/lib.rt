@@ -1,0 +1,172 @@
+//! Hive files by path: told, counted, made, edited.
+#![tactic(auto)]
+
+mod commands;
+mod edits;
+mod fault;
+mod locks;
+mod moments;
+mod saving;
+mod words;
+
+pub use locks::Lockable;
+
+use crate::commands::{check_file, dump_file, edit_file, new_file};
+use crate::edits::EditFault;
+use crate::fault::Fault;
+use crate::words::{Request, read_words};
+use clap::Error;
+use clap::error::ErrorKind;
+use reg_command::{tool, understands};
+use reg_text::{Sink, write_counted};
+use std::alloc::{AllocError, Global};
+use std::io::{Read, Write};
+use std::rt::{Clock, Files};
+
+/// The line that tells what ended a command on a file.
+fn fault_text(alloc: Global, file: &str, fault: Fault) -> Result<String, AllocError> {
+    match fault {
+        Fault::Busy => format!(in alloc; "error busy {file}\n"),
+        Fault::Name => format!(in alloc; "error name {file}: {fault}\n"),
+        Fault::Step { step, error } => format!(in alloc; "error {step} {file}: {error}\n"),
+        Fault::Edit(EditFault::Load(fault)) => {
+            let number = fault.number();
+            format!(in alloc; "error 1009 load {number} {file}: {fault}\n")
+        }
+        Fault::Edit(EditFault::Script(fault)) => {
+            let number = fault.number();
+            format!(in alloc; "error script {number}: {fault}\n")
+        }
+        Fault::Cut(written) => format!(in alloc; "error 1013 written {written}\n"),
+        Fault::Edit(EditFault::Memory) | Fault::Memory => format!(in alloc; "error 8\n"),
+    }
+}
+
+/// Tells what ended a command on a file, and answers the status. What a writer doesn't take is lost.
+fn tell<E: Sink>(alloc: Global, errors: &mut E, file: &str, fault: Fault) -> u8 {
+    let _ = match fault_text(alloc, file, fault) {
+        Ok(text) => write_counted(errors, text.as_bytes()),
+        Err(_) => write_counted(errors, b"error 8\n"),
+    };
+    1
+}
+
+/// The status of a command on a file, whose fault is told.
+fn settle<E: Sink>(alloc: Global, errors: &mut E, file: &str, done: Result<u8, Fault>) -> u8 {
+    match done {
+        Ok(status) => status,
+        Err(fault) => tell(alloc, errors, file, fault),
+    }
+}
+
+/// Tells the counts of some files, a line each: behind the file's name where there are several.
+fn check_files<H: Files, W: Write, E: Sink>(
+    alloc: Global,
+    host: &H,
+    files: &[&str],
+    output: &mut W,
+    errors: &mut E,
+) -> u8 {
+    let mut status = 0;
+    for file in files {
+        let done = check_file(alloc, host, file, files.len() > 1, output, errors);
+        status = settle(alloc, errors, file, done).max(status);
+    }
+    status
+}
+
+/// Does what was asked for, and answers the status.
+fn answer<H: Files + Clock, R: Read, W: Write, E: Sink>(
+    alloc: Global,
+    host: &H,
+    request: Request<'_>,
+    input: &mut R,
+    output: &mut W,
+    errors: &mut E,
+) -> u8
+where
+    H::File: Lockable,
+{
+    match request {
+        Request::Stream => 2,
+        Request::Dump(file) => {
+            let done = dump_file(alloc, host, file, output, errors);
+            settle(alloc, errors, file, done)
+        }
+        Request::Check(files) => check_files(alloc, host, files.as_slice(), output, errors),
+        Request::New { file, name } => {
+            let done = new_file(alloc, host, file, name);
+            settle(alloc, errors, file, done.map(|()| 0))
+        }
+        Request::Edit(edit) => {
+            let done = edit_file(alloc, host, edit, input, output);
+            settle(alloc, errors, edit.file, done.map(|()| 0))
+        }
+    }
+}
+
+/// Tells why words are no command line, and answers the status.
+fn refuse<E: Sink>(alloc: Global, errors: &mut E, error: &Error) -> u8 {
+    if error.kind() == ErrorKind::OutOfMemory {
+        let _ = write_counted(errors, b"error 8\n");
+        return 1;
+    }
+    match format!(in alloc; "{error}") {
+        Ok(text) => {
+            let _ = write_counted(errors, text.as_bytes());
+            2
+        }
+        Err(_) => {
+            let _ = write_counted(errors, b"error 8\n");
+            1
+        }
+    }
+}
+
+/// Serves a command line that isn't `tool`'s.
+fn serve<H: Files + Clock, R: Read, W: Write, E: Sink>(
+    alloc: Global,
+    host: &H,
+    words: &[String],
+    input: &mut R,
+    output: &mut W,
+    errors: &mut E,
+) -> u8
+where
+    H::File: Lockable,
+{
+    match read_words(alloc, words) {
+        Ok(request) => answer(alloc, host, request, input, output, errors),
+        Err(error) => refuse(alloc, errors, &error),
+    }
+}
+
+/// Runs the tool on a command line, whose first word is the program's name, and answers the exit status.
+///
+/// Words that [`tool`] understands go to it: `run`, and `dump` and `check` without files. `dump FILE` and `check FILE..` do with files
+/// what it does with its input; several are counted a line each, behind their names. `new FILE` makes a file with a fresh hive, never
+/// over one that is there. `edit FILE` runs a script from `input` on the hive of a file, writes the replies to `output`, and saves the
+/// hive where the script ended without a fault and changed it, while it holds the file's lock.
+///
+/// The status is 0 where that was done, 1 where something was refused or faulty, with a line on `errors` that says what and where, and
+/// 2 for words that aren't understood.
+pub fn file_tool<H: Files + Clock, R: Read, W: Write, E: Sink>(
+    alloc: Global,
+    host: &H,
+    words: Vec<String>,
+    input: &mut R,
+    output: &mut W,
+    errors: &mut E,
+) -> u8
+where
+    H::File: Lockable,
+{
+    match understands(alloc, words.as_slice()) {
+        Ok(true) => tool(alloc, words, input, output, errors),
+        Ok(false) => serve(alloc, host, words.as_slice(), input, output, errors),
+        Err(_) => {
+            let _ = write_counted(errors, b"error 8\n");
+            1
+        }
+    }
+}
