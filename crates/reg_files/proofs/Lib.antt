@@ -1,3 +1,4 @@
 pub mod ImageBins
 pub mod ScriptFronts
 pub mod EditSteps
+pub mod CommandShapes

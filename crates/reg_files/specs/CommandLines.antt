@@ -1,5 +1,5 @@
 -- The command line of the tool on files (this project's own).
-use Rattle.std.specs.Prelude.{ℕ, ◌<◌, ◌≡◌, ◌≢◌, ◌↔◌, ◌⊎◌, List, [], ◌∷◌, codes, map, option_map, unwrap_or, Option, Some, None, Bool, true}
+use Rattle.std.specs.Prelude.{ℕ, ◌<◌, ◌≡◌, ◌≢◌, ◌↔◌, List, [], ◌∷◌, codes, map, option_map, unwrap_or, Option, Some, None, Bool, true, false}
 use Rattle.std.specs.Str.Parse.{IsNumeral, digits_value, without_leading_plus}
 use Rattle.clap.specs.Words.{App, Kinds, Row, Rule, Text, all_of, fault_of, first_of, new_app, new_rule, one_of, subcommand_of, with_rule, with_subcommand}
 use Rattle.clap.specs.Lexer.{usize_max}
@@ -9,7 +9,7 @@ use Rattle.reg_command.specs.CommandLines.{required, run_command}
 use Rattle.reg_files.specs.declared.words.Begin.{Begin}
 use Rattle.reg_files.specs.declared.words.Begin.TheVariants.{Kept, Now, At}
 use Rattle.reg_files.specs.declared.words.Request.{Request}
-use Rattle.reg_files.specs.declared.words.Request.TheVariants.{Stream, Dump, Check, New, Edit}
+use Rattle.reg_files.specs.declared.words.Request.TheVariants.{Dump, Check, New, Edit}
 
 -- `clap`'s command `regtool`, one of whose subcommands must be there: `run`, `dump` and `check` as without files, where `dump` may have a
 -- file and `check` files; `new` with a file and the option `--name`; and `edit` with a file, the options `--output` and `--at`, which is a
@@ -20,11 +20,8 @@ option_rule name = record (new_rule name) { long = Some name; value_names = 1 }
 abbrev pub flag_rule : Text → Rule
 flag_rule name = record (new_rule name) { long = Some name; action = Some action.SetTrue }
 
-abbrev pub file_rule : Rule
-file_rule = record (new_rule (codes "file")) { value_names = 1 }
-
-abbrev pub required_file_rule : Rule
-required_file_rule = record (new_rule (codes "file")) { value_names = 1; required = true }
+abbrev pub file_rule : Bool → Rule
+file_rule is_required = record (new_rule (codes "file")) { value_names = 1; required = is_required }
 
 abbrev pub files_rule : Rule
 files_rule = record (new_rule (codes "files")) {
@@ -37,18 +34,18 @@ abbrev pub at_rule : Rule
 at_rule = record (option_rule (codes "at")) { parser = Some (parser.Unsigned 0 18446744073709551615) }
 
 abbrev pub dump_command : App
-dump_command = with_rule (new_app (codes "dump")) file_rule
+dump_command = with_rule (new_app (codes "dump")) (file_rule false)
 
 abbrev pub check_command : App
 check_command = with_rule (new_app (codes "check")) files_rule
 
 abbrev pub new_command : App
-new_command = with_rule (with_rule (new_app (codes "new")) required_file_rule) (option_rule (codes "name"))
+new_command = with_rule (with_rule (new_app (codes "new")) (file_rule true)) (option_rule (codes "name"))
 
 abbrev pub edit_command : App
 edit_command =
     with_rule
-    (with_rule (with_rule (with_rule (with_rule (new_app (codes "edit")) required_file_rule) (option_rule (codes "output"))) (flag_rule (codes "now"))) at_rule)
+    (with_rule (with_rule (with_rule (with_rule (new_app (codes "edit")) (file_rule true)) (option_rule (codes "output"))) (flag_rule (codes "now"))) at_rule)
     (flag_rule (codes "dry-run"))
 
 unfoldable pub regtool : App
@@ -84,11 +81,8 @@ AsksToBegin rows Now = IsSet (codes "now") rows × (one_of (codes "at") rows ≡
 AsksToBegin rows (At moment) =
     (IsSet (codes "now") rows → ⊥) × ((text : Text) × (one_of (codes "at") rows ≡ Some text) × IsMoment text moment)
 
--- what a subcommand with its matches asks for
+-- what a subcommand with its matches asks for of files
 abbrev pub Asks : Text × List Row → Request → Type 0
-Asks found Stream =
-    (found.0 ≡ codes "run") ⊎ (((found.0 ≡ codes "dump") × (first_of (codes "file") found.1 ≡ None))
-    ⊎ ((found.0 ≡ codes "check") × (all_of (codes "files") found.1 ≡ None)))
 Asks found (Dump file) = (found.0 ≡ codes "dump") × (first_of (codes "file") found.1 ≡ Some file.now)
 Asks found (Check files) = (found.0 ≡ codes "check") × (all_of (codes "files") found.1 ≡ Some (map (λ file. file.now) files.items))
 Asks found (New file name) =

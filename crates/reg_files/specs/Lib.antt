@@ -1,3 +1,5 @@
 pub mod CommandLines
 pub mod Edits
+pub mod Serving
 pub mod Moments
+pub mod Internal

@@ -1,5 +1,11 @@
 //! The commands on files.
 
+ghost use Rattle.std.specs.Prelude.{◌≡◌, ◌≤◌, IfOk, OnOk};
+ghost use Rattle.reg_command.specs.CommandLines.{texts};
+ghost use Rattle.reg_files.specs.Serving.{IsGiven, Serves};
+ghost use Rattle.reg_files.specs.Internal.Tellings.{word_of, telling_words};
+ghost use Rattle.reg_files.specs.declared.words.Request.{Request};
+
 use crate::edits::{edit, fresh_image};
 use crate::fault::{Fault, Step, taken};
 use crate::locks::{Lockable, open_locked, read_image, real_path};
@@ -14,23 +20,45 @@ use std::fs::{File, Permissions};
 use std::io::{ErrorKind, Read, Write};
 use std::rt::{Clock, Files};
 
+/// What of `tool`'s commands is done with a file.
+#[derive(Clone, Copy, Debug, PartialEq, Eq)]
+pub enum Telling {
+    Dump,
+    Check,
+}
+
+impl Telling {
+    fn word(self) -> &'static str
+        ensures { result.now ≡ word_of self }
+    {
+        match self {
+            Telling::Dump => "dump",
+            Telling::Check => "check",
+        }
+    }
+}
+
 /// The words of one of `tool`'s commands.
-fn tool_words(alloc: Global, command: &str) -> Result<Vec<String>, AllocError> {
+fn tool_words(alloc: Global, telling: Telling) -> Result<Vec<String>, AllocError>
+    ensures { IfOk result (λ words. texts words.items ≡ telling_words telling) }
+{
     let mut words = Vec::with_capacity(alloc, 2)?;
     words.push("regtool".to_string(alloc)?)?;
-    words.push(command.to_string(alloc)?)?;
+    words.push(telling.word().to_string(alloc)?)?;
     Ok(words)
 }
 
 /// Does with an open file what one of `tool`'s commands does with its input, and answers its status.
 fn stream<F: Read, W: Write, E: Sink>(
     alloc: Global,
-    command: &str,
+    telling: Telling,
     input: &mut F,
     output: &mut W,
     errors: &mut E,
-) -> Result<u8, Fault> {
-    let words = tool_words(alloc, command)?;
+) -> Result<u8, Fault>
+    ensures { IfOk result (λ status. status ≤ 1) }
+{
+    let words = tool_words(alloc, telling)?;
     Ok(tool(alloc, words, input, output, errors))
 }
 
@@ -41,9 +69,11 @@ pub fn dump_file<H: Files, W: Write, E: Sink>(
     file: &str,
     output: &mut W,
     errors: &mut E,
-) -> Result<u8, Fault> {
+) -> Result<u8, Fault>
+    ensures { IfOk result (λ status. status ≤ 1) }
+{
     let mut input = taken(Step::Open, File::open(host, file))?;
-    stream(alloc, "dump", &mut input, output, errors)
+    stream(alloc, Telling::Dump, &mut input, output, errors)
 }
 
 /// Writes the name of a file, before what is told of it.
@@ -64,16 +94,20 @@ pub fn check_file<H: Files, W: Write, E: Sink>(
     is_named: bool,
     output: &mut W,
     errors: &mut E,
-) -> Result<u8, Fault> {
+) -> Result<u8, Fault>
+    ensures { IfOk result (λ status. status ≤ 1) }
+{
     let mut input = taken(Step::Open, File::open(host, file))?;
     if is_named {
         write_name(alloc, file, output)?;
     }
-    stream(alloc, "check", &mut input, output, errors)
+    stream(alloc, Telling::Check, &mut input, output, errors)
 }
 
 /// The moment at which an edit begins; `None` is that of the image.
-fn begin_at<H: Clock>(host: &H, begin: Begin) -> Result<Option<u64>, Fault> {
+fn begin_at<H: Clock>(host: &H, begin: Begin) -> Result<Option<u64>, Fault>
+    ensures { IfOk result (λ given. IsGiven begin given) }
+{
     match begin {
         Begin::Kept => Ok(None),
         Begin::At(moment) => Ok(Some(moment)),
@@ -106,6 +140,8 @@ pub fn edit_file<H: Files + Clock, R: Read, W: Write>(
 ) -> Result<(), Fault>
 where
     H::File: Lockable,
+    ensures { OnOk result (Serves (Request.Edit request) (R.remaining input.old) (R.remaining input.new) (W.contents output.old)
+        (W.contents output.new)) }
 {
     let begin = begin_at(host, request.begin)?;
     let path = real_path(alloc, host, request.file)?;

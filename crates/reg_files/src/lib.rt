@@ -11,6 +11,16 @@ mod words;
 
 pub use locks::Lockable;
 
+ghost use Rattle.std.specs.Prelude.{◌≡◌, ◌≤◌, ◌⊎◌, MatchResult, OnOk};
+ghost use Rattle.clap.specs.Values.{kind_of};
+ghost use Rattle.clap.specs.declared.error.kind.ErrorKind.TheVariants.{OutOfMemory};
+ghost use Rattle.reg_command.specs.CommandLines.{texts, IsCommandLine as IsToolLine};
+ghost use Rattle.reg_command.specs.declared.words.Request.{Request as ToolRequest};
+ghost use Rattle.reg_command.specs.Failures.{IsDone};
+ghost use Rattle.reg_files.specs.CommandLines.{AsksNothing};
+ghost use Rattle.reg_files.specs.Edits.{IsUntouched};
+ghost use Rattle.reg_files.specs.Serving.{Serves, IsServed, IsRefused, IsOfTool};
+
 use crate::commands::{check_file, dump_file, edit_file, new_file};
 use crate::edits::EditFault;
 use crate::fault::Fault;
@@ -43,7 +53,9 @@ fn fault_text(alloc: Global, file: &str, fault: Fault) -> Result<String, AllocEr
 }
 
 /// Tells what ended a command on a file, and answers the status. What a writer doesn't take is lost.
-fn tell<E: Sink>(alloc: Global, errors: &mut E, file: &str, fault: Fault) -> u8 {
+fn tell<E: Sink>(alloc: Global, errors: &mut E, file: &str, fault: Fault) -> u8
+    ensures { result ≡ 1 }
+{
     let _ = match fault_text(alloc, file, fault) {
         Ok(text) => write_counted(errors, text.as_bytes()),
         Err(_) => write_counted(errors, b"error 8\n"),
@@ -52,7 +64,9 @@ fn tell<E: Sink>(alloc: Global, errors: &mut E, file: &str, fault: Fault) -> u8 
 }
 
 /// The status of a command on a file, whose fault is told.
-fn settle<E: Sink>(alloc: Global, errors: &mut E, file: &str, done: Result<u8, Fault>) -> u8 {
+fn settle<E: Sink>(alloc: Global, errors: &mut E, file: &str, done: Result<u8, Fault>) -> u8
+    ensures { MatchResult done (λ status. result ≡ status) (λ _. result ≡ 1) }
+{
     match done {
         Ok(status) => status,
         Err(fault) => tell(alloc, errors, file, fault),
@@ -66,7 +80,9 @@ fn check_files<H: Files, W: Write, E: Sink>(
     files: &[&str],
     output: &mut W,
     errors: &mut E,
-) -> u8 {
+) -> u8
+    ensures { result ≤ 1 }
+{
     let mut status = 0;
     for file in files {
         let done = check_file(alloc, host, file, files.len() > 1, output, errors);
@@ -86,9 +102,11 @@ fn answer<H: Files + Clock, R: Read, W: Write, E: Sink>(
 ) -> u8
 where
     H::File: Lockable,
+    ensures status { result ≤ 1 }
+    ensures done { result ≡ 0 → Serves request (R.remaining input.old) (R.remaining input.new) (W.contents output.old)
+        (W.contents output.new) }
 {
     match request {
-        Request::Stream => 2,
         Request::Dump(file) => {
             let done = dump_file(alloc, host, file, output, errors);
             settle(alloc, errors, file, done)
@@ -106,7 +124,10 @@ where
 }
 
 /// Tells why words are no command line, and answers the status.
-fn refuse<E: Sink>(alloc: Global, errors: &mut E, error: &Error) -> u8 {
+fn refuse<E: Sink>(alloc: Global, errors: &mut E, error: &Error) -> u8
+    ensures status { (1 ≤ result) × (result ≤ 2) }
+    ensures memory { kind_of error.now ≡ OutOfMemory → result ≡ 1 }
+{
     if error.kind() == ErrorKind::OutOfMemory {
         let _ = write_counted(errors, b"error 8\n");
         return 1;
@@ -134,6 +155,11 @@ fn serve<H: Files + Clock, R: Read, W: Write, E: Sink>(
 ) -> u8
 where
     H::File: Lockable,
+    ensures status { result ≤ 2 }
+    ensures done { result ≡ 0 → IsServed (texts words.now) (R.remaining input.old) (R.remaining input.new) (W.contents output.old)
+        (W.contents output.new) }
+    ensures refused { result ≡ 2 → AsksNothing (texts words.now)
+        × IsUntouched (R.remaining input.old) (R.remaining input.new) (W.contents output.old) (W.contents output.new) }
 {
     match read_words(alloc, words) {
         Ok(request) => answer(alloc, host, request, input, output, errors),
@@ -160,6 +186,15 @@ pub fn file_tool<H: Files + Clock, R: Read, W: Write, E: Sink>(
 ) -> u8
 where
     H::File: Lockable,
+    ensures status { result ≤ 2 }
+    ensures tool { (request : ToolRequest) → IsToolLine (texts words.items) request → IsOfTool result (texts words.items) (R.remaining input.old)
+        (R.remaining input.new) (W.contents output.old) (W.contents output.new) (E.contents errors.old) (E.contents errors.new)
+        (E.failures errors.old) (E.failures errors.new) }
+    ensures done { result ≡ 0 → IsDone (texts words.items) (R.remaining input.old) (R.remaining input.new) (W.contents output.old)
+        (W.contents output.new) (E.contents errors.old) (E.contents errors.new)
+        ⊎ IsServed (texts words.items) (R.remaining input.old) (R.remaining input.new) (W.contents output.old) (W.contents output.new) }
+    ensures refused { result ≡ 2 → IsRefused (texts words.items) (R.remaining input.old) (R.remaining input.new) (W.contents output.old)
+        (W.contents output.new) }
 {
     match understands(alloc, words.as_slice()) {
         Ok(true) => tool(alloc, words, input, output, errors),
