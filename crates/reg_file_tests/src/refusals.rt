@@ -2,14 +2,13 @@
 use crate::support::{bytes_of, names_in, new_folder, told};
 use reg_files::Lockable;
 use std::alloc::Allocator;
-use std::fs;
 use std::fs::{File, Metadata, OpenFile, OpenOptions, Permissions, TryLockError};
-use std::io;
 use std::io::{ErrorKind, Read, Seek, SeekFrom, Write};
 use std::path::PathBuf;
 use std::rt::{Clock, Files};
 use std::test::Fail;
 use std::time::Duration;
+use std::{fs, io};
 
 /// What a host refuses.
 #[derive(Clone, Copy, Debug, PartialEq, Eq)]
@@ -155,7 +154,9 @@ impl Files for Refusing<'_> {
         if self.refused == Refused::Create && how.asks_create_new() {
             return Err(refusal());
         }
-        if self.refused == Refused::Folder && fs::metadata(self.rt, path).is_ok_and(|m| m.is_dir()) {
+        if self.refused == Refused::Folder
+            && fs::metadata(self.rt, path).is_ok_and(|m| m.is_dir())
+        {
             return Err(refusal());
         }
         Ok(RefusingFile {
@@ -229,18 +230,48 @@ fn leaves_the_file_whatever_is_refused(rt: HostRuntime) -> Result<(), Fail> {
     let at = folder.as_str();
     told(rt.alloc(), &rt, at, "regtool new @/a", "")?;
     let rows = [
-        (Refused::Clock, "1;error clock @/a: no storage space\n; true a "),
+        (
+            Refused::Clock,
+            "1;error clock @/a: no storage space\n; true a ",
+        ),
         (Refused::Lock, "1;error busy @/a\n; true a "),
-        (Refused::Read(0), "1;error read @/a: no storage space\n; true a "),
-        (Refused::Read(5000), "1;error read @/a: no storage space\n; true a "),
-        (Refused::Create, "1;error create @/a: no storage space\n;0 handle 0\n0 handle 1 disposition 1\n true a "),
-        (Refused::Permit, "1;error permit @/a: no storage space\n;0 handle 0\n0 handle 1 disposition 1\n true a "),
-        (Refused::Write(0), "1;error write @/a: no storage space\n;0 handle 0\n0 handle 1 disposition 1\n true a "),
-        (Refused::Write(8191), "1;error write @/a: no storage space\n;0 handle 0\n0 handle 1 disposition 1\n true a "),
-        (Refused::Sync, "1;error sync @/a: no storage space\n;0 handle 0\n0 handle 1 disposition 1\n true a "),
-        (Refused::Rename, "1;error rename @/a: no storage space\n;0 handle 0\n0 handle 1 disposition 1\n true a "),
+        (
+            Refused::Read(0),
+            "1;error read @/a: no storage space\n; true a ",
+        ),
+        (
+            Refused::Read(5000),
+            "1;error read @/a: no storage space\n; true a ",
+        ),
+        (
+            Refused::Create,
+            "1;error create @/a: no storage space\n;0 handle 0\n0 handle 1 disposition 1\n true a ",
+        ),
+        (
+            Refused::Permit,
+            "1;error permit @/a: no storage space\n;0 handle 0\n0 handle 1 disposition 1\n true a ",
+        ),
+        (
+            Refused::Write(0),
+            "1;error write @/a: no storage space\n;0 handle 0\n0 handle 1 disposition 1\n true a ",
+        ),
+        (
+            Refused::Write(8191),
+            "1;error write @/a: no storage space\n;0 handle 0\n0 handle 1 disposition 1\n true a ",
+        ),
+        (
+            Refused::Sync,
+            "1;error sync @/a: no storage space\n;0 handle 0\n0 handle 1 disposition 1\n true a ",
+        ),
+        (
+            Refused::Rename,
+            "1;error rename @/a: no storage space\n;0 handle 0\n0 handle 1 disposition 1\n true a ",
+        ),
         // the new file took its place, and may be lost where the machine stops
-        (Refused::Folder, "1;error sync folder of @/a: no storage space\n;0 handle 0\n0 handle 1 disposition 1\n false a "),
+        (
+            Refused::Folder,
+            "1;error sync folder of @/a: no storage space\n;0 handle 0\n0 handle 1 disposition 1\n false a ",
+        ),
     ];
     for (refused, wanted) in rows {
         let text = edited(&rt, at, refused)?;
@@ -255,18 +286,34 @@ fn leaves_the_file_whatever_is_refused(rt: HostRuntime) -> Result<(), Fail> {
 fn leaves_no_part_of_a_new_file(rt: HostRuntime) -> Result<(), Fail> {
     let folder = new_folder(&rt)?;
     let at = folder.as_str();
-    for refused in [Refused::Create, Refused::Write(0), Refused::Write(4096), Refused::Sync] {
+    for refused in [
+        Refused::Create,
+        Refused::Write(0),
+        Refused::Write(4096),
+        Refused::Sync,
+    ] {
         let host = Refusing { rt: &rt, refused };
         let text = told(rt.alloc(), &host, at, "regtool new @/a", "")?;
         assert!(rt; text.starts_with("1;error "));
         assert_eq!(rt; names_in(&rt, at)?.as_str(), "");
     }
-    let host = Refusing { rt: &rt, refused: Refused::Nothing };
-    assert_eq!(rt; told(rt.alloc(), &host, at, "regtool new @/a", "")?.as_str(), "0;;");
+    let host = Refusing {
+        rt: &rt,
+        refused: Refused::Nothing,
+    };
+    assert_eq!(rt;
+        told(rt.alloc(), &host, at, "regtool new @/a", "")?.as_str(),
+        "0;;"
+    );
     // the clock of that host stands at the beginning of 1970
-    assert_eq!(rt; told(rt.alloc(), &host, at, "regtool edit @/a --now", SCRIPT)?.as_str(),
-        "0;;0 handle 0\n0 handle 1 disposition 1\n");
-    assert_eq!(rt; crate::support::block_of(&rt, at, "a")?, (2, 2, 116_444_736_000_000_000));
+    assert_eq!(rt;
+        told(rt.alloc(), &host, at, "regtool edit @/a --now", SCRIPT)?.as_str(),
+        "0;;0 handle 0\n0 handle 1 disposition 1\n"
+    );
+    assert_eq!(rt;
+        crate::support::block_of(&rt, at, "a")?,
+        (2, 2, 116_444_736_000_000_000)
+    );
     fs::remove_dir_all(&rt, at)?;
     Ok(())
 }

@@ -34,7 +34,10 @@ where
     }
     let (mut input, mut output, mut errors) = (script.as_bytes(), wide(alloc), wide(alloc));
     let status = file_tool(alloc, host, words, &mut input, &mut output, &mut errors);
-    let (output, errors) = (String::from_utf8(output.taken)?, String::from_utf8(errors.taken)?);
+    let (output, errors) = (
+        String::from_utf8(output.taken)?,
+        String::from_utf8(errors.taken)?,
+    );
     let text = format!(in alloc; "{status};{};{}", errors.as_str(), output.as_str())?;
     Ok(text.replace(alloc, folder, "@")?)
 }
@@ -72,7 +75,27 @@ pub fn block_of(rt: &HostRuntime, folder: &str, name: &str) -> Result<(u32, u32,
     let bytes = bytes_of(rt, folder, name)?;
     match bytes.as_slice() {
         [
-            _, _, _, _, a, b, c, d, e, f, g, h, i, j, k, l, m, n, o, p, ..
+            _,
+            _,
+            _,
+            _,
+            a,
+            b,
+            c,
+            d,
+            e,
+            f,
+            g,
+            h,
+            i,
+            j,
+            k,
+            l,
+            m,
+            n,
+            o,
+            p,
+            ..
         ] => Ok((
             u32::from_le_bytes([*a, *b, *c, *d]),
             u32::from_le_bytes([*e, *f, *g, *h]),

@@ -34,7 +34,7 @@ module _ (begin : ℕ) (old last : View) (callbacks : Callbacks) (unread whole l
     last,
     chain_left,
     subst (λ o. Stops fault o chain_left no_callbacks old last before after) is_whole
-    (subst (λ (asked : Callbacks). Stops fault whole chain_left asked old last before after) none h),
+        (subst (λ (asked : Callbacks). Stops fault whole chain_left asked old last before after) none h),
   )
 
 -- what was loaded

@@ -2,3 +2,4 @@ pub mod ImageBins
 pub mod ScriptFronts
 pub mod EditSteps
 pub mod CommandShapes
+pub mod ToolLines

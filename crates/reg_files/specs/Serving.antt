@@ -38,7 +38,7 @@ pub record IsRefused (words : List (List ℕ)) (unread left before after : Optio
 
 -- what `tool` says of a status
 pub record IsOfTool (status : ℕ) (words : List (List ℕ)) (unread left before after told told_after : Option (List ℕ)) (failed now_failed : Option ℕ) : Type 0
-    where
-  pub answered : status ≡ 0 → IsDone words unread left before after told told_after
-  pub stopped : status ≡ 1 → IsStopped words unread left before after told told_after failed now_failed
-  pub usage : status ≡ 2 → IsRefusedByTool words unread left before after
+  where
+    pub answered : status ≡ 0 → IsDone words unread left before after told told_after
+    pub stopped : status ≡ 1 → IsStopped words unread left before after told told_after failed now_failed
+    pub usage : status ≡ 2 → IsRefusedByTool words unread left before after

@@ -2,10 +2,9 @@
 
 use crate::edits::{EditFault, FreshFault};
 use std::alloc::AllocError;
-use std::fmt;
 use std::fmt::{Display, Formatter};
-use std::io;
 use std::io::ErrorKind;
+use std::{fmt, io};
 use thiserror::Error;
 
 /// A step on a file that the system can refuse.

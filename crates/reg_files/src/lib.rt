@@ -9,8 +9,6 @@ mod moments;
 mod saving;
 mod words;
 
-pub use locks::Lockable;
-
 ghost use Rattle.std.specs.Prelude.{◌≡◌, ◌≤◌, ◌⊎◌, MatchResult, OnOk};
 ghost use Rattle.clap.specs.Values.{kind_of};
 ghost use Rattle.clap.specs.declared.error.kind.ErrorKind.TheVariants.{OutOfMemory};
@@ -27,6 +25,7 @@ use crate::fault::Fault;
 use crate::words::{Request, read_words};
 use clap::Error;
 use clap::error::ErrorKind;
+pub use locks::Lockable;
 use reg_command::{tool, understands};
 use reg_text::{Sink, write_counted};
 use std::alloc::{AllocError, Global};
@@ -112,14 +111,14 @@ where
             settle(alloc, errors, file, done)
         }
         Request::Check(files) => check_files(alloc, host, files.as_slice(), output, errors),
-        Request::New { file, name } => {
-            let done = new_file(alloc, host, file, name);
-            settle(alloc, errors, file, done.map(|()| 0))
-        }
-        Request::Edit(edit) => {
-            let done = edit_file(alloc, host, edit, input, output);
-            settle(alloc, errors, edit.file, done.map(|()| 0))
-        }
+        Request::New { file, name } => match new_file(alloc, host, file, name) {
+            Ok(()) => 0,
+            Err(fault) => tell(alloc, errors, file, fault),
+        },
+        Request::Edit(edit) => match edit_file(alloc, host, edit, input, output) {
+            Ok(()) => 0,
+            Err(fault) => tell(alloc, errors, edit.file, fault),
+        },
     }
 }
 

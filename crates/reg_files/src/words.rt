@@ -287,10 +287,7 @@ fn command_asked<'a>(
 }
 
 /// What the whole command line is asked for.
-fn asked<'a>(
-    alloc: Global,
-    matches: &ArgMatches<'a>,
-) -> Result<Option<Request<'a>>, AllocError>
+fn asked<'a>(alloc: Global, matches: &ArgMatches<'a>) -> Result<Option<Request<'a>>, AllocError>
     ensures { IfOk result (λ request. IsFound (AsksIn (subcommand_rows_of matches.now)) request) }
 {
     match matches.subcommand() {

@@ -41,12 +41,5 @@ fn main(rt: HostRuntime) -> ExitCode {
     let mut input = rt.reader();
     let mut output = io::writer(&rt);
     let mut errors = rt.stderr();
-    ExitCode::from(file_tool(
-        alloc,
-        &rt,
-        words,
-        &mut input,
-        &mut output,
-        &mut errors,
-    ))
+    ExitCode::from(file_tool(alloc, &rt, words, &mut input, &mut output, &mut errors))
 }
