@@ -164,6 +164,31 @@ fn edits_the_file_at_the_end_of_a_link(rt: HostRuntime) -> Result<(), Fail> {
         b"old".as_slice()
     );
     assert_eq!(rt; names_in(&rt, at)?.as_str(), "a a.regtool-0 link ");
+    // a link to what is written is followed, too, and what can't be written is named
+    assert_eq!(rt;
+        told(
+            alloc,
+            &rt,
+            at,
+            "regtool edit @/a --output @/link",
+            "root 983103\ncreate 0 =B 983103\n"
+        )?
+        .as_str(),
+        "0;;0 handle 0\n0 handle 1 disposition 1\n"
+    );
+    assert!(rt; fs::symlink_metadata(&rt, link.as_str())?.is_symlink());
+    assert_eq!(rt; block_of(&rt, at, "a")?, (3, 3, 0));
+    assert_eq!(rt;
+        told(
+            alloc,
+            &rt,
+            at,
+            "regtool edit @/a --output @/no/b",
+            "root 983103\ncreate 0 =C 983103\n"
+        )?
+        .as_str(),
+        "1;error create @/no/b: No such file or directory (os error 2)\n;0 handle 0\n0 handle 1 disposition 1\n"
+    );
     fs::remove_dir_all(&rt, at)?;
     Ok(())
 }

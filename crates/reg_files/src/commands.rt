@@ -8,7 +8,7 @@ ghost use Rattle.reg_files.specs.declared.words.Request.{Request};
 
 use crate::edits::{edit, fresh_image};
 use crate::fault::{Fault, Step, taken};
-use crate::locks::{Lockable, open_locked, read_image, real_path};
+use crate::locks::{Lockable, open_locked, read_image, real_path, target_path};
 use crate::moments::moment_at;
 use crate::saving::{create, replace};
 use crate::words::{Begin, EditRequest};
@@ -120,14 +120,15 @@ fn permissions_at<H: Files>(host: &H, path: &str) -> Result<Option<Permissions>,
     match fs::metadata(host, path) {
         Ok(metadata) => Ok(Some(metadata.permissions())),
         Err(error) if error.kind() == ErrorKind::NotFound => Ok(None),
-        Err(error) => taken(Step::Find, Err(error)),
+        Err(error) => taken(Step::Permit, Err(error)),
     }
 }
 
-/// Saves what an edit made.
-fn save<H: Files>(alloc: Global, host: &H, path: &str, bytes: &[u8]) -> Result<(), Fault> {
-    let permissions = permissions_at(host, path)?;
-    replace(alloc, host, path, permissions, bytes)
+/// Saves what an edit made in the place of a file.
+fn save<H: Files>(alloc: Global, host: &H, file: &str, bytes: &[u8]) -> Result<(), Fault> {
+    let path = target_path(alloc, host, file)?;
+    let permissions = permissions_at(host, path.as_str())?;
+    replace(alloc, host, path.as_str(), permissions, bytes)
 }
 
 /// Runs a script on the hive of a file and saves what it changed. The file's lock is held until then.

@@ -28,6 +28,21 @@ pub enum Step {
     SyncFolder,
 }
 
+impl Step {
+    /// Whether it is a step of saving, on the file that is written.
+    pub fn saves(self) -> bool {
+        match self {
+            Step::Clock | Step::Find | Step::Open | Step::Lock | Step::Read => false,
+            Step::Create
+            | Step::Permit
+            | Step::Write
+            | Step::Sync
+            | Step::Rename
+            | Step::SyncFolder => true,
+        }
+    }
+}
+
 impl Display for Step {
     fn fmt<W: fmt::Write>(&self, f: &mut Formatter<W>) -> fmt::Result {
         f.pad(match self {

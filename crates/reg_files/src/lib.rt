@@ -22,7 +22,7 @@ ghost use Rattle.reg_files.specs.Serving.{Serves, IsServed, IsRefused, IsOfTool}
 use crate::commands::{check_file, dump_file, edit_file, new_file};
 use crate::edits::EditFault;
 use crate::fault::Fault;
-use crate::words::{Request, read_words};
+use crate::words::{EditRequest, Request, read_words};
 use clap::Error;
 use clap::error::ErrorKind;
 pub use locks::Lockable;
@@ -60,6 +60,14 @@ fn tell<E: Sink>(alloc: Global, errors: &mut E, file: &str, fault: Fault) -> u8
         Err(_) => write_counted(errors, b"error 8\n"),
     };
     1
+}
+
+/// The file that a fault of an edit is about: the one that is saved, or the one that is read.
+fn blamed<'a>(edit: &EditRequest<'a>, fault: &Fault) -> &'a str {
+    match fault {
+        Fault::Step { step, .. } if step.saves() => edit.output.unwrap_or(edit.file),
+        _ => edit.file,
+    }
 }
 
 /// The status of a command on a file, whose fault is told.
@@ -117,7 +125,7 @@ where
         },
         Request::Edit(edit) => match edit_file(alloc, host, edit, input, output) {
             Ok(()) => 0,
-            Err(fault) => tell(alloc, errors, edit.file, fault),
+            Err(fault) => tell(alloc, errors, blamed(&edit, &fault), fault),
         },
     }
 }

@@ -1,10 +1,11 @@
 //! A file opened for one edit at a time.
 
 use crate::fault::{Fault, Step, taken};
+use reg_heap::limits::BINS_LIMIT;
 use std::alloc::Global;
 use std::fs;
 use std::fs::{File, Metadata, OpenFile, OpenOptions, TryLockError};
-use std::io::Read;
+use std::io::{ErrorKind, Read};
 use std::os::unix::fs::MetadataExt;
 use std::rt::Files;
 
@@ -21,12 +22,21 @@ impl Lockable for File {
 }
 
 /// The longest image: a base block and the most bins.
-const LONGEST_IMAGE: u64 = 268_439_552;
+const LONGEST_IMAGE: u64 = 4096 + BINS_LIMIT as u64;
 
 /// The path of a file without links, so that a save replaces the file and no link to it.
 pub fn real_path<H: Files>(alloc: Global, host: &H, file: &str) -> Result<String, Fault> {
     let path = taken(Step::Find, host.canonicalize(alloc, file))?;
     Ok(path.into_string())
+}
+
+/// The same of a file that may not be there yet: then its path is as it was given.
+pub fn target_path<H: Files>(alloc: Global, host: &H, file: &str) -> Result<String, Fault> {
+    match host.canonicalize(alloc, file) {
+        Ok(path) => Ok(path.into_string()),
+        Err(error) if error.kind() == ErrorKind::NotFound => Ok(file.to_string(alloc)?),
+        Err(error) => taken(Step::Create, Err(error)),
+    }
 }
 
 /// Whether two are of one file.
