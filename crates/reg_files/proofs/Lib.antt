@@ -1,5 +1,6 @@
+pub mod AskedWords
+pub mod CommandShapes
+pub mod EditSteps
 pub mod ImageBins
 pub mod ScriptFronts
-pub mod EditSteps
-pub mod CommandShapes
 pub mod ToolLines

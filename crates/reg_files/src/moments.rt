@@ -1,7 +1,7 @@
 //! Moments of the host's clock.
 
 ghost use Rattle.std.specs.Prelude.{◌≡◌};
-ghost use Rattle.core.specs.Duration.{as_nanos};
+ghost use Rattle.std.specs.Duration.{as_nanos};
 ghost use Rattle.reg_files.specs.Moments.{moment_of};
 
 use std::time::Duration;

@@ -1,9 +1,9 @@
 //! What the words of a command line ask for, as `clap` reads them.
 
-ghost use Rattle.std.specs.Prelude.{◌≡◌, ◌≢◌, ◌↔◌, true, codes, IfOk, IfErr};
+ghost use Rattle.std.specs.Prelude.{◌≡◌, ◌≢◌, ◌↔◌, true, codes, Some, IfOk, IfErr};
 ghost use Rattle.clap.specs.Values.{kind_of};
 ghost use Rattle.clap.specs.declared.error.kind.ErrorKind.TheVariants.{OutOfMemory};
-ghost use Rattle.clap.specs.Words.{found_of, new_app, rows_of, subcommand_rows_of};
+ghost use Rattle.clap.specs.Words.{first_of, found_of, new_app, rows_of, subcommand_rows_of};
 ghost use Rattle.reg_command.specs.CommandLines.{texts, image_option, run_command as run_shape};
 ghost use Rattle.reg_files.specs.CommandLines.{option_rule, flag_rule, file_rule, files_rule, at_rule, dump_command as dump_shape};
 ghost use Rattle.reg_files.specs.CommandLines.{check_command as check_shape, new_command as new_shape, edit_command as edit_shape};
@@ -204,12 +204,14 @@ fn check_asked<'a>(
 ) -> Result<Option<Request<'a>>, AllocError>
     ensures { IfOk result (λ request. IsFound (Asks (codes "check", rows_of (found_of matches.now))) request) }
 {
-    let Some(files) = matches.get_strs("files") else {
-        return Ok(None);
-    };
-    let mut names = Vec::new(alloc);
-    names.extend_from_slice(files)?;
-    Ok(Some(Request::Check(names)))
+    match matches.get_strs("files") {
+        Some(files) => {
+            let mut names = Vec::new(alloc);
+            names.extend_from_slice(files)?;
+            Ok(Some(Request::Check(names)))
+        }
+        None => Ok(None),
+    }
 }
 
 /// Whether a flag was given.
@@ -235,32 +237,51 @@ fn begin_asked(matches: &ArgMatches<'_>) -> Option<Begin>
     }
 }
 
+/// What `edit` is asked for of a file; `None` where it is to begin at two moments.
+fn edit_of<'a>(file: &'a str, matches: &ArgMatches<'a>) -> Option<Request<'a>>
+    requires { first_of (codes "file") (rows_of (found_of matches.now)) ≡ Some file.now }
+    ensures { IsFound (Asks (codes "edit", rows_of (found_of matches.now))) result }
+{
+    match begin_asked(matches) {
+        Some(begin) => Some(Request::Edit(EditRequest {
+            file,
+            output: matches.get_str("output"),
+            begin,
+            dry_run: is_set(matches, "dry-run"),
+        })),
+        None => None,
+    }
+}
+
 fn edit_asked<'a>(matches: &ArgMatches<'a>) -> Option<Request<'a>>
     ensures { IsFound (Asks (codes "edit", rows_of (found_of matches.now))) result }
 {
-    let file = matches.get_str("file")?;
-    let begin = begin_asked(matches)?;
-    Some(Request::Edit(EditRequest {
-        file,
-        output: matches.get_str("output"),
-        begin,
-        dry_run: is_set(matches, "dry-run"),
-    }))
+    match matches.get_str("file") {
+        Some(file) => edit_of(file, matches),
+        None => None,
+    }
 }
 
 fn new_asked<'a>(matches: &ArgMatches<'a>) -> Option<Request<'a>>
     ensures { IsFound (Asks (codes "new", rows_of (found_of matches.now))) result }
 {
-    let file = matches.get_str("file")?;
-    let name = matches.get_str("name").unwrap_or("ROOT");
-    Some(Request::New { file, name })
+    match matches.get_str("file") {
+        Some(file) => Some(Request::New {
+            file,
+            name: matches.get_str("name").unwrap_or("ROOT"),
+        }),
+        None => None,
+    }
 }
 
 /// What `dump` is asked for; `None` where it has no file, which is `tool`'s.
 fn dump_asked<'a>(matches: &ArgMatches<'a>) -> Option<Request<'a>>
     ensures { IsFound (Asks (codes "dump", rows_of (found_of matches.now))) result }
 {
-    Some(Request::Dump(matches.get_str("file")?))
+    match matches.get_str("file") {
+        Some(file) => Some(Request::Dump(file)),
+        None => None,
+    }
 }
 
 /// What a subcommand is asked for; `None` where it is asked for nothing that has to do with files.

@@ -1,6 +1,7 @@
 -- `clap`'s commands as they are put together, and what is read of their matches (this project's own).
 use Rattle.std.specs.Prelude.{◌≡◌, false, Option, Some, None}
-use Rattle.clap.specs.Words.{App, Rule, app_of, fields_of, rule_of}
+use Rattle.clap.specs.Words.{App, Rule, app_of, rule_of}
+use Rattle.clap.specs.declared.builder.command.Command.TheViews.{out-Command}
 use Rattle.clap.specs.declared.builder.arg.Arg.{Arg}
 use Rattle.clap.specs.declared.builder.command.Command.{Command}
 use Rattle.reg_files.specs.declared.words.Begin.{Begin}
@@ -14,7 +15,7 @@ pub record IsRule (rule : Rule) (arg : Arg) : Type 0 where
 -- a command of that form, whose arguments are its own alone
 pub record IsCommand (app : App) (command : Command) : Type 0 where
   pub app_is : app_of command ≡ app
-  pub local : (fields_of command).has_globals ≡ false
+  pub local : (out-Command command).has_globals ≡ false
 
 -- the request of which this holds, or none, where it holds of none
 abbrev pub IsFound : (Request → Type 0) → Option Request → Type 0
