@@ -2,5 +2,6 @@ pub mod AskedWords
 pub mod CommandShapes
 pub mod EditSteps
 pub mod ImageBins
+pub mod OtherBins
 pub mod ScriptFronts
 pub mod ToolLines
