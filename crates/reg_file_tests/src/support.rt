@@ -1,5 +1,5 @@
 //! What the tests of files share: a folder of their own, and what a command leaves behind.
-use reg_files::{Lockable, file_tool};
+use reg_files::{Input, Lockable, file_tool};
 use reg_fixtures::wide;
 use std::alloc::Global;
 use std::fs;
@@ -32,7 +32,8 @@ where
     for word in line.split(' ') {
         words.push(word.replace(alloc, '@', folder)?)?;
     }
-    let (mut input, mut output, mut errors) = (script.as_bytes(), wide(alloc), wide(alloc));
+    let mut input = Input::new(alloc, script.as_bytes());
+    let (mut output, mut errors) = (wide(alloc), wide(alloc));
     let status = file_tool(alloc, host, words, &mut input, &mut output, &mut errors);
     let (output, errors) = (
         String::from_utf8(output.taken)?,

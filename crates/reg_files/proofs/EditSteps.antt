@@ -14,27 +14,27 @@ use Rattle.reg_files.specs.Edits.{at_line, Opens, LeadsOn, IsToSave, Halts, RunS
 use Rattle.reg_files.specs.declared.edits.EditFault.{EditFault}
 use Rattle.reg_files.specs.declared.edits.EditFault.TheVariants.{Load, Script, Memory}
 
-module _ (begin : ℕ) (old last : View) (callbacks : Callbacks) (unread whole left chain_left before after : Option (List ℕ))
+-- a script whose first line was put back before it
+module _ (begin : ℕ) (old last : View) (callbacks : Callbacks) (unread whole left before after : Option (List ℕ))
     (none : callbacks ≡ no_callbacks) (is_whole : whole ≡ prepend_known (at_line begin) unread) where
-  pub leads_on : (moment : ℕ) → chain_left ≡ left → IsAtEnd chain_left →
-      ((script : List ℕ) × (text : List ℕ) × Consumes whole chain_left script × LinesTo callbacks old script text last moment ×
+  pub leads_on : (moment : ℕ) → IsAtEnd left →
+      ((script : List ℕ) × (text : List ℕ) × Consumes whole left script × LinesTo callbacks old script text last moment ×
       Appends before after text × AreWithin (lines_of script))
       → LeadsOn begin old last moment unread left before after
-  leads_on moment is_left at_end h = record {
-    at_end = subst IsAtEnd is_left at_end;
+  leads_on moment at_end h = record {
+    at_end = at_end;
     script = h.0;
-    consumed = subst (λ o. Consumes o left h.0) is_whole (subst (λ o. Consumes whole o h.0) is_left h.2);
+    consumed = subst (λ o. Consumes o left h.0) is_whole h.2;
     text = h.1;
     lines = subst (λ (asked : Callbacks). LinesTo asked old h.0 h.1 last moment) none h.3;
     appended = h.4;
   }
 
-  pub halts : (fault : ScriptFault) → Stops fault whole chain_left callbacks old last before after → Halts fault begin old unread before after
+  pub halts : (fault : ScriptFault) → Stops fault whole left callbacks old last before after → Halts fault begin old unread left before after
   halts fault h = (
     last,
-    chain_left,
-    subst (λ o. Stops fault o chain_left no_callbacks old last before after) is_whole
-        (subst (λ (asked : Callbacks). Stops fault whole chain_left asked old last before after) none h),
+    subst (λ o. Stops fault o left no_callbacks old last before after) is_whole
+        (subst (λ (asked : Callbacks). Stops fault whole left asked old last before after) none h),
   )
 
 -- what was loaded

@@ -3,5 +3,4 @@ pub mod CommandShapes
 pub mod EditSteps
 pub mod ImageBins
 pub mod OtherBins
-pub mod ScriptFronts
 pub mod ToolLines

@@ -67,9 +67,9 @@ pub record Edits (bytes : List ℕ) (begin : Option ℕ) (saved : Option (List �
   pub to_save : IsToSave old last moment (next_sequence (sequence_in bytes)) saved
 
 -- a script, behind a line that sets the moment, ended with a fault
-abbrev pub Halts : ScriptFault → ℕ → View → (unread before after : Option (List ℕ)) → Type 0
-Halts fault begin old unread before after =
-    (last : View) × (left : Option (List ℕ)) × Stops fault (prepend_known (at_line begin) unread) left no_callbacks old last before after
+abbrev pub Halts : ScriptFault → ℕ → View → (unread left before after : Option (List ℕ)) → Type 0
+Halts fault begin old unread left before after =
+    (last : View) × Stops fault (prepend_known (at_line begin) unread) left no_callbacks old last before after
 
 -- nothing was read, and nothing written
 abbrev pub IsUntouched : (unread left before after : Option (List ℕ)) → Type 0
@@ -77,7 +77,7 @@ IsUntouched unread left before after = (left ≡ unread) × (after ≡ before)
 
 -- what ended a script on a hive: a fault, or want of memory for its first line
 abbrev pub RunStops : EditFault → ℕ → View → (unread left before after : Option (List ℕ)) → Type 0
-RunStops (Script fault) begin old unread left before after = Halts fault begin old unread before after
+RunStops (Script fault) begin old unread left before after = Halts fault begin old unread left before after
 RunStops Memory begin old unread left before after = IsUntouched unread left before after
 RunStops (Load fault) begin old unread left before after = ⊥
 
@@ -87,7 +87,7 @@ abbrev pub EditStops : EditFault → List ℕ → Option ℕ → (unread left be
 EditStops (Load fault) bytes begin unread left before after =
     (image : List ℕ) × (rest : List ℕ) × (bytes ≡ image ++ rest) × IsRefused fault image (Some rest) × IsUntouched unread left before after
 EditStops (Script fault) bytes begin unread left before after =
-    (old : View) × Opens bytes old × Halts fault (begin_of begin bytes) old unread before after
+    (old : View) × Opens bytes old × Halts fault (begin_of begin bytes) old unread left before after
 EditStops Memory bytes begin unread left before after =
     (old : View) × Opens bytes old × (IsUntouched unread left before after
     ⊎ ((last : View) × (moment : ℕ) × LeadsOn (begin_of begin bytes) old last moment unread left before after))

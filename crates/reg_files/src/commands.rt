@@ -8,6 +8,7 @@ ghost use Rattle.reg_files.specs.declared.words.Request.{Request};
 
 use crate::edits::{edit, fresh_image};
 use crate::fault::{Fault, Step, taken};
+use crate::input::PutBack;
 use crate::locks::{Lockable, open_locked, read_image, real_path, target_path};
 use crate::moments::moment_at;
 use crate::saving::{create, replace};
@@ -132,7 +133,7 @@ fn save<H: Files>(alloc: Global, host: &H, file: &str, bytes: &[u8]) -> Result<(
 }
 
 /// Runs a script on the hive of a file and saves what it changed. The file's lock is held until then.
-pub fn edit_file<H: Files + Clock, R: Read, W: Write>(
+pub fn edit_file<H: Files + Clock, R: PutBack, W: Write>(
     alloc: Global,
     host: &H,
     request: EditRequest<'_>,

@@ -7,13 +7,14 @@ ghost use Rattle.reg_calls.specs.HiveView.{view_of, callbacks_of};
 ghost use Rattle.reg_heap.specs.ByteWords.{long};
 ghost use Rattle.reg_files.specs.Edits.{sequence_in, next_sequence as following, begin_of as moment_begun, at_line, LeadsOn, RunStops, Edits, EditStops, IsFreshImage};
 
+use crate::input::PutBack;
 use byteorder::{ByteOrder, LittleEndian};
 use reg_callbacks::{Callback, NoCallback};
 use reg_calls::{Hive, NewFault};
 use reg_image::{ImageFault, LoadFault, image, load};
 use reg_script::{ScriptFault, run_to};
 use std::alloc::{AllocError, Global};
-use std::io::{Read, Write};
+use std::io::Write;
 
 /// What ended an edit before there was an image to save.
 #[derive(Clone, Copy, Debug, PartialEq, Eq)]
@@ -110,7 +111,7 @@ fn begin_of(begin: Option<u64>, image: &[u8]) -> u64
 }
 
 /// Runs a script behind the line that sets its first moment.
-fn run_from<R: Read, W: Write, C: Callback>(
+fn run_from<R: PutBack, W: Write, C: Callback>(
     alloc: Global,
     moment: u64,
     hive: &mut Hive<C>,
@@ -124,8 +125,8 @@ fn run_from<R: Read, W: Write, C: Callback>(
         (W.contents output.old) (W.contents output.new)) }
 {
     let line = first_line(alloc, moment)?;
-    let mut script = line.as_bytes().chain(input);
-    match run_to(alloc, &mut script, output, hive) {
+    input.put_back(alloc, line.as_bytes())?;
+    match run_to(alloc, input, output, hive) {
         Ok(last) => Ok(last),
         Err(fault) => Err(EditFault::Script(fault)),
     }
@@ -134,7 +135,7 @@ fn run_from<R: Read, W: Write, C: Callback>(
 /// Loads a hive from an image, runs a script on it from a moment on, that of the image's base block where none is given, and answers
 /// the image of what the script left, at its last moment, with the next sequence number; `None` where the script left the hive's bytes
 /// as they were.
-pub fn edit<R: Read, W: Write>(
+pub fn edit<R: PutBack, W: Write>(
     alloc: Global,
     old: &[u8],
     begin: Option<u64>,

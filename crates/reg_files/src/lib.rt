@@ -4,6 +4,7 @@
 mod commands;
 mod edits;
 mod fault;
+mod input;
 mod locks;
 mod moments;
 mod saving;
@@ -25,11 +26,12 @@ use crate::fault::Fault;
 use crate::words::{EditRequest, Request, read_words};
 use clap::Error;
 use clap::error::ErrorKind;
+pub use input::{Input, PutBack};
 pub use locks::Lockable;
 use reg_command::{tool, understands};
 use reg_text::{Sink, write_counted};
 use std::alloc::{AllocError, Global};
-use std::io::{Read, Write};
+use std::io::Write;
 use std::rt::{Clock, Files};
 
 /// The line that tells what ended a command on a file.
@@ -99,7 +101,7 @@ fn check_files<H: Files, W: Write, E: Sink>(
 }
 
 /// Does what was asked for, and answers the status.
-fn answer<H: Files + Clock, R: Read, W: Write, E: Sink>(
+fn answer<H: Files + Clock, R: PutBack, W: Write, E: Sink>(
     alloc: Global,
     host: &H,
     request: Request<'_>,
@@ -152,7 +154,7 @@ fn refuse<E: Sink>(alloc: Global, errors: &mut E, error: &Error) -> u8
 }
 
 /// Serves a command line that isn't `tool`'s.
-fn serve<H: Files + Clock, R: Read, W: Write, E: Sink>(
+fn serve<H: Files + Clock, R: PutBack, W: Write, E: Sink>(
     alloc: Global,
     host: &H,
     words: &[String],
@@ -183,7 +185,7 @@ where
 ///
 /// The status is 0 where that was done, 1 where something was refused or faulty, with a line on `errors` that says what and where, and
 /// 2 for words that aren't understood.
-pub fn file_tool<H: Files + Clock, R: Read, W: Write, E: Sink>(
+pub fn file_tool<H: Files + Clock, R: PutBack, W: Write, E: Sink>(
     alloc: Global,
     host: &H,
     words: Vec<String>,
