@@ -1,91 +1,95 @@
 //! `new`, `dump`, `check` on files of the system, and what goes to standard input still.
-use crate::support::{block_of, bytes_of, names_in, new_folder, put, told};
-use std::fs;
+use crate::support::Deed::{Block, Edit, Keep, Names, Put, Run, Same};
+use crate::support::{assert_told, tale};
 use std::test::Fail;
 
 #[test]
-fn makes_a_file_anew_and_never_over_one(rt: HostRuntime) -> Result<(), Fail> {
-    let (alloc, folder) = (rt.alloc(), new_folder(&rt)?);
-    let at = folder.as_str();
-    assert_eq!(rt;
-        told(alloc, &rt, at, "regtool new @/a", "")?.as_str(),
-        "0;;"
-    );
-    assert_eq!(rt;
-        told(alloc, &rt, at, "regtool dump @/a", "")?.as_str(),
-        "0;;root =ROOT\nkey = marks 8 class x security x0100048000000000000000000000000000000000 time 0\nkeys 1 values 0\n"
-    );
-    assert_eq!(rt; block_of(&rt, at, "a")?, (1, 1, 0));
-    let before = bytes_of(&rt, at, "a")?;
-    assert_eq!(rt;
-        told(alloc, &rt, at, "regtool new @/a --name OTHER", "")?.as_str(),
-        "1;error create @/a: File exists (os error 17)\n;"
-    );
-    assert_eq!(rt; bytes_of(&rt, at, "a")?.as_slice(), before.as_slice());
-    assert_eq!(rt;
-        told(alloc, &rt, at, "regtool new @/b --name x\\y", "")?.as_str(),
-        "1;error name @/b: the root's name is no key name\n;"
-    );
-    assert_eq!(rt;
-        told(alloc, &rt, at, "regtool new @/no/b", "")?.as_str(),
-        "1;error create @/no/b: No such file or directory (os error 2)\n;"
-    );
-    assert_eq!(rt; names_in(&rt, at)?.as_str(), "a ");
-    fs::remove_dir_all(&rt, at)?;
-    Ok(())
+fn makes_a_file(rt: HostRuntime) -> Result<(), Fail> {
+    let deeds = [
+        Run("regtool new @/a"),
+        Run("regtool dump @/a"),
+        Block("a"),
+        Run("regtool new @/b --name OTHER"),
+        Run("regtool check @/b"),
+        Names,
+    ];
+    let wanted = "0;;|0;;root =ROOT\n\
+        key = marks 8 class x security x0100048000000000000000000000000000000000 time 0\n\
+        keys 1 values 0\n|1 1 0|0;;|0;;ok keys 1 values 0\n|a b |";
+    assert_told(&rt, tale(&rt, &rt, &deeds), wanted)
+}
+
+/// It isn't made over one, nor with a name that no key may have, nor where there is no folder.
+#[test]
+fn makes_no_file_over_one(rt: HostRuntime) -> Result<(), Fail> {
+    let deeds = [
+        Run("regtool new @/a"),
+        Keep("a"),
+        Run("regtool new @/a --name OTHER"),
+        Same("a"),
+        Run("regtool new @/b --name x\\y"),
+        Run("regtool new @/no/b"),
+        Names,
+    ];
+    let wanted = "0;;|1;error create @/a: File exists (os error 17)\n;|same true|\
+        1;error name @/b: the root's name is no key name\n;|\
+        1;error create @/no/b: No such file or directory (os error 2)\n;|a |";
+    assert_told(&rt, tale(&rt, &rt, &deeds), wanted)
 }
 
 #[test]
 fn counts_several_files_a_line_each(rt: HostRuntime) -> Result<(), Fail> {
-    let (alloc, folder) = (rt.alloc(), new_folder(&rt)?);
-    let at = folder.as_str();
-    put(&rt, at, "bad", b"regf")?;
-    told(alloc, &rt, at, "regtool new @/a", "")?;
-    assert_eq!(rt;
-        told(alloc, &rt, at, "regtool check @/a", "")?.as_str(),
-        "0;;ok keys 1 values 0\n"
-    );
-    assert_eq!(rt;
-        told(alloc, &rt, at, "regtool check @/a @/bad @/none @/a", "")?.as_str(),
-        "1;error open @/none: No such file or directory (os error 2)\n;\
-         @/a: ok keys 1 values 0\n@/bad: error 1009 load 2\n@/a: ok keys 1 values 0\n"
-    );
-    assert_eq!(rt;
-        told(alloc, &rt, at, "regtool dump @/bad", "")?.as_str(),
-        "1;;error 1009 load 2\n"
-    );
-    assert_eq!(rt;
-        told(alloc, &rt, at, "regtool dump @", "")?.as_str(),
-        "1;;error 1009 load 1\n"
-    );
-    fs::remove_dir_all(&rt, at)?;
-    Ok(())
+    let deeds = [
+        Put("bad", "regf"),
+        Run("regtool new @/a"),
+        Run("regtool check @/a"),
+        Run("regtool check @/a @/bad @/none @/a"),
+    ];
+    let wanted = "0;;|0;;ok keys 1 values 0\n|\
+        1;error open @/none: No such file or directory (os error 2)\n;\
+        @/a: ok keys 1 values 0\n@/bad: error 1009 load 2\n@/a: ok keys 1 values 0\n|";
+    assert_told(&rt, tale(&rt, &rt, &deeds), wanted)
+}
+
+#[test]
+fn tells_the_fault_of_a_file(rt: HostRuntime) -> Result<(), Fail> {
+    let deeds = [
+        Put("bad", "regf"),
+        Run("regtool dump @/bad"),
+        Run("regtool dump @"),
+    ];
+    let wanted = "1;;error 1009 load 2\n|1;;error 1009 load 1\n|";
+    assert_told(&rt, tale(&rt, &rt, &deeds), wanted)
 }
 
 /// The words of `tool` do what they did.
 #[test]
 fn passes_on_what_names_no_file(rt: HostRuntime) -> Result<(), Fail> {
-    let alloc = rt.alloc();
-    assert_eq!(rt;
-        told(alloc, &rt, "/none", "regtool run", "root 1\nx\n")?.as_str(),
-        "0;;0 handle 0\nbad\n"
-    );
-    assert_eq!(rt;
-        told(alloc, &rt, "/none", "regtool dump", "regf")?.as_str(),
-        "1;;error 1009 load 2\n"
-    );
-    assert_eq!(rt;
-        told(alloc, &rt, "/none", "regtool check", "regf")?.as_str(),
-        "1;;error 1009 load 2\n"
-    );
-    Ok(())
+    let deeds = [
+        Edit("regtool run", "root 1\nx\n"),
+        Edit("regtool dump", "regf"),
+        Edit("regtool check", "regf"),
+    ];
+    let wanted = "0;;0 handle 0\nbad\n|1;;error 1009 load 2\n|1;;error 1009 load 2\n|";
+    assert_told(&rt, tale(&rt, &rt, &deeds), wanted)
+}
+
+/// The statuses of some command lines, and whether each told something on standard error and nothing on standard output.
+fn statuses(rt: &HostRuntime, lines: &[&str]) -> Result<String, Fail> {
+    let mut text = String::new(rt.alloc());
+    for line in lines {
+        let told = tale(rt, rt, &[Edit(line, "root 1\n")])?;
+        let is_told = told.ends_with(";|") && told.len() > 4;
+        let status = told.split(';').next().unwrap_or("");
+        write!(text, "{status} {is_told} ")?;
+    }
+    Ok(text)
 }
 
 /// Words that ask for nothing are told, and their status is 2.
 #[test]
 fn refuses_words_that_ask_for_nothing(rt: HostRuntime) -> Result<(), Fail> {
-    let alloc = rt.alloc();
-    for line in [
+    let lines = [
         "regtool",
         "regtool new",
         "regtool edit",
@@ -95,10 +99,7 @@ fn refuses_words_that_ask_for_nothing(rt: HostRuntime) -> Result<(), Fail> {
         "regtool new a b",
         "regtool frob",
         "regtool --help",
-    ] {
-        let text = told(alloc, &rt, "/none", line, "root 1\n")?;
-        assert!(rt; text.starts_with("2;"), "{line}");
-        assert!(rt; text.ends_with(";"), "{line}");
-    }
-    Ok(())
+    ];
+    let wanted = "2 true 2 true 2 true 2 true 2 true 2 true 2 true 2 true 2 true ";
+    assert_told(&rt, statuses(&rt, &lines), wanted)
 }

@@ -1,7 +1,8 @@
 //! A host that refuses a step: whatever that is, the file is as it was, and nothing is left beside it.
-use crate::support::{bytes_of, names_in, new_folder, told};
+use crate::support::Deed::{Block, Edit, Keep, Names, Run, Same};
+use crate::support::{assert_told, new_folder, tale, tale_in};
 use reg_files::Lockable;
-use std::alloc::Allocator;
+use std::alloc::{AllocError, Allocator, Global};
 use std::fs::{File, Metadata, OpenFile, OpenOptions, Permissions, TryLockError};
 use std::io::{ErrorKind, Read, Seek, SeekFrom, Write};
 use std::path::PathBuf;
@@ -212,108 +213,112 @@ impl Files for Refusing<'_> {
 
 const SCRIPT: &str = "root 983103\ncreate 0 =A 983103\n";
 
-/// What an edit under a refusal tells, with `--now`, and whether the file is as it was and alone.
-fn edited(rt: &HostRuntime, at: &str, refused: Refused) -> Result<String, Fail> {
-    let alloc = rt.alloc();
-    let before = bytes_of(rt, at, "a")?;
-    let host = Refusing { rt, refused };
-    let mut text = told(alloc, &host, at, "regtool edit @/a --now", SCRIPT)?;
-    let same = bytes_of(rt, at, "a")?.as_slice() == before.as_slice();
-    let names = names_in(rt, at)?;
-    write!(text, " {same} {}", names.as_str())?;
-    Ok(text)
+/// What an edit with `--now` under a refusal tells, whether the file is as it was, and what is in its folder.
+fn edited(rt: &HostRuntime, refused: Refused) -> Result<String, Fail> {
+    let folder = new_folder(rt)?;
+    tale_in(rt, rt, folder.as_str(), &[Run("regtool new @/a")])?;
+    let deeds = [
+        Keep("a"),
+        Edit("regtool edit @/a --now", SCRIPT),
+        Same("a"),
+        Names,
+    ];
+    let told = tale_in(rt, &Refusing { rt, refused }, folder.as_str(), &deeds)?;
+    fs::remove_dir_all(rt, folder.as_str())?;
+    Ok(told)
+}
+
+/// Before the script nothing is told of it.
+#[test]
+fn leaves_the_file_before_the_script(rt: HostRuntime) -> Result<(), Fail> {
+    let rows = [
+        (
+            Refused::Clock,
+            "1;error clock @/a: no storage space\n;|same true|a |",
+        ),
+        (Refused::Lock, "1;error busy @/a\n;|same true|a |"),
+        (
+            Refused::Read(0),
+            "1;error read @/a: no storage space\n;|same true|a |",
+        ),
+        (
+            Refused::Read(5000),
+            "1;error read @/a: no storage space\n;|same true|a |",
+        ),
+    ];
+    for (refused, wanted) in rows {
+        assert_told(&rt, edited(&rt, refused), wanted)?;
+    }
+    Ok(())
+}
+
+/// What an edit tells whose file is not saved, since this step was refused.
+fn unsaved(alloc: Global, step: &str) -> Result<String, AllocError> {
+    format!(in alloc;
+        "1;error {step} @/a: no storage space\n;0 handle 0\n0 handle 1 disposition 1\n|same true|a |"
+    )
 }
 
 #[test]
 fn leaves_the_file_whatever_is_refused(rt: HostRuntime) -> Result<(), Fail> {
-    let folder = new_folder(&rt)?;
-    let at = folder.as_str();
-    told(rt.alloc(), &rt, at, "regtool new @/a", "")?;
     let rows = [
-        (
-            Refused::Clock,
-            "1;error clock @/a: no storage space\n; true a ",
-        ),
-        (Refused::Lock, "1;error busy @/a\n; true a "),
-        (
-            Refused::Read(0),
-            "1;error read @/a: no storage space\n; true a ",
-        ),
-        (
-            Refused::Read(5000),
-            "1;error read @/a: no storage space\n; true a ",
-        ),
-        (
-            Refused::Create,
-            "1;error create @/a: no storage space\n;0 handle 0\n0 handle 1 disposition 1\n true a ",
-        ),
-        (
-            Refused::Permit,
-            "1;error permit @/a: no storage space\n;0 handle 0\n0 handle 1 disposition 1\n true a ",
-        ),
-        (
-            Refused::Write(0),
-            "1;error write @/a: no storage space\n;0 handle 0\n0 handle 1 disposition 1\n true a ",
-        ),
-        (
-            Refused::Write(8191),
-            "1;error write @/a: no storage space\n;0 handle 0\n0 handle 1 disposition 1\n true a ",
-        ),
-        (
-            Refused::Sync,
-            "1;error sync @/a: no storage space\n;0 handle 0\n0 handle 1 disposition 1\n true a ",
-        ),
-        (
-            Refused::Rename,
-            "1;error rename @/a: no storage space\n;0 handle 0\n0 handle 1 disposition 1\n true a ",
-        ),
-        // the new file took its place, and may be lost where the machine stops
-        (
-            Refused::Folder,
-            "1;error sync folder of @/a: no storage space\n;0 handle 0\n0 handle 1 disposition 1\n false a ",
-        ),
+        (Refused::Create, "create"),
+        (Refused::Permit, "permit"),
+        (Refused::Write(0), "write"),
+        (Refused::Write(8191), "write"),
+        (Refused::Sync, "sync"),
+        (Refused::Rename, "rename"),
     ];
-    for (refused, wanted) in rows {
-        let text = edited(&rt, at, refused)?;
-        assert_eq!(rt; text.as_str(), wanted);
+    for (refused, step) in rows {
+        let wanted = unsaved(rt.alloc(), step)?;
+        assert_told(&rt, edited(&rt, refused), wanted.as_str())?;
     }
-    fs::remove_dir_all(&rt, at)?;
     Ok(())
+}
+
+/// The new file took its place, and may be lost where the machine stops.
+#[test]
+fn tells_a_folder_that_is_not_synced(rt: HostRuntime) -> Result<(), Fail> {
+    let wanted = "1;error sync folder of @/a: no storage space\n;\
+        0 handle 0\n0 handle 1 disposition 1\n|same false|a |";
+    assert_told(&rt, edited(&rt, Refused::Folder), wanted)
 }
 
 /// A new file that can't be written is taken away.
 #[test]
 fn leaves_no_part_of_a_new_file(rt: HostRuntime) -> Result<(), Fail> {
-    let folder = new_folder(&rt)?;
-    let at = folder.as_str();
-    for refused in [
-        Refused::Create,
-        Refused::Write(0),
-        Refused::Write(4096),
-        Refused::Sync,
-    ] {
+    let rows = [
+        (Refused::Create, "1;error create @/a: no storage space\n;|"),
+        (Refused::Write(0), "1;error write @/a: no storage space\n;|"),
+        (
+            Refused::Write(4096),
+            "1;error write @/a: no storage space\n;|",
+        ),
+        (Refused::Sync, "1;error sync @/a: no storage space\n;|"),
+    ];
+    for (refused, wanted) in rows {
         let host = Refusing { rt: &rt, refused };
-        let text = told(rt.alloc(), &host, at, "regtool new @/a", "")?;
-        assert!(rt; text.starts_with("1;error "));
-        assert_eq!(rt; names_in(&rt, at)?.as_str(), "");
+        assert_told(
+            &rt,
+            tale(&rt, &host, &[Run("regtool new @/a"), Names]),
+            wanted,
+        )?;
     }
+    Ok(())
+}
+
+/// The clock of that host stands at the beginning of 1970.
+#[test]
+fn takes_the_moment_of_the_clock(rt: HostRuntime) -> Result<(), Fail> {
     let host = Refusing {
         rt: &rt,
         refused: Refused::Nothing,
     };
-    assert_eq!(rt;
-        told(rt.alloc(), &host, at, "regtool new @/a", "")?.as_str(),
-        "0;;"
-    );
-    // the clock of that host stands at the beginning of 1970
-    assert_eq!(rt;
-        told(rt.alloc(), &host, at, "regtool edit @/a --now", SCRIPT)?.as_str(),
-        "0;;0 handle 0\n0 handle 1 disposition 1\n"
-    );
-    assert_eq!(rt;
-        crate::support::block_of(&rt, at, "a")?,
-        (2, 2, 116_444_736_000_000_000)
-    );
-    fs::remove_dir_all(&rt, at)?;
-    Ok(())
+    let deeds = [
+        Run("regtool new @/a"),
+        Edit("regtool edit @/a --now", SCRIPT),
+        Block("a"),
+    ];
+    let wanted = "0;;|0;;0 handle 0\n0 handle 1 disposition 1\n|2 2 116444736000000000|";
+    assert_told(&rt, tale(&rt, &host, &deeds), wanted)
 }

@@ -4,3 +4,4 @@ pub mod EditSteps
 pub mod ImageBins
 pub mod OtherBins
 pub mod ToolLines
+pub mod UnderstoodWords

@@ -142,7 +142,7 @@ pub fn edit_file<H: Files + Clock, R: PutBack, W: Write>(
 ) -> Result<(), Fault>
 where
     H::File: Lockable,
-    ensures { OnOk result (Serves (Request.Edit request) (R.remaining input.old) (R.remaining input.new) (W.contents output.old)
+    ensures { OnOk result (Serves (Request.Edit request.entry) (R.remaining input.old) (R.remaining input.new) (W.contents output.old)
         (W.contents output.new)) }
 {
     let begin = begin_at(host, request.begin)?;

@@ -112,7 +112,7 @@ fn answer<H: Files + Clock, R: PutBack, W: Write, E: Sink>(
 where
     H::File: Lockable,
     ensures status { result ≤ 1 }
-    ensures done { result ≡ 0 → Serves request (R.remaining input.old) (R.remaining input.new) (W.contents output.old)
+    ensures done { result ≡ 0 → Serves request.entry (R.remaining input.old) (R.remaining input.new) (W.contents output.old)
         (W.contents output.new) }
 {
     match request {
