@@ -17,6 +17,11 @@ use Rattle.reg_files.specs.Edits.{at_line, Opens, LeadsOn, IsToSave, Halts, RunS
 use Rattle.reg_files.specs.declared.edits.EditFault.{EditFault}
 use Rattle.reg_files.specs.declared.edits.EditFault.TheVariants.{Load, Script, Memory}
 
+-- the line that sets the moment was put back
+pub begun : (moment : ℕ) (line bytes : List ℕ) (unread whole : Option (List ℕ)) → whole ≡ prepend_known bytes unread → bytes ≡ line →
+    line ≡ at_line moment → whole ≡ prepend_known (at_line moment) unread
+begun moment line bytes unread whole put is sets = put ∙ ap (λ (front : List ℕ). prepend_known front unread) (is ∙ sets)
+
 -- a script whose first line was put back before it
 module _ (begin : ℕ) (old last : View) (callbacks : Callbacks) (unread whole left before after : Option (List ℕ))
     (none : callbacks ≡ no_callbacks) (is_whole : whole ≡ prepend_known (at_line begin) unread) where
@@ -44,27 +49,18 @@ module _ (begin : ℕ) (old last : View) (callbacks : Callbacks) (unread whole l
 pub opens : (bytes rest : List ℕ) (hive : View) → ((image : List ℕ) × Consumes (Some bytes) (Some rest) image × IsLoaded image hive) → Opens bytes hive
 opens bytes rest hive h = record { image = h.0; rest = rest; bytes_are = h.1; loaded = h.2 }
 
-module _ (bytes : List ℕ) (begin : Option ℕ) (old last : View) (moment : ℕ) (unread left before after : Option (List ℕ)) (is_open : Opens bytes old)
-    (leads : LeadsOn (begin_of begin bytes) old last moment unread left before after) where
-  pub edited : (saved : Option (List ℕ)) → IsToSave old last moment (next_sequence (sequence_in bytes)) saved →
-      Edits bytes begin saved unread left before after
-  edited saved h = record { old = old; opens = is_open; last = last; moment = moment; leads = leads; to_save = h }
-
 -- a script that ended early
-pub edit_stops : (fault : EditFault) (bytes : List ℕ) (begin : Option ℕ) (old : View) (unread left before after : Option (List ℕ)) → Opens bytes old →
-    RunStops fault (begin_of begin bytes) old unread left before after → EditStops fault bytes begin unread left before after
-edit_stops (Load fault) bytes begin old unread left before after o h = absurd h
-edit_stops (Script fault) bytes begin old unread left before after o h = (old, o, h)
-edit_stops Memory bytes begin old unread left before after o h = (old, o, inl h)
+pub edit_stops : (fault : EditFault) (bytes : List ℕ) (begin : Option ℕ) (at : ℕ) (old : View) (unread left before after : Option (List ℕ)) →
+    Opens bytes old → at ≡ begin_of begin bytes → RunStops fault at old unread left before after → EditStops fault bytes begin unread left before after
+edit_stops (Load fault) bytes begin at old unread left before after o is h = absurd h
+edit_stops (Script fault) bytes begin at old unread left before after o is h =
+    (old, o, subst (λ (moment : ℕ). Halts fault moment old unread left before after) is h)
+edit_stops Memory bytes begin at old unread left before after o is h = (old, o, inl h)
 
--- no memory before the script began, and after it ended
+-- no memory before the script began
 pub no_memory_before : (bytes : List ℕ) (begin : Option ℕ) (old : View) (unread before : Option (List ℕ)) → Opens bytes old →
     EditStops Memory bytes begin unread unread before before
 no_memory_before bytes begin old unread before o = (old, o, inl (refl, refl))
-
-pub no_memory_after : (bytes : List ℕ) (begin : Option ℕ) (old last : View) (moment : ℕ) (unread left before after : Option (List ℕ)) → Opens bytes old →
-    LeadsOn (begin_of begin bytes) old last moment unread left before after → EditStops Memory bytes begin unread left before after
-no_memory_after bytes begin old last moment unread left before after o leads = (old, o, inr (last, moment, leads))
 
 -- an image that doesn't load
 pub not_loaded : (fault : LoadFault) (bytes rest : List ℕ) (begin : Option ℕ) (unread before : Option (List ℕ)) →
@@ -78,11 +74,33 @@ is_long bytes hive o =
     let l : length bytes ≡ length o.image + length o.rest = ap length o.bytes_are ∙ length-append o.image o.rest in
     omega (arith, l, o.loaded.size)
 
--- what the bins of two images tell of the hives
-module _ (old last : View) (moment sequence : ℕ) (before after : List ℕ) (before_is : before ≡ image_at old 0 0)
-    (after_is : after ≡ image_at last moment sequence) where
-  pub is_saved : drop 4096 after ≢ drop 4096 before → IsToSave old last moment sequence (Some after)
-  is_saved h = (after_is, λ e. h (image-bins _ _ _ _ after after_is ∙ e ∙ sym (image-bins _ _ _ _ before before_is)))
+-- a script that ended well
+module _ (bytes : List ℕ) (begin : Option ℕ) (at : ℕ) (old last : View) (moment : ℕ) (unread left told now_told : Option (List ℕ))
+    (is_open : Opens bytes old) (is_at : at ≡ begin_of begin bytes) (leads : LeadsOn at old last moment unread left told now_told) where
+  leads_here : LeadsOn (begin_of begin bytes) old last moment unread left told now_told
+  leads_here = subst (λ (n : ℕ). LeadsOn n old last moment unread left told now_told) is_at leads
 
-  pub is_kept : drop 4096 after ≡ drop 4096 before → IsToSave old last moment sequence None
-  is_kept h = sym (image-bins _ _ _ _ after after_is) ∙ h ∙ image-bins _ _ _ _ before before_is
+  pub no_memory_after : EditStops Memory bytes begin unread left told now_told
+  no_memory_after = (old, is_open, inr (last, moment, leads_here))
+
+  edited : (saved : Option (List ℕ)) → IsToSave old last moment (next_sequence (sequence_in bytes)) saved →
+      Edits bytes begin saved unread left told now_told
+  edited saved h = record { old = old; opens = is_open; last = last; moment = moment; leads = leads_here; to_save = h }
+
+  -- what the comparison of two images tells
+  module _ (number sequence : ℕ) (before after first second : List ℕ) (counted : number ≡ sequence_in bytes) (next : sequence ≡ next_sequence number)
+      (before_is : before ≡ image_at old 0 0) (after_is : after ≡ image_at last moment sequence) (first_is : first ≡ before) (second_is : second ≡ after) where
+    old_bins : drop 4096 first ≡ old.keys.bins.bytes
+    old_bins = image-bins _ _ _ _ first (first_is ∙ before_is)
+
+    last_bins : drop 4096 second ≡ last.keys.bins.bytes
+    last_bins = image-bins _ _ _ _ second (second_is ∙ after_is)
+
+    pub saves : drop 4096 second ≢ drop 4096 first → Edits bytes begin (Some after) unread left told now_told
+    saves other = edited (Some after) (
+      after_is ∙ ap (image_at last moment) (next ∙ ap next_sequence counted),
+      λ same. other (last_bins ∙ same ∙ sym old_bins),
+    )
+
+    pub keeps : drop 4096 second ≡ drop 4096 first → Edits bytes begin None unread left told now_told
+    keeps same = edited None (sym last_bins ∙ same ∙ old_bins)

@@ -1,6 +1,6 @@
 //! What an edit makes of an image: a hive loaded, a script run on it, and the image of what it left.
 
-ghost use Rattle.std.specs.Prelude.{◌≡◌, ◌≢◌, ◌≤◌, ◌↔◌, length, drop, string_bytes, option_map, OnOk, IfOk, IfErr, IsErrOf, true, false};
+ghost use Rattle.std.specs.Prelude.{◌≡◌, ◌≢◌, ◌≤◌, ◌↔◌, [], length, drop, string_bytes, option_map, OnOk, IfOk, IfErr, IsErrOf, true, false};
 ghost use Rattle.reg_names.specs.Names.{is_key_name};
 ghost use Rattle.reg_callbacks.specs.Lists.{rows_of};
 ghost use Rattle.reg_calls.specs.HiveView.{view_of, callbacks_of};
