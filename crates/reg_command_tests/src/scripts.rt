@@ -5,6 +5,7 @@ mod keys;
 mod notices;
 mod subkeys;
 mod trees;
+mod turns;
 
 use crate::support::{Outcome, assert_told, outcome_of, text_of, whole};
 use reg_fixtures::{Failure, FakeReader, FakeWriter, narrow, wide};
@@ -330,8 +331,12 @@ fn tells_faults_of_writers(rt: HostRuntime) -> Result<(), Fail> {
             assert_told(&rt, found, "1;true;error script 2\n")?;
         }
     }
-    let found = told_of_start(alloc, SCRIPT, REPLIES, 100, Failure::Flush);
-    assert_told(&rt, found, "1;true;error script 2\n")
+    // once two lines are told, and at the end
+    for (script, replies, room) in [(SCRIPT, REPLIES, 13), ("frob", "bad\n", 4)] {
+        let found = told_of_start(alloc, script, replies, room, Failure::Flush);
+        assert_told(&rt, found, "1;true;error script 2\n")?;
+    }
+    Ok(())
 }
 
 #[test]

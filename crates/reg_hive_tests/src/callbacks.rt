@@ -1,10 +1,11 @@
 //! Callbacks of a hive: whose answer it is, which calls they are asked of, and which key they are shown.
 ghost use Rattle.std.specs.Prelude.{◌==◌, length, if◌then◌else◌};
 
-use crate::support::{ALL, assert_told, new_hive, set};
+use crate::support::{ALL, assert_told, set};
 use reg_callbacks::{Callback, CallbackFault, Cookie};
 use reg_calls::Hive;
 use reg_model::{AnswerBody, Bytes, Call, Change, Query};
+use reg_registry::Registry;
 use std::alloc::{AllocError, Global};
 use std::cell::Cell;
 use std::rc::Rc;
@@ -82,7 +83,7 @@ fn status_told(body: &AnswerBody) -> u32 {
 }
 
 /// What session 0 is answered to a call.
-fn status_of(hive: &mut Hive<Counting>, call: Call) -> u32 {
+fn status_of<H: Registry>(hive: &mut H, call: Call) -> u32 {
     match call {
         Call::Change(change) => hive.apply(0, 0, change).status,
         Call::Query(query) => status_told(&hive.read(0, &query).body),
@@ -90,9 +91,9 @@ fn status_of(hive: &mut Hive<Counting>, call: Call) -> u32 {
 }
 
 /// What it is answered to calls, each with how many the callback was asked of by then; and last how many entries there are.
-fn told_of(
+fn told_of<H: Registry>(
     alloc: Global,
-    hive: &mut Hive<Counting>,
+    hive: &mut H,
     asked: &Cell<u32>,
     calls: Vec<Call>,
 ) -> Result<String, Fail> {
@@ -258,20 +259,22 @@ fn refused_calls(alloc: Global) -> Result<Vec<Call>, AllocError> {
     Ok(Vec::from_array(alloc, calls)?)
 }
 
-/// Registers a callback that counts.
-fn register(
-    hive: &mut Hive<Counting>,
-    status: u32,
-    altitude: u32,
-    asked: &Rc<Cell<u32>>,
-) -> Result<Cookie, Fail> {
-    let callback = Counting {
-        status,
-        asked: asked.clone()?,
-    };
-    match hive.register(callback, altitude) {
-        Ok(cookie) => Ok(cookie),
-        Err(_) => Err("not registered".into()),
+/// A hive whose callbacks count.
+trait Counted: Registry {
+    /// Registers a callback that answers a status.
+    fn add(&mut self, status: u32, altitude: u32, asked: &Rc<Cell<u32>>) -> Result<Cookie, Fail>;
+}
+
+impl Counted for Hive<Counting> {
+    fn add(&mut self, status: u32, altitude: u32, asked: &Rc<Cell<u32>>) -> Result<Cookie, Fail> {
+        let callback = Counting {
+            status,
+            asked: asked.clone()?,
+        };
+        match self.register(callback, altitude) {
+            Ok(cookie) => Ok(cookie),
+            Err(_) => Err("not registered".into()),
+        }
     }
 }
 
@@ -280,9 +283,9 @@ fn counted_hive(alloc: Global) -> Result<Hive<Counting>, Fail> {
     Ok(hive)
 }
 
-fn accepted_in(alloc: Global, hive: &mut Hive<Counting>) -> Result<String, Fail> {
+fn accepted_in<H: Counted>(alloc: Global, hive: &mut H) -> Result<String, Fail> {
     let asked = Rc::new(alloc, Cell::new(0))?;
-    let _cookie = register(hive, 0, 7, &asked)?;
+    let _cookie = hive.add(0, 7, &asked)?;
     told_of(alloc, hive, &asked, accepted_calls(alloc)?)
 }
 
@@ -300,10 +303,10 @@ fn each_call_but_close_is_asked_once(rt: HostRuntime) -> Result<(), Fail> {
     )
 }
 
-fn refused_in(alloc: Global, hive: &mut Hive<Counting>) -> Result<String, Fail> {
+fn refused_in<H: Counted>(alloc: Global, hive: &mut H) -> Result<String, Fail> {
     let asked = Rc::new(alloc, Cell::new(0))?;
     let _opened = told_of(alloc, hive, &asked, opening_calls(alloc)?)?;
-    let _cookie = register(hive, 77, 7, &asked)?;
+    let _cookie = hive.add(77, 7, &asked)?;
     told_of(alloc, hive, &asked, refused_calls(alloc)?)
 }
 
@@ -331,9 +334,9 @@ fn root_calls(alloc: Global, count: u32) -> Result<Vec<Call>, AllocError> {
 }
 
 /// An opening more than a session's 16,384 handles, and a Close, with how many calls the callback was asked of.
-fn crowded_in(alloc: Global, hive: &mut Hive<Counting>) -> Result<String, Fail> {
+fn crowded_in<H: Counted>(alloc: Global, hive: &mut H) -> Result<String, Fail> {
     let asked = Rc::new(alloc, Cell::new(0))?;
-    let _cookie = register(hive, 0, 7, &asked)?;
+    let _cookie = hive.add(0, 7, &asked)?;
     let _opened = told_of(alloc, hive, &asked, root_calls(alloc, 16_384)?)?;
     let calls = Vec::from_array(alloc, [open_root(ALL), close(5), open_root(ALL)])?;
     told_of(alloc, hive, &asked, calls)
@@ -355,11 +358,11 @@ fn nobody_is_asked_where_a_count_refuses(rt: HostRuntime) -> Result<(), Fail> {
 
 /// Two openings of the root and two calls without a handle, with how often the lower of two callbacks was asked, where the higher one
 /// refuses.
-fn lower_in(alloc: Global, hive: &mut Hive<Counting>) -> Result<String, Fail> {
+fn lower_in<H: Counted>(alloc: Global, hive: &mut H) -> Result<String, Fail> {
     let high = Rc::new(alloc, Cell::new(0))?;
     let low = Rc::new(alloc, Cell::new(0))?;
-    let _low = register(hive, 87, 100, &low)?;
-    let _high = register(hive, 5, 200, &high)?;
+    let _low = hive.add(87, 100, &low)?;
+    let _high = hive.add(5, 200, &high)?;
     told_of(alloc, hive, &low, opening_calls(alloc)?)
 }
 
@@ -392,6 +395,12 @@ fn answered(callback: &Box<dyn Callback + Send>) -> u32 {
     callback.pre_query(0, b"", &Query::QueryInfo { handle: 0 })
 }
 
+/// A hive of boxes with the root `ROOT`.
+fn boxed_hive(alloc: Global) -> Result<Hive, Fail> {
+    let hive = Hive::new(alloc, b"ROOT", &[7; 20], 0)?;
+    Ok(hive)
+}
+
 /// Two callbacks at 100 and 200, one of which goes: what a set is answered, what a third one at 100 is, and a Close.
 fn two_in(alloc: Global, hive: &mut Hive) -> Result<String, Fail> {
     let _root = hive.apply(0, 0, Change::OpenRoot { mask: ALL });
@@ -409,7 +418,7 @@ fn two_in(alloc: Global, hive: &mut Hive) -> Result<String, Fail> {
 }
 
 fn two(alloc: Global) -> Result<String, Fail> {
-    let mut hive = new_hive(alloc, 20)?;
+    let mut hive = boxed_hive(alloc)?;
     two_in(alloc, &mut hive)
 }
 
@@ -442,7 +451,7 @@ fn below_in(alloc: Global, hive: &mut Hive) -> Result<String, Fail> {
 }
 
 fn below(alloc: Global) -> Result<String, Fail> {
-    let mut hive = new_hive(alloc, 20)?;
+    let mut hive = boxed_hive(alloc)?;
     below_in(alloc, &mut hive)
 }
 

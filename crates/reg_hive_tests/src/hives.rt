@@ -1,7 +1,7 @@
 //! The fresh hive, and its first value, byte by byte; and a notice that is taken.
 use crate::support::{ALL, Deed, Question, assert_told, do_all, do_one, new_hive, told};
-use reg_calls::Hive;
 use reg_model::Change;
+use reg_registry::{PlainHive, Registry};
 use std::alloc::Global;
 use std::test::Fail;
 
@@ -75,7 +75,7 @@ fn first_value_told(rt: HostRuntime) -> Result<(), Fail> {
 
 /// The notices that a hive hands to session 0 once a value of its root was set, which that session watches, and how many entries there
 /// are then.
-fn notices_in(alloc: Global, hive: &mut Hive) -> Result<String, Fail> {
+fn notices_in<H: Registry>(alloc: Global, hive: &mut H) -> Result<String, Fail> {
     let notify = Change::Notify {
         handle: 0,
         filter: 4,
@@ -92,7 +92,7 @@ fn notices_in(alloc: Global, hive: &mut Hive) -> Result<String, Fail> {
 
 /// The same of a new hive.
 fn notices(alloc: Global) -> Result<String, Fail> {
-    let mut hive = new_hive(alloc, 20)?;
+    let mut hive: PlainHive = new_hive(alloc, 20)?;
     notices_in(alloc, &mut hive)
 }
 

@@ -2,8 +2,9 @@
 use crate::support::{
     ALL, Deed, Question, assert_same, assert_told, do_all, new_hive, set, status_and_told,
 };
-use reg_calls::{Hive, NewFault};
+use reg_calls::NewFault;
 use reg_model::{Call, Change, Step};
+use reg_registry::{PlainHive, Registry};
 use std::alloc::Global;
 use std::test::Fail;
 
@@ -39,12 +40,12 @@ fn missing_right(rt: HostRuntime) -> Result<(), Fail> {
 
 /// The status of a set in a new hive, by a handle that it hasn't opened.
 fn set_in_a_new_hive(alloc: Global) -> Result<u32, Fail> {
-    let mut hive = new_hive(alloc, 20)?;
+    let mut hive: PlainHive = new_hive(alloc, 20)?;
     set(alloc, &mut hive, b"", &[1])
 }
 
 /// That status where this hive has opened a handle of the same number.
-fn set_beside(alloc: Global, hive: &mut Hive) -> Result<u32, Fail> {
+fn set_beside<H: Registry>(alloc: Global, hive: &mut H) -> Result<u32, Fail> {
     let deeds = [Deed::Open(ALL), Deed::Set(b"", &[1])];
     let _status = do_all(alloc, hive, &deeds)?;
     set_in_a_new_hive(alloc)
@@ -52,7 +53,7 @@ fn set_beside(alloc: Global, hive: &mut Hive) -> Result<u32, Fail> {
 
 /// The status of a set by a handle of another hive.
 fn set_in_another(alloc: Global) -> Result<u32, Fail> {
-    let mut hive = new_hive(alloc, 20)?;
+    let mut hive: PlainHive = new_hive(alloc, 20)?;
     set_beside(alloc, &mut hive)
 }
 
@@ -64,7 +65,7 @@ fn another_hive(rt: HostRuntime) -> Result<(), Fail> {
 
 /// Why no hive is made of this root and this descriptor.
 fn fault_of(alloc: Global, root_name: &[u8], descriptor: &[u8]) -> Option<NewFault> {
-    let hive: Result<Hive, NewFault> = Hive::new(alloc, root_name, descriptor, 0);
+    let hive: Result<PlainHive, NewFault> = PlainHive::new(alloc, root_name, descriptor, 0);
     hive.err()
 }
 
@@ -78,7 +79,7 @@ fn new_faults(rt: HostRuntime) -> Result<(), Fail> {
 }
 
 /// Runs one step, and tells how many outcomes and entries there are.
-fn run_one_in(alloc: Global, hive: &mut Hive) -> Result<String, Fail> {
+fn run_one_in(alloc: Global, hive: &mut PlainHive) -> Result<String, Fail> {
     let step = Step {
         session: 3,
         moment: 7,
@@ -91,7 +92,7 @@ fn run_one_in(alloc: Global, hive: &mut Hive) -> Result<String, Fail> {
 
 /// The same in a new hive.
 fn run_one(alloc: Global) -> Result<String, Fail> {
-    let mut hive = new_hive(alloc, 20)?;
+    let mut hive: PlainHive = new_hive(alloc, 20)?;
     run_one_in(alloc, &mut hive)
 }
 

@@ -1,16 +1,16 @@
 //! The most subkeys that a key may have, the deepest tree, and whole trees deleted with all that their cells held. The limits are
 //! those of the rules, and what is left are the cells of a fresh hive.
 use crate::support::{ALL, Deed, assert_told, do_all, do_one, new_hive};
-use reg_calls::Hive;
 use reg_fixtures::{allocated, deep};
 use reg_model::{AnswerBody, Bytes, Change, Query};
+use reg_registry::{PlainHive, Registry};
 use std::alloc::Global;
 use std::test::Fail;
 
 /// Makes a key below that of a handle, closes the handle that this opens, and tells the status and the disposition.
-pub fn make_closed(
+pub fn make_closed<H: Registry>(
     alloc: Global,
-    hive: &mut Hive,
+    hive: &mut H,
     above: u64,
     path: &[u8],
 ) -> Result<(u32, Option<u32>), Fail> {
@@ -28,7 +28,12 @@ pub fn make_closed(
 }
 
 /// Deletes a key without subkeys below that of a handle, and tells the status.
-pub fn delete(alloc: Global, hive: &mut Hive, above: u64, path: &[u8]) -> Result<u32, Fail> {
+pub fn delete<H: Registry>(
+    alloc: Global,
+    hive: &mut H,
+    above: u64,
+    path: &[u8],
+) -> Result<u32, Fail> {
     let change = Change::DeleteKey {
         handle: above,
         path: Bytes::from_slice(alloc, path)?,
@@ -37,7 +42,12 @@ pub fn delete(alloc: Global, hive: &mut Hive, above: u64, path: &[u8]) -> Result
 }
 
 /// The name of a handle's subkey at an index, or the status where there is none.
-pub fn name_at(alloc: Global, hive: &Hive, above: u64, index: u32) -> Result<String, Fail> {
+pub fn name_at<H: Registry>(
+    alloc: Global,
+    hive: &H,
+    above: u64,
+    index: u32,
+) -> Result<String, Fail> {
     let query = Query::EnumKey {
         handle: above,
         index,
@@ -54,7 +64,7 @@ pub fn name_at(alloc: Global, hive: &Hive, above: u64, index: u32) -> Result<Str
 }
 
 /// Opens the root, and makes so many keys below it, named by their numbers.
-fn fill(alloc: Global, hive: &mut Hive, keys: u32) -> Result<(), Fail> {
+fn fill<H: Registry>(alloc: Global, hive: &mut H, keys: u32) -> Result<(), Fail> {
     let _status = do_one(alloc, hive, &Deed::Open(ALL))?;
     for number in 0..keys {
         let name = format!(in alloc; "{number}")?;
@@ -66,14 +76,19 @@ fn fill(alloc: Global, hive: &mut Hive, keys: u32) -> Result<(), Fail> {
 }
 
 /// Makes a key below the root, and tells the status.
-fn tell_making(alloc: Global, hive: &mut Hive, path: &[u8], text: &mut String) -> Result<(), Fail> {
+fn tell_making<H: Registry>(
+    alloc: Global,
+    hive: &mut H,
+    path: &[u8],
+    text: &mut String,
+) -> Result<(), Fail> {
     let (status, _) = make_closed(alloc, hive, 0, path)?;
     write!(text, "{status} ")?;
     Ok(())
 }
 
 /// Deletes a tree or what is below the root, and tells the status, how many subkeys the root has then, and the allocated cells.
-fn tell_deleted(alloc: Global, hive: &mut Hive, path: &[u8]) -> Result<String, Fail> {
+fn tell_deleted<H: Registry>(alloc: Global, hive: &mut H, path: &[u8]) -> Result<String, Fail> {
     let status = do_one(alloc, hive, &Deed::DeleteTree(path))?;
     let first = name_at(alloc, hive, 0, 0)?;
     let cells = allocated(alloc, hive.arena())?;
@@ -82,7 +97,7 @@ fn tell_deleted(alloc: Global, hive: &mut Hive, path: &[u8]) -> Result<String, F
 
 /// What a key with as many subkeys as it may have answers: to one more, to one that is there, to one below that, to one more where
 /// one was deleted, and to yet another.
-fn make_more(alloc: Global, hive: &mut Hive) -> Result<String, Fail> {
+fn make_more<H: Registry>(alloc: Global, hive: &mut H) -> Result<String, Fail> {
     let mut text = String::new(alloc);
     tell_making(alloc, hive, b"60000", &mut text)?;
     write!(text, "{} entries ", hive.len())?;
@@ -96,7 +111,7 @@ fn make_more(alloc: Global, hive: &mut Hive) -> Result<String, Fail> {
 
 /// The same of a key that is filled; then the subkeys at the first two indexes, at the last, and behind it; and what is told when all
 /// are deleted.
-fn full_in(alloc: Global, hive: &mut Hive) -> Result<String, Fail> {
+fn full_in<H: Registry>(alloc: Global, hive: &mut H) -> Result<String, Fail> {
     fill(alloc, hive, 60_000)?;
     let mut text = make_more(alloc, hive)?;
     for index in [0, 1, 59_999, 60_000] {
@@ -108,7 +123,7 @@ fn full_in(alloc: Global, hive: &mut Hive) -> Result<String, Fail> {
 
 /// The same of a new hive.
 fn full(alloc: Global) -> Result<String, Fail> {
-    let mut hive = new_hive(alloc, 20)?;
+    let mut hive: PlainHive = new_hive(alloc, 20)?;
     full_in(alloc, &mut hive)
 }
 
@@ -123,7 +138,7 @@ fn a_key_has_at_most_60000_subkeys(rt: HostRuntime) -> Result<(), Fail> {
 }
 
 /// Opens the root and makes a chain of 512 keys below it, 32 in a call.
-fn make_deepest(alloc: Global, hive: &mut Hive) -> Result<(), Fail> {
+fn make_deepest<H: Registry>(alloc: Global, hive: &mut H) -> Result<(), Fail> {
     let _status = do_one(alloc, hive, &Deed::Open(ALL))?;
     for step in 0..16 {
         let path = deep(alloc, (step + 1) * 32)?;
@@ -135,7 +150,7 @@ fn make_deepest(alloc: Global, hive: &mut Hive) -> Result<(), Fail> {
 }
 
 /// Deletes the deepest tree: how many cells there were, and what is told then.
-fn deepest_in(alloc: Global, hive: &mut Hive, path: &[u8]) -> Result<String, Fail> {
+fn deepest_in<H: Registry>(alloc: Global, hive: &mut H, path: &[u8]) -> Result<String, Fail> {
     make_deepest(alloc, hive)?;
     let cells = allocated(alloc, hive.arena())?;
     let deleted = tell_deleted(alloc, hive, path)?;
@@ -144,7 +159,7 @@ fn deepest_in(alloc: Global, hive: &mut Hive, path: &[u8]) -> Result<String, Fai
 
 /// The same of a new hive.
 fn deepest(alloc: Global, path: &[u8]) -> Result<String, Fail> {
-    let mut hive = new_hive(alloc, 20)?;
+    let mut hive: PlainHive = new_hive(alloc, 20)?;
     deepest_in(alloc, &mut hive, path)
 }
 
@@ -168,14 +183,14 @@ const FURNISHED: [Deed<'_>; 7] = [
 ];
 
 /// What a hive with such a tree tells where one is deleted.
-fn furnished_in(alloc: Global, hive: &mut Hive, path: &[u8]) -> Result<String, Fail> {
+fn furnished_in<H: Registry>(alloc: Global, hive: &mut H, path: &[u8]) -> Result<String, Fail> {
     let _status = do_all(alloc, hive, &FURNISHED)?;
     tell_deleted(alloc, hive, path)
 }
 
 /// The same of a new hive.
 fn furnished(alloc: Global, path: &[u8]) -> Result<String, Fail> {
-    let mut hive = new_hive(alloc, 20)?;
+    let mut hive: PlainHive = new_hive(alloc, 20)?;
     furnished_in(alloc, &mut hive, path)
 }
 

@@ -2,8 +2,8 @@
 //! the map's order, and the lists that stand in its bins have them.
 use crate::many_keys::{delete, make_closed, name_at};
 use crate::support::{ALL, Deed, assert_told, do_all, new_hive};
-use reg_calls::Hive;
 use reg_fixtures::{SubkeyLists, allocated, subkeys};
+use reg_registry::{PlainHive, Registry};
 use std::alloc::Global;
 use std::collections::BTreeMap;
 use std::test::Fail;
@@ -25,9 +25,9 @@ const FIRST_CELLS: usize = 4;
 
 /// A hive with a key, and the names of the keys that are below that, as they were given, by the same in capital letters.
 #[derive(Drop)]
-struct RandomKeys {
+struct RandomKeys<H> {
     alloc: Global,
-    hive: Hive,
+    hive: H,
     names: BTreeMap<String, String>,
     chance: u64,
 }
@@ -41,9 +41,9 @@ fn has_good_counts(found: &SubkeyLists) -> bool {
     is_good && found.is_rooted == (found.counts.len() > 1)
 }
 
-impl RandomKeys {
+impl<H: Registry> RandomKeys<H> {
     /// A new hive with a key that has no subkeys.
-    fn new(alloc: Global) -> Result<RandomKeys, Fail> {
+    fn new(alloc: Global) -> Result<RandomKeys<H>, Fail> {
         let mut keys = RandomKeys {
             alloc,
             hive: new_hive(alloc, 20)?,
@@ -179,7 +179,7 @@ impl RandomKeys {
 
 /// Lets the keys become many, few, many again and none, compares after each batch, and tells what is left when their
 /// parent goes too.
-fn random_in(keys: &mut RandomKeys) -> Result<String, Fail> {
+fn random_in<H: Registry>(keys: &mut RandomKeys<H>) -> Result<String, Fail> {
     for making in [7, 7, 7, 1, 1, 1, 7, 4] {
         keys.run_batch(making)?;
         keys.check()?;
@@ -193,7 +193,7 @@ fn random_in(keys: &mut RandomKeys) -> Result<String, Fail> {
 
 /// The same of a new hive.
 fn random(alloc: Global) -> Result<String, Fail> {
-    let mut keys = RandomKeys::new(alloc)?;
+    let mut keys: RandomKeys<PlainHive> = RandomKeys::new(alloc)?;
     random_in(&mut keys)
 }
 

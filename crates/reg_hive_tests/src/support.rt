@@ -1,7 +1,7 @@
-//! What the tests share: comparisons, what is done to a new hive, and what is told of it as text. Whoever owns a
-//! hive does nothing but hand it on: a function is the longer to check the more it does while it owns one.
-use reg_calls::Hive;
+//! What the tests share: comparisons, what is done to a new hive, and what is told of it as text. Whoever owns a hive does nothing but
+//! hand it on, and who is lent one takes any [`Registry`]: a function is the longer to check the more it does with a hive.
 use reg_model::{AnswerBody, Bytes, Change, Query};
+use reg_registry::{PlainHive, Registry};
 use std::alloc::Global;
 use std::fmt::Debug;
 use std::process::Abort;
@@ -61,9 +61,9 @@ pub enum Question<'a> {
 }
 
 /// A hive with the root `ROOT` and a descriptor of so many bytes.
-pub fn new_hive(alloc: Global, descriptor: usize) -> Result<Hive, Fail> {
+pub fn new_hive<H: Registry>(alloc: Global, descriptor: usize) -> Result<H, Fail> {
     let descriptor = vec![in alloc; 7; descriptor]?;
-    let hive = Hive::new(alloc, b"ROOT", descriptor.as_slice(), 0)?;
+    let hive = H::fresh(alloc, b"ROOT", descriptor.as_slice(), 0)?;
     Ok(hive)
 }
 
@@ -74,7 +74,7 @@ pub fn told(
     deeds: &[Deed<'_>],
     question: Question<'_>,
 ) -> Result<String, Fail> {
-    let mut hive = new_hive(alloc, descriptor)?;
+    let mut hive: PlainHive = new_hive(alloc, descriptor)?;
     told_after(alloc, &mut hive, deeds, question)
 }
 
@@ -85,14 +85,14 @@ pub fn status_and_told(
     deeds: &[Deed<'_>],
     question: Question<'_>,
 ) -> Result<String, Fail> {
-    let mut hive = new_hive(alloc, descriptor)?;
+    let mut hive: PlainHive = new_hive(alloc, descriptor)?;
     status_and_told_after(alloc, &mut hive, deeds, question)
 }
 
 /// What a hive tells after these deeds.
-fn told_after(
+fn told_after<H: Registry>(
     alloc: Global,
-    hive: &mut Hive,
+    hive: &mut H,
     deeds: &[Deed<'_>],
     question: Question<'_>,
 ) -> Result<String, Fail> {
@@ -101,9 +101,9 @@ fn told_after(
 }
 
 /// The status of the last of these deeds, and what a hive tells then.
-fn status_and_told_after(
+fn status_and_told_after<H: Registry>(
     alloc: Global,
-    hive: &mut Hive,
+    hive: &mut H,
     deeds: &[Deed<'_>],
     question: Question<'_>,
 ) -> Result<String, Fail> {
@@ -113,7 +113,7 @@ fn status_and_told_after(
 }
 
 /// Does these deeds in their order, and tells the status of the last.
-pub fn do_all(alloc: Global, hive: &mut Hive, deeds: &[Deed<'_>]) -> Result<u32, Fail> {
+pub fn do_all<H: Registry>(alloc: Global, hive: &mut H, deeds: &[Deed<'_>]) -> Result<u32, Fail> {
     let mut status = 0;
     for deed in deeds {
         status = do_one(alloc, hive, deed)?;
@@ -122,7 +122,7 @@ pub fn do_all(alloc: Global, hive: &mut Hive, deeds: &[Deed<'_>]) -> Result<u32,
 }
 
 /// Does one deed, and tells its status.
-pub fn do_one(alloc: Global, hive: &mut Hive, deed: &Deed<'_>) -> Result<u32, Fail> {
+pub fn do_one<H: Registry>(alloc: Global, hive: &mut H, deed: &Deed<'_>) -> Result<u32, Fail> {
     match *deed {
         Deed::Open(mask) => Ok(hive.apply(0, 0, Change::OpenRoot { mask }).status),
         Deed::Set(name, bytes) => set(alloc, hive, name, bytes),
@@ -137,7 +137,12 @@ pub fn do_one(alloc: Global, hive: &mut Hive, deed: &Deed<'_>) -> Result<u32, Fa
 }
 
 /// Sets a value of handle 0 at moment 256, and tells the reply's status.
-pub fn set(alloc: Global, hive: &mut Hive, name: &[u8], bytes: &[u8]) -> Result<u32, Fail> {
+pub fn set<H: Registry>(
+    alloc: Global,
+    hive: &mut H,
+    name: &[u8],
+    bytes: &[u8],
+) -> Result<u32, Fail> {
     let name = Bytes::from_slice(alloc, name)?;
     let bytes = Bytes::from_slice(alloc, bytes)?;
     let change = Change::SetValue {
@@ -150,13 +155,18 @@ pub fn set(alloc: Global, hive: &mut Hive, name: &[u8], bytes: &[u8]) -> Result<
 }
 
 /// Sets a value of handle 0 to so many bytes.
-fn set_long(alloc: Global, hive: &mut Hive, name: &[u8], len: usize) -> Result<u32, Fail> {
+fn set_long<H: Registry>(
+    alloc: Global,
+    hive: &mut H,
+    name: &[u8],
+    len: usize,
+) -> Result<u32, Fail> {
     let bytes = vec![in alloc; 7; len]?;
     set(alloc, hive, name, bytes.as_slice())
 }
 
 /// Removes a value of handle 0 at moment 512, and tells the reply's status.
-fn delete(alloc: Global, hive: &mut Hive, name: &[u8]) -> Result<u32, Fail> {
+fn delete<H: Registry>(alloc: Global, hive: &mut H, name: &[u8]) -> Result<u32, Fail> {
     let name = Bytes::from_slice(alloc, name)?;
     let change = Change::DeleteValue { handle: 0, name };
     Ok(hive.apply(0, 512, change).status)
@@ -171,9 +181,9 @@ fn given(alloc: Global, bytes: Option<&[u8]>) -> Result<Option<Bytes>, Fail> {
 }
 
 /// Makes the keys of a path from the root by handle 0, and tells the reply's status.
-fn create(
+fn create<H: Registry>(
     alloc: Global,
-    hive: &mut Hive,
+    hive: &mut H,
     path: &[u8],
     descriptor: Option<&[u8]>,
 ) -> Result<u32, Fail> {
@@ -189,33 +199,43 @@ fn create(
 }
 
 /// The same with a descriptor of so many bytes.
-fn create_long(alloc: Global, hive: &mut Hive, path: &[u8], len: usize) -> Result<u32, Fail> {
+fn create_long<H: Registry>(
+    alloc: Global,
+    hive: &mut H,
+    path: &[u8],
+    len: usize,
+) -> Result<u32, Fail> {
     let bytes = vec![in alloc; 9; len]?;
     create(alloc, hive, path, Some(bytes.as_slice()))
 }
 
 /// Sets the descriptor of a handle's key, and tells the reply's status.
-fn describe(alloc: Global, hive: &mut Hive, handle: u64, descriptor: &[u8]) -> Result<u32, Fail> {
+fn describe<H: Registry>(
+    alloc: Global,
+    hive: &mut H,
+    handle: u64,
+    descriptor: &[u8],
+) -> Result<u32, Fail> {
     let descriptor = Bytes::from_slice(alloc, descriptor)?;
     let change = Change::SetSecurity { handle, descriptor };
     Ok(hive.apply(0, 256, change).status)
 }
 
 /// Sets the root's descriptor to so many bytes.
-fn describe_long(alloc: Global, hive: &mut Hive, len: usize) -> Result<u32, Fail> {
+fn describe_long<H: Registry>(alloc: Global, hive: &mut H, len: usize) -> Result<u32, Fail> {
     let bytes = vec![in alloc; 9; len]?;
     describe(alloc, hive, 0, bytes.as_slice())
 }
 
 /// Deletes a key with all below it from the root by handle 0 at moment 512, and tells the reply's status.
-fn delete_tree(alloc: Global, hive: &mut Hive, path: &[u8]) -> Result<u32, Fail> {
+fn delete_tree<H: Registry>(alloc: Global, hive: &mut H, path: &[u8]) -> Result<u32, Fail> {
     let path = Bytes::from_slice(alloc, path)?;
     let change = Change::DeleteTree { handle: 0, path };
     Ok(hive.apply(0, 512, change).status)
 }
 
 /// What a hive answers to a question.
-fn tell(alloc: Global, hive: &Hive, question: Question<'_>) -> Result<String, Fail> {
+fn tell<H: Registry>(alloc: Global, hive: &H, question: Question<'_>) -> Result<String, Fail> {
     match question {
         Question::Cells => cells(alloc, hive),
         Question::CellsOf(size) => count_cells(alloc, hive, size),
@@ -226,7 +246,7 @@ fn tell(alloc: Global, hive: &Hive, question: Question<'_>) -> Result<String, Fa
 }
 
 /// The cells of a hive's bins: offsets, sizes, and a star for an allocated one.
-fn cells(alloc: Global, hive: &Hive) -> Result<String, Fail> {
+fn cells<H: Registry>(alloc: Global, hive: &H) -> Result<String, Fail> {
     let cells = hive.arena().cells(alloc)?;
     let mut text = String::new(alloc);
     for cell in &cells {
@@ -237,7 +257,7 @@ fn cells(alloc: Global, hive: &Hive) -> Result<String, Fail> {
 }
 
 /// How many allocated cells of a size a hive has.
-fn count_cells(alloc: Global, hive: &Hive, size: u32) -> Result<String, Fail> {
+fn count_cells<H: Registry>(alloc: Global, hive: &H, size: u32) -> Result<String, Fail> {
     let cells = hive.arena().cells(alloc)?;
     let count = cells
         .iter()
@@ -247,7 +267,7 @@ fn count_cells(alloc: Global, hive: &Hive, size: u32) -> Result<String, Fail> {
 }
 
 /// So many bytes of the bins' first page from an offset on, as digits.
-fn digits(alloc: Global, hive: &Hive, at: u32, len: u32) -> Result<String, Fail> {
+fn digits<H: Registry>(alloc: Global, hive: &H, at: u32, len: u32) -> Result<String, Fail> {
     let arena = hive.arena();
     if arena.bins_size() == 0 || at > 4096 || len > 4096 - at {
         return Err("past the first page".into());
@@ -258,12 +278,17 @@ fn digits(alloc: Global, hive: &Hive, at: u32, len: u32) -> Result<String, Fail>
 }
 
 /// How many entries a hive's journal has.
-fn entries(alloc: Global, hive: &Hive) -> Result<String, Fail> {
+fn entries<H: Registry>(alloc: Global, hive: &H) -> Result<String, Fail> {
     Ok(format!(in alloc; "{}", hive.len())?)
 }
 
 /// The answer to a question for a value of handle 0: where, and the status and the value.
-fn value(alloc: Global, hive: &Hive, name: &[u8], room: Option<u32>) -> Result<String, Fail> {
+fn value<H: Registry>(
+    alloc: Global,
+    hive: &H,
+    name: &[u8],
+    room: Option<u32>,
+) -> Result<String, Fail> {
     let name = Bytes::from_slice(alloc, name)?;
     let query = Query::QueryValue {
         handle: 0,

@@ -3,7 +3,7 @@
 use crate::support::{
     ALL, Deed, Question, assert_told, do_one, new_hive, set, status_and_told, told,
 };
-use reg_calls::Hive;
+use reg_registry::{PlainHive, Registry};
 use std::alloc::Global;
 use std::test::Fail;
 
@@ -134,7 +134,7 @@ fn replaced_big_value_leaves_no_segment(rt: HostRuntime) -> Result<(), Fail> {
 }
 
 /// Opens the root, sets so many values, named by their numbers, and tells the last status.
-fn fill(alloc: Global, hive: &mut Hive, values: u32) -> Result<u32, Fail> {
+fn fill<H: Registry>(alloc: Global, hive: &mut H, values: u32) -> Result<u32, Fail> {
     let mut status = do_one(alloc, hive, &Deed::Open(ALL))?;
     for number in 0..values {
         let name = format!(in alloc; "{number}")?;
@@ -144,7 +144,7 @@ fn fill(alloc: Global, hive: &mut Hive, values: u32) -> Result<u32, Fail> {
 }
 
 /// The status of the last of 16,384 sets of new names, of a set of an old one then, and of one new name more.
-fn filled_in(alloc: Global, hive: &mut Hive) -> Result<String, Fail> {
+fn filled_in<H: Registry>(alloc: Global, hive: &mut H) -> Result<String, Fail> {
     let last = fill(alloc, hive, 16_384)?;
     let old = do_one(alloc, hive, &Deed::SetLong(b"16383", 5))?;
     let new = do_one(alloc, hive, &Deed::SetLong(b"16384", 5))?;
@@ -153,7 +153,7 @@ fn filled_in(alloc: Global, hive: &mut Hive) -> Result<String, Fail> {
 
 /// The same of a new hive.
 fn filled(alloc: Global) -> Result<String, Fail> {
-    let mut hive = new_hive(alloc, 20)?;
+    let mut hive: PlainHive = new_hive(alloc, 20)?;
     filled_in(alloc, &mut hive)
 }
 

@@ -1,10 +1,9 @@
 //! Readers and writers that fail at each place: what is told of them.
 use crate::devices::{NarrowWriter, SlowReader};
-use crate::hives::fresh_hive;
+use crate::hives::{PlainHive, fresh_hive};
 use crate::tools::write_image_by_tool;
 use crate::verdicts::{Tally, judge};
 use anyhow::{Result, bail};
-use reg_calls::Hive;
 use reg_dump::{DumpFault, dump};
 use reg_image::write_image;
 use reg_script::{ScriptFault, run};
@@ -50,14 +49,14 @@ pub enum Work<'a> {
     /// An image.
     Image(&'a [u8]),
     /// The dump of a hive.
-    Dump(&'a Hive),
+    Dump(&'a PlainHive),
     /// The replies of a script on a fresh hive.
     Replies(&'a [u8]),
     /// The image of a fresh hive, by the tool.
     ToolImage,
 }
 
-fn write_dump(alloc: Global, hive: &Hive, writer: &mut NarrowWriter) -> Result<Option<u64>> {
+fn write_dump(alloc: Global, hive: &PlainHive, writer: &mut NarrowWriter) -> Result<Option<u64>> {
     match dump(alloc, hive.tree(), writer) {
         Ok(()) => Ok(None),
         Err(DumpFault::Write { written }) => Ok(Some(written)),
@@ -67,7 +66,7 @@ fn write_dump(alloc: Global, hive: &Hive, writer: &mut NarrowWriter) -> Result<O
 
 fn run_script(
     alloc: Global,
-    hive: &mut Hive,
+    hive: &mut PlainHive,
     script: &[u8],
     writer: &mut NarrowWriter,
 ) -> Result<Option<u64>> {

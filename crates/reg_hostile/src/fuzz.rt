@@ -1,11 +1,10 @@
 //! Images and scripts that were changed at random, each by a seed of its own.
 use crate::chance::Chance;
 use crate::changes::{change_image, changed_script};
-use crate::hives::{fresh_hive, run_on};
+use crate::hives::{PlainHive, fresh_hive, run_on};
 use crate::seeds::{SCRIPTS, images};
 use crate::verdicts::{Tally, Verdict, judge_bytes, verdict_on};
 use anyhow::Result;
-use reg_calls::Hive;
 use reg_image::load;
 use std::alloc::Global;
 
@@ -39,7 +38,7 @@ fn script_of_seed(alloc: Global, chance: &mut Chance) -> Result<Vec<u8>> {
 }
 
 /// The verdict on a hive after a script.
-fn judge_after(alloc: Global, hive: &mut Hive, script: &[u8]) -> Result<Verdict> {
+fn judge_after(alloc: Global, hive: &mut PlainHive, script: &[u8]) -> Result<Verdict> {
     let _replies = run_on(alloc, hive, script)?;
     verdict_on(alloc, hive)
 }

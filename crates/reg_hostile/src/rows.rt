@@ -3,10 +3,9 @@
 //! A row that wants memory is answered 8, or ends its script; then the hive is as it was, and the same row is answered as it should be
 //! when it comes again, a `notice` by the same notice. A `close` and a `notice` are never answered 8. The same of a callback that is
 //! registered before the rows of a script, and taken out after them, for which no memory is wanting.
-use crate::hives::{fresh_hive, image_of};
+use crate::hives::{PlainHive, fresh_hive, image_of};
 use anyhow::{Result, bail};
-use reg_callbacks::{Callback, CallbackFault, Cookie, NoCallback};
-use reg_calls::Hive;
+use reg_callbacks::{CallbackFault, Cookie, NoCallback};
 use reg_script::{ScriptFault, run};
 use std::alloc::Global;
 use std::fmt;
@@ -131,7 +130,7 @@ impl fmt::Display for Counts {
     }
 }
 
-fn take_snapshot(alloc: Global, hive: &Hive) -> Result<Snapshot> {
+fn take_snapshot(alloc: Global, hive: &PlainHive) -> Result<Snapshot> {
     let image = match image_of(alloc, hive) {
         Ok(image) => image,
         Err(_) => image_of(alloc, hive)?,
@@ -158,7 +157,7 @@ fn line_of(alloc: Global, line: &str) -> Result<String> {
 }
 
 /// Gives a line to a hive. Another reply than the wanted one is an error.
-fn ask(alloc: Global, hive: &mut Hive, line: &str, wanted: &str) -> Result<Outcome> {
+fn ask(alloc: Global, hive: &mut PlainHive, line: &str, wanted: &str) -> Result<Outcome> {
     let mut input = line.as_bytes();
     let mut output = Vec::with_capacity(alloc, 256)?;
     match run(alloc, &mut input, &mut output, hive) {
@@ -204,7 +203,7 @@ fn count_refusal(
 /// Gives a row's line to a hive, and again where memory was wanting.
 fn check_row(
     alloc: Global,
-    hive: &mut Hive,
+    hive: &mut PlainHive,
     line: &str,
     wanted: &str,
     counts: &mut Counts,
@@ -226,7 +225,12 @@ fn check_row(
 }
 
 /// Gives a script's rows to a hive.
-fn check_script(alloc: Global, hive: &mut Hive, script: &str, counts: &mut Counts) -> Result<()> {
+fn check_script(
+    alloc: Global,
+    hive: &mut PlainHive,
+    script: &str,
+    counts: &mut Counts,
+) -> Result<()> {
     for row in script.split('\n') {
         if let Some((line, wanted)) = row.split_once(" -> ") {
             let line = line_of(alloc, line)?;
@@ -239,8 +243,8 @@ fn check_script(alloc: Global, hive: &mut Hive, script: &str, counts: &mut Count
 /// Registers a callback whose first registration wanted memory, which must have left the hive as it was.
 fn register_again(
     alloc: Global,
-    hive: &mut Hive,
-    callback: Box<dyn Callback + Send>,
+    hive: &mut PlainHive,
+    callback: NoCallback,
     before: &Snapshot,
 ) -> Result<Cookie> {
     let after = take_snapshot(alloc, hive)?;
@@ -254,15 +258,10 @@ fn register_again(
 }
 
 /// Registers a callback, and again where memory was wanting.
-fn register(
-    alloc: Global,
-    hive: &mut Hive,
-    callback: Box<dyn Callback + Send>,
-    counts: &mut Counts,
-) -> Result<Cookie> {
+fn register(alloc: Global, hive: &mut PlainHive, counts: &mut Counts) -> Result<Cookie> {
     let before = take_snapshot(alloc, hive)?;
     counts.rows = counts.rows.saturating_add(1);
-    match hive.register(callback, 1) {
+    match hive.register(NoCallback, 1) {
         Ok(cookie) => Ok(cookie),
         Err(CallbackFault::Memory(callback)) => {
             counts.refused = counts.refused.saturating_add(1);
@@ -275,12 +274,11 @@ fn register(
 /// Gives a script's rows to a hive with a callback, which is taken out at last: for that no memory is wanting.
 fn check_called_back(
     alloc: Global,
-    hive: &mut Hive,
+    hive: &mut PlainHive,
     script: &str,
-    callback: Box<dyn Callback + Send>,
     counts: &mut Counts,
 ) -> Result<()> {
-    let cookie = register(alloc, hive, callback, counts)?;
+    let cookie = register(alloc, hive, counts)?;
     check_script(alloc, hive, script, counts)?;
     if hive.unregister(cookie).is_err() {
         bail!("a callback was not taken out");
@@ -291,8 +289,7 @@ fn check_called_back(
 /// Gives a script's rows to a fresh hive with a callback that lets every call go on.
 fn check_fresh(alloc: Global, script: &str, counts: &mut Counts) -> Result<()> {
     let mut hive = fresh_hive(alloc)?;
-    let callback: Box<dyn Callback + Send> = Box::new(alloc, NoCallback)?;
-    check_called_back(alloc, &mut hive, script, callback, counts)
+    check_called_back(alloc, &mut hive, script, counts)
 }
 
 /// Gives the rows of all scripts to fresh hives, and prints how they were answered. Where one was answered wrongly, that is the error.

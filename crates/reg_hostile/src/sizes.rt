@@ -1,7 +1,7 @@
 //! How long hostile images take, beside honest ones of the same size.
+use crate::hives::PlainHive;
 use crate::shapes::{Shape, honest};
 use anyhow::Result;
-use reg_calls::Hive;
 use reg_dump::dump;
 use reg_image::load;
 use reg_workload::Ratio;
@@ -40,7 +40,7 @@ fn nanos(time: Duration) -> u64 {
 }
 
 /// How long a dump takes that nobody reads.
-fn time_dump(rt: &impl Clock, alloc: Global, hive: &Hive) -> Result<u64> {
+fn time_dump(rt: &impl Clock, alloc: Global, hive: &PlainHive) -> Result<u64> {
     let mut nowhere = io::sink();
     let start = Instant::now(rt)?;
     dump(alloc, hive.tree(), &mut nowhere)?;

@@ -1,8 +1,7 @@
 //! What becomes of an image: the fault that refuses it, or a hive whose own image tells the same.
-use crate::hives::{dumped, image_of};
+use crate::hives::{PlainHive, dumped, image_of};
 use crate::tools::is_told_by_tool;
 use anyhow::Result;
-use reg_calls::Hive;
 use reg_image::{LoadFault, load};
 use std::alloc::Global;
 use std::fmt;
@@ -22,7 +21,7 @@ pub enum Verdict {
 }
 
 /// Whether a hive's own image loads to the hive's dump.
-pub fn is_kept(alloc: Global, hive: &Hive) -> Result<bool> {
+pub fn is_kept(alloc: Global, hive: &PlainHive) -> Result<bool> {
     let told = dumped(alloc, hive)?;
     let bytes = image_of(alloc, hive)?;
     let mut input = bytes.as_slice();
@@ -33,7 +32,7 @@ pub fn is_kept(alloc: Global, hive: &Hive) -> Result<bool> {
 }
 
 /// The verdict on a hive.
-pub fn verdict_on(alloc: Global, hive: &Hive) -> Result<Verdict> {
+pub fn verdict_on(alloc: Global, hive: &PlainHive) -> Result<Verdict> {
     Ok(if is_kept(alloc, hive)? {
         Verdict::Kept
     } else {

@@ -1,8 +1,7 @@
 //! Images made, written and loaded, and what was loaded walked.
 
-use crate::hives::filled;
+use crate::hives::{PlainHive, filled};
 use anyhow::Result;
-use reg_calls::Hive;
 use reg_dump::{check_line, count as count_tree};
 use reg_image::{image, load, write_image};
 use reg_model::Bytes;
@@ -28,7 +27,12 @@ fn first_image(alloc: Global, plan: KeyPlan) -> Result<Vec<u8>> {
 }
 
 /// Prints what a hive has that was loaded from so many bytes.
-fn print_counts(rt: &(impl Print + Clock), alloc: Global, hive: &Hive, first: usize) -> Result<()> {
+fn print_counts(
+    rt: &(impl Print + Clock),
+    alloc: Global,
+    hive: &PlainHive,
+    first: usize,
+) -> Result<()> {
     let again = image(alloc, hive, 0, 1)?;
     let line = check_line(alloc, count_tree(alloc, hive.tree())?)?;
     print!(rt;
@@ -52,7 +56,7 @@ fn measure_made(rt: &(impl Print + Clock), alloc: Global, plan: KeyPlan) -> Resu
     time_image(rt, alloc, &hive)
 }
 
-fn time_image(rt: &(impl Print + Clock), alloc: Global, hive: &Hive) -> Result<Vec<u8>> {
+fn time_image(rt: &(impl Print + Clock), alloc: Global, hive: &PlainHive) -> Result<Vec<u8>> {
     let start = Instant::now(rt)?;
     let bytes = image(alloc, hive, 0, 1)?;
     let made = PerCall::new(start.elapsed(rt)?, 1);
@@ -89,7 +93,7 @@ fn time_load(rt: &(impl Print + Clock), alloc: Global, bytes: &[u8], keys: usize
 fn measure_loaded(
     rt: &(impl Print + Clock),
     alloc: Global,
-    hive: &Hive,
+    hive: &PlainHive,
     start: Instant,
     keys: usize,
 ) -> Result<()> {
@@ -101,7 +105,12 @@ fn measure_loaded(
     Ok(())
 }
 
-fn time_walk(rt: &(impl Print + Clock), alloc: Global, hive: &Hive, keys: usize) -> Result<()> {
+fn time_walk(
+    rt: &(impl Print + Clock),
+    alloc: Global,
+    hive: &PlainHive,
+    keys: usize,
+) -> Result<()> {
     let start = Instant::now(rt)?;
     let counts = count_tree(alloc, hive.tree())?;
     let walked = PerCall::new(start.elapsed(rt)?, keys);

@@ -4,11 +4,11 @@ ghost use Rattle.reg_heap.specs.Trees.{IsSmallKey};
 ghost use Rattle.reg_tree.specs.BuiltKeys.{built_key};
 ghost use Rattle.reg_tree.specs.TreeKeys.{IsThere};
 
-use crate::support::{assert_told, dumped_after};
-use reg_calls::Hive;
+use crate::support::{Imaged, assert_told, dumped_after};
 use reg_dump::dump;
 use reg_heap::limits::SUBKEYS_LIMIT;
 use reg_names::{PATH_LIMIT, check_key_name};
+use reg_registry::PlainHive;
 use reg_tree::{NewKey, Node, Tree};
 use std::alloc::Global;
 use std::test::Fail;
@@ -45,9 +45,9 @@ fn built_tree(alloc: Global) -> Result<Tree, Fail> {
 }
 
 /// A hive of that tree.
-fn built_hive(alloc: Global) -> Result<Hive, Fail> {
+fn built_hive(alloc: Global) -> Result<PlainHive, Fail> {
     let tree = built_tree(alloc)?;
-    let hive = Hive::from_tree(alloc, tree)?;
+    let hive = PlainHive::from_tree(alloc, tree)?;
     Ok(hive)
 }
 
@@ -58,7 +58,7 @@ fn class_of(alloc: Global, tree: &Tree) -> Result<String, Fail> {
 }
 
 /// The dump of that hive after a script, the root's class, and how many entries its journal has.
-fn built_after(alloc: Global, hive: &mut Hive, script: &str) -> Result<String, Fail> {
+fn built_after<H: Imaged>(alloc: Global, hive: &mut H, script: &str) -> Result<String, Fail> {
     let mut text = dumped_after(alloc, hive, script)?;
     let class = class_of(alloc, hive.tree())?;
     write!(text, "{} {}", class.as_str(), hive.len())?;

@@ -1,8 +1,7 @@
 //! Dumps of trees that calls made, and hives that go on from their images. The wanted lines come from the dump's rules.
 use crate::support::{
-    assert_told, dumped, dumped_after, fresh_hive, image_of, loaded_bytes, replies,
+    Imaged, assert_told, dumped, dumped_after, fresh_hive, image_of, loaded_bytes, replies,
 };
-use reg_calls::Hive;
 use reg_dump::{DumpFault, check_line, count, dump};
 use reg_fixtures::{Failure, FakeWriter, narrow, put, script_of_keys, wide};
 use reg_tree::Tree;
@@ -57,7 +56,7 @@ fn checked_tree(alloc: Global, tree: &Tree) -> Result<String, Fail> {
 }
 
 /// The same of a hive after a script.
-fn checked_after(alloc: Global, hive: &mut Hive, script: &str) -> Result<String, Fail> {
+fn checked_after<H: Imaged>(alloc: Global, hive: &mut H, script: &str) -> Result<String, Fail> {
     let _text = dumped_after(alloc, hive, script)?;
     checked_tree(alloc, hive.tree())
 }
@@ -214,7 +213,12 @@ keys 3 values 1
 
 /// What dumping a hive to a writer answers: how many bytes were written before it failed, if it did, and whether the writer has a front
 /// of the whole text, and how long that is.
-fn sent(alloc: Global, hive: &Hive, whole: &str, mut writer: FakeWriter) -> Result<String, Fail> {
+fn sent<H: Imaged>(
+    alloc: Global,
+    hive: &H,
+    whole: &str,
+    mut writer: FakeWriter,
+) -> Result<String, Fail> {
     let answer = match dump(alloc, hive.tree(), &mut writer) {
         Ok(()) => "all".to_string(alloc)?,
         Err(DumpFault::Write { written }) => format!(in alloc; "{written}")?,
@@ -225,7 +229,7 @@ fn sent(alloc: Global, hive: &Hive, whole: &str, mut writer: FakeWriter) -> Resu
 }
 
 /// The same of writers that fail, or answer 0, after so many bytes.
-fn sent_within(alloc: Global, hive: &Hive, rooms: &[usize]) -> Result<String, Fail> {
+fn sent_within<H: Imaged>(alloc: Global, hive: &H, rooms: &[usize]) -> Result<String, Fail> {
     let whole = dumped(alloc, hive)?;
     let mut text = String::new(alloc);
     for room in rooms {
@@ -253,7 +257,7 @@ fn writers_of_dumps_that_fail(rt: HostRuntime) -> Result<(), Fail> {
 }
 
 /// The same of a writer that takes one byte a call, and of one whose flush fails.
-fn sent_in_pieces(alloc: Global, hive: &Hive) -> Result<String, Fail> {
+fn sent_in_pieces<H: Imaged>(alloc: Global, hive: &H) -> Result<String, Fail> {
     let whole = dumped(alloc, hive)?;
     let mut slow = wide(alloc);
     slow.step = 1;
@@ -289,7 +293,11 @@ fn long_script(alloc: Global) -> Result<String, Fail> {
 }
 
 /// What is told of a hive with that value by writers with so much room.
-fn long_within_after(alloc: Global, hive: &mut Hive, rooms: &[usize]) -> Result<String, Fail> {
+fn long_within_after<H: Imaged>(
+    alloc: Global,
+    hive: &mut H,
+    rooms: &[usize],
+) -> Result<String, Fail> {
     let script = long_script(alloc)?;
     let _text = dumped_after(alloc, hive, script.as_str())?;
     sent_within(alloc, hive, rooms)

@@ -1,7 +1,7 @@
 //! Images as they are made and written. The wanted bytes come from the format's tables.
-use crate::support::{assert_told, fresh_hive, image_of};
+use crate::support::{Imaged, assert_told, fresh_hive, image_of};
 use reg_fixtures::{Failure, FakeWriter, difference, digits, narrow, put_table, sum_of, wide};
-use reg_image::{image, write_image};
+use reg_image::write_image;
 use std::alloc::Global;
 use std::test::Fail;
 
@@ -31,10 +31,15 @@ fn images_of_fresh_hives(rt: HostRuntime) -> Result<(), Fail> {
     assert_told(&rt, fresh(rt.alloc()), "8192 8192")
 }
 
-/// The first bytes and the checksum of an image with a moment and a sequence number.
-fn block_with(alloc: Global, moment: u64, sequence: u32) -> Result<String, Fail> {
+/// The image of a fresh hive with a moment and a sequence number.
+fn fresh_with(alloc: Global, moment: u64, sequence: u32) -> Result<Vec<u8>, Fail> {
     let hive = fresh_hive(alloc)?;
-    let bytes = image(alloc, &hive, moment, sequence)?;
+    hive.imaged(alloc, moment, sequence)
+}
+
+/// Its first bytes and its checksum.
+fn block_with(alloc: Global, moment: u64, sequence: u32) -> Result<String, Fail> {
+    let bytes = fresh_with(alloc, moment, sequence)?;
     let first = digits(alloc, &bytes, 0, 20)?;
     let sum = digits(alloc, &bytes, 508, 4)?;
     Ok(format!(in alloc; "{} {}", first.as_str(), sum.as_str())?)

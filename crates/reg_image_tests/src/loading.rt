@@ -11,10 +11,15 @@ key = marks 8 class x security x0100048000000000000000000000000000000000 time 0
 keys 1 values 0
 ";
 
-/// The dump of a fresh hive, and what its image loads to.
-fn dump_and_load(alloc: Global) -> Result<String, Fail> {
+/// The dump of a fresh hive.
+fn dump_fresh(alloc: Global) -> Result<String, Fail> {
     let hive = fresh_hive(alloc)?;
-    let text = dumped(alloc, &hive)?;
+    dumped(alloc, &hive)
+}
+
+/// The same, and what its image loads to.
+fn dump_and_load(alloc: Global) -> Result<String, Fail> {
+    let text = dump_fresh(alloc)?;
     let bytes = image_of(alloc, "")?;
     let again = loaded_bytes(alloc, &bytes)?;
     Ok(format!(in alloc; "{}{}", text.as_str(), again.as_str())?)

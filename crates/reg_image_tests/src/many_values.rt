@@ -1,9 +1,9 @@
 //! A key of 16,384 values whose cells have more bytes than one carve may take, and the bins of what it loads to. The wanted sizes come
 //! from the format's tables.
-use crate::support::assert_told;
-use reg_calls::Hive;
+use crate::support::{Imaged, assert_told};
 use reg_fixtures::{drafted, sizes_but};
 use reg_image::load;
+use reg_registry::PlainHive;
 use std::alloc::{AllocError, Global};
 use std::test::Fail;
 
@@ -30,7 +30,7 @@ fn table_of_values(alloc: Global) -> Result<String, AllocError> {
 }
 
 /// The sizes of a hive's allocated cells, added up, and whether its bins have at most 1.05 times as many bytes.
-fn sizes(alloc: Global, hive: &Hive) -> Result<String, Fail> {
+fn sizes<H: Imaged>(alloc: Global, hive: &H) -> Result<String, Fail> {
     let arena = hive.tree().arena();
     let mut cells: u32 = 0;
     for size in &sizes_but(alloc, arena, 0)? {
@@ -44,7 +44,7 @@ fn sizes(alloc: Global, hive: &Hive) -> Result<String, Fail> {
 /// The same of what an image loads to.
 fn loaded_sizes(alloc: Global, bytes: &[u8]) -> Result<String, Fail> {
     let mut input = bytes;
-    let hive = load(alloc, &mut input)?;
+    let hive: PlainHive = load(alloc, &mut input)?;
     sizes(alloc, &hive)
 }
 

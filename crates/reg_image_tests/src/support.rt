@@ -1,8 +1,10 @@
 //! What the tests of images share: comparisons, the image of a hive on which a script was run, and what an image loads to, as text.
-//! Whoever owns a hive does nothing but hand it on: a function is the longer to check the more it does while it owns one.
-use reg_calls::Hive;
+//! Whoever owns a hive does nothing but hand it on, and who is lent one takes any that is [`Imaged`]: a function is the longer to check
+//! the more it does with a hive.
+use reg_callbacks::NoCallback;
 use reg_dump::dump;
 use reg_image::{image, load};
+use reg_registry::{PlainHive, Registry};
 use reg_script::run;
 use std::alloc::Global;
 use std::fmt::Debug;
@@ -26,24 +28,37 @@ pub fn assert_same<T: PartialEq + Debug>(rt: &impl Abort, value: &T, wanted: &T)
 const DESCRIPTOR: [u8; 20] = [1, 0, 4, 128, 0, 0, 0, 0, 0, 0, 0, 0, 0, 0, 0, 0, 0, 0, 0, 0];
 
 /// A hive of the root `ROOT` with that descriptor, made at moment 0.
-pub fn fresh_hive(alloc: Global) -> Result<Hive, Fail> {
-    let hive = Hive::new(alloc, b"ROOT", &DESCRIPTOR, 0)?;
+pub fn fresh_hive(alloc: Global) -> Result<PlainHive, Fail> {
+    let hive = PlainHive::new(alloc, b"ROOT", &DESCRIPTOR, 0)?;
     Ok(hive)
 }
 
-/// The replies of a script on a hive.
-fn ran(alloc: Global, hive: &mut Hive, script: &str) -> Result<String, Fail> {
-    let mut input = script.as_bytes();
-    let mut output = Vec::new(alloc);
-    run(alloc, &mut input, &mut output, hive)?;
-    Ok(String::from_utf8(output)?)
+/// What the tests do with a hive.
+pub trait Imaged: Registry {
+    /// The replies of a script on it.
+    fn ran(&mut self, alloc: Global, script: &str) -> Result<String, Fail>;
+
+    /// Its image with a moment and a sequence number.
+    fn imaged(&self, alloc: Global, moment: u64, sequence: u32) -> Result<Vec<u8>, Fail>;
+}
+
+impl Imaged for PlainHive {
+    fn ran(&mut self, alloc: Global, script: &str) -> Result<String, Fail> {
+        let mut input = script.as_bytes();
+        let mut output = Vec::new(alloc);
+        run(alloc, &mut input, &mut output, self)?;
+        Ok(String::from_utf8(output)?)
+    }
+
+    fn imaged(&self, alloc: Global, moment: u64, sequence: u32) -> Result<Vec<u8>, Fail> {
+        Ok(image(alloc, self, moment, sequence)?)
+    }
 }
 
 /// The image of a hive after a script, with moment 0 and sequence 1.
-fn image_after(alloc: Global, hive: &mut Hive, script: &str) -> Result<Vec<u8>, Fail> {
-    let _replies = ran(alloc, hive, script)?;
-    let bytes = image(alloc, hive, 0, 1)?;
-    Ok(bytes)
+fn image_after<H: Imaged>(alloc: Global, hive: &mut H, script: &str) -> Result<Vec<u8>, Fail> {
+    let _replies = hive.ran(alloc, script)?;
+    hive.imaged(alloc, 0, 1)
 }
 
 /// The image of a fresh hive after a script, with moment 0 and sequence 1.
@@ -53,21 +68,21 @@ pub fn image_of(alloc: Global, script: &str) -> Result<Vec<u8>, Fail> {
 }
 
 /// The dump of a hive.
-pub fn dumped(alloc: Global, hive: &Hive) -> Result<String, Fail> {
+pub fn dumped<H: Imaged>(alloc: Global, hive: &H) -> Result<String, Fail> {
     let mut text = Vec::new(alloc);
     dump(alloc, hive.tree(), &mut text)?;
     Ok(String::from_utf8(text)?)
 }
 
 /// The dump of a fresh hive after a script.
-pub fn dumped_after(alloc: Global, hive: &mut Hive, script: &str) -> Result<String, Fail> {
-    let _replies = ran(alloc, hive, script)?;
+pub fn dumped_after<H: Imaged>(alloc: Global, hive: &mut H, script: &str) -> Result<String, Fail> {
+    let _replies = hive.ran(alloc, script)?;
     dumped(alloc, hive)
 }
 
 /// The dump of what a reader's image loads to, or the fault's number.
 pub fn loaded<R: Read>(alloc: Global, input: &mut R) -> Result<String, Fail> {
-    match load(alloc, input) {
+    match load::<R, NoCallback>(alloc, input) {
         Ok(hive) => dumped(alloc, &hive),
         Err(fault) => Ok(format!(in alloc; "{}", fault.number())?),
     }
@@ -82,14 +97,14 @@ pub fn loaded_bytes(alloc: Global, bytes: &[u8]) -> Result<String, Fail> {
 /// The replies of a script on what an image loads to.
 pub fn replies(alloc: Global, bytes: &[u8], script: &str) -> Result<String, Fail> {
     let mut input = bytes;
-    let mut hive = load(alloc, &mut input)?;
-    ran(alloc, &mut hive, script)
+    let mut hive: PlainHive = load(alloc, &mut input)?;
+    hive.ran(alloc, script)
 }
 
 /// The dump of a hive, and whether its own image loads to the same.
-fn dumped_twice(alloc: Global, hive: &Hive) -> Result<String, Fail> {
+fn dumped_twice<H: Imaged>(alloc: Global, hive: &H) -> Result<String, Fail> {
     let mut text = dumped(alloc, hive)?;
-    let bytes = image(alloc, hive, 0, 1)?;
+    let bytes = hive.imaged(alloc, 0, 1)?;
     let again = loaded_bytes(alloc, &bytes)?;
     let is_same = again.as_str() == text.as_str();
     text.push_str(if is_same { "same" } else { "other" })?;
@@ -99,6 +114,6 @@ fn dumped_twice(alloc: Global, hive: &Hive) -> Result<String, Fail> {
 /// The dump of what an image loads to, and whether the new hive's own image loads to the same.
 pub fn loaded_twice(alloc: Global, bytes: &[u8]) -> Result<String, Fail> {
     let mut input = bytes;
-    let hive = load(alloc, &mut input)?;
+    let hive: PlainHive = load(alloc, &mut input)?;
     dumped_twice(alloc, &hive)
 }

@@ -226,6 +226,30 @@ takes_line old new b reply text before is steady fewer said adds cleared counts 
       passes = passes_then old mid new h.replies [] h.passes p;
     }
 
+-- what was gathered may be sent behind the bytes that were taken
+pub takes_settled : (a b : Position) (bytes gathered : List ℕ) (sent : Option (List ℕ)) (written : ℕ) → Takes a bytes b →
+    IsSettled b.sent sent b.gathered gathered b.written written →
+    Takes a bytes (record b { gathered = gathered; sent = sent; written = written })
+takes_settled a b bytes gathered sent written h settles =
+    let c = record b { gathered = gathered; sent = sent; written = written } in
+    let p : Passes b [] c = settled b c h.steady.count settles in
+    record {
+      steady = record {
+        no_feed = h.steady.no_feed;
+        short = h.steady.short;
+        few = h.steady.few;
+        one_more = h.steady.one_more;
+        count = omega (arith, p.counts);
+      };
+      ended = h.ended;
+      splits = h.splits;
+      are_lines = h.are_lines;
+      counts = h.counts;
+      replies = h.replies ++ [];
+      said = subst (λ (w : List ℕ). AreSaid h.ended a.stand w b.stand) (sym (append-nil h.replies)) h.said;
+      passes = passes_then a b c h.replies [] h.passes p;
+    }
+
 -- one more byte of some bytes
 pub takes_more : (a b c : Position) (bytes : List ℕ) (i : ℕ) → i < length bytes → Takes a (take i bytes) b →
     Takes b (get_or bytes i 0 ∷ []) c → Takes a (take (i + 1) bytes) c

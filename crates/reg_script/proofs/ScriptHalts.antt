@@ -270,6 +270,13 @@ halts_cut old new b reply text before fault is steady fewer said adds same cut =
     (halts_at among old new (b ∷ []) _ (after_line old new.stand text) (takes_feed old new.stand b reply text is steady fewer said adds)
     refl (subst (λ (f : ScriptFault). IsCut old.sent new.sent text old.written f) here.says here))
 
+-- the writer took a front of what was gathered, behind the bytes that were taken
+pub halts_passing : (old now new : Position) (bytes : List ℕ) (fault : ScriptFault) → Takes old bytes now →
+    new.stand.hive ≡ now.stand.hive → IsCut now.sent new.sent now.gathered now.written fault → Halts past old bytes new fault
+halts_passing old now new bytes fault h same cut =
+    subst (λ (f : ScriptFault). Halts past old bytes new f) (sym cut.says)
+    (halts_at past old new bytes _ now h same (subst (λ (f : ScriptFault). IsCut now.sent new.sent now.gathered now.written f) cut.says cut))
+
 -- the count of lines below its bound
 pub one_more_line : (lines sum new : ℕ) → lines < most_lines → sum ≡ min (lines + 1) 4294967295 → new ≡ sum → new ≡ lines + 1
 unfolding most_lines

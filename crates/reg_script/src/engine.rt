@@ -256,7 +256,8 @@ impl Script {
         Ok(())
     }
 
-    /// Reads to the end. Each read gives a byte at least, so more reads than the limits' bytes are too many.
+    /// Reads to the end, and passes on before each read what was gathered, since a read may wait for a line that is only written when
+    /// the replies have come. Each read gives a byte at least, so more reads than the limits' bytes are too many.
     fn read_all<R: Read, W: Write, C: Callback>(
         &mut self,
         hive: &mut Hive<C>,
@@ -278,6 +279,7 @@ impl Script {
             (position_of C.answers self.new hive.new (W.contents writer.new)) fault) }
     {
         for _read in 0..READS_LIMIT {
+            self.output.pass_on(writer)?;
             let Ok(count) = reader.read(chunk) else {
                 return Err(ScriptFault::Read);
             };
@@ -291,7 +293,8 @@ impl Script {
     }
 }
 
-/// Runs a script of registry calls on a hive and writes the replies, each on a line of its own. Where it succeeds, what
+/// Runs a script of registry calls on a hive and writes the replies, each on a line of its own; they are passed on before each read, so
+/// that calls can be made one by one. Where it succeeds, what
 /// was written is what the rules give for all that was read. A fault says what ended it early ([`ScriptFault`]); the
 /// replies to the lines before it stand, after `Write` just as many of their bytes as the writer took. Only lines that ended were
 /// answered: by an LF, or by the reader's end; after `Read` all of these. The hive is as those lines left it: no change is made

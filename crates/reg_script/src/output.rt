@@ -44,7 +44,8 @@ impl Output {
         self.flush(writer)
     }
 
-    /// Writes all that was gathered. A write that fails, or takes no byte, is a fault.
+    /// Writes all that was gathered and has the writer pass it on. A write or a flush that fails, or a write that takes no byte, is a
+    /// fault.
     pub fn flush<W: Write>(&mut self, writer: &mut W) -> Result<(), ScriptFault>
         ensures sent { OnOk result (Appends (W.contents writer.old) (W.contents writer.new) (string_bytes self.old.text)) }
         ensures empty { OnOk result (string_bytes self.new.text ≡ []) }
@@ -60,23 +61,26 @@ impl Output {
             });
         }
         self.text.clear();
-        Ok(())
-    }
-
-    /// Writes all that was gathered and has the writer pass it on.
-    pub fn finish<W: Write>(&mut self, writer: &mut W) -> Result<(), ScriptFault>
-        ensures sent { OnOk result (Appends (W.contents writer.old) (W.contents writer.new) (string_bytes self.old.text)) }
-        ensures empty { OnOk result (string_bytes self.new.text ≡ []) }
-        ensures err { IfErr result
-            (λ e. IsCut (W.contents writer.old) (W.contents writer.new) (string_bytes self.old.text) self.old.written e) }
-    {
-        self.flush(writer)?;
         match writer.flush() {
             Ok(()) => Ok(()),
             Err(_) => Err(ScriptFault::Write {
                 written: self.written,
             }),
         }
+    }
+
+    /// Writes what was gathered, if there is any, so that nothing is held back while a read waits for the next line.
+    pub fn pass_on<W: Write>(&mut self, writer: &mut W) -> Result<(), ScriptFault>
+        ensures empty { OnOk result (string_bytes self.new.text ≡ []) }
+        ensures sent { OnOk result (IsSettled (W.contents writer.old) (W.contents writer.new) (string_bytes self.old.text)
+            (string_bytes self.new.text) self.old.written self.new.written) }
+        ensures err { IfErr result
+            (λ e. IsCut (W.contents writer.old) (W.contents writer.new) (string_bytes self.old.text) self.old.written e) }
+    {
+        if self.text.is_empty() {
+            return Ok(());
+        }
+        self.flush(writer)
     }
 
     /// Writes all that was gathered once a script has ended so, unless a write has failed before. A write that fails now is
@@ -91,7 +95,7 @@ impl Output {
         if let Err(ScriptFault::Write { .. }) = ended {
             return ended;
         }
-        self.finish(writer)?;
+        self.flush(writer)?;
         ended
     }
 }

@@ -1,29 +1,27 @@
 //! Hives whose keys are watched.
-ghost use Rattle.std.specs.Prelude.{◌≡◌, ◌+◌, ◌<◌, IfOk, OnOk, [], length};
-ghost use Rattle.reg_calls.specs.HiveView.{view_of};
+ghost use Rattle.std.specs.Prelude.{◌≡◌, ◌+◌, ◌<◌, IfOk, OnOk};
 ghost use Rattle.reg_model.specs.declared.limits.TheConstants.{SESSIONS_LIMIT};
 
 use anyhow::{Result, bail};
-use reg_calls::Hive;
 use reg_model::filters::LAST_SET;
 use reg_model::{Bytes, Change};
+use reg_registry::Registry;
 use std::alloc::Global;
 
 /// Every right.
 const ALL_RIGHTS: u32 = 0xF_003F;
 
 /// A hive of one root, in which nothing was changed.
-pub fn new_hive(alloc: Global) -> Result<Hive>
-    ensures { IfOk result (λ hive. (view_of hive).journal ≡ []) }
+pub fn new_hive<H: Registry>(alloc: Global) -> Result<H>
+    ensures { IfOk result (λ hive. H.entries hive ≡ 0) }
 {
-    Ok(Hive::new(alloc, b"ROOT", &[1], 0)?)
+    Ok(H::fresh(alloc, b"ROOT", &[1], 0)?)
 }
 
 /// Makes a change of a session, which is accepted, and so is an entry more. The number of a handle that it opens is that of the entry.
-#[tactic(auto, using(reg_calls::proofs::AcceptedChanges::accepted))]
-pub fn apply_one(hive: &mut Hive, session: u8, change: Change) -> Result<()>
+pub fn apply_one<H: Registry>(hive: &mut H, session: u8, change: Change) -> Result<()>
     requires { session < SESSIONS_LIMIT }
-    ensures { OnOk result (length (view_of hive.new).journal ≡ length (view_of hive.old).journal + 1) }
+    ensures { OnOk result (H.entries hive.new ≡ H.entries hive.old + 1) }
 {
     if hive.apply(session, 1, change).status != 0 {
         bail!("a change was refused");
@@ -32,7 +30,7 @@ pub fn apply_one(hive: &mut Hive, session: u8, change: Change) -> Result<()>
 }
 
 /// Opens a handle of a session to the root, and answers its number.
-pub fn open_root(hive: &mut Hive, session: u8) -> Result<u64>
+pub fn open_root<H: Registry>(hive: &mut H, session: u8) -> Result<u64>
     requires { session < SESSIONS_LIMIT }
 {
     let handle = hive.len() as u64;
@@ -41,7 +39,13 @@ pub fn open_root(hive: &mut Hive, session: u8) -> Result<u64>
 }
 
 /// Opens a handle of a session to a key, which is made where it isn't there, and answers its number.
-pub fn open(alloc: Global, hive: &mut Hive, session: u8, above: u64, path: &str) -> Result<u64>
+pub fn open<H: Registry>(
+    alloc: Global,
+    hive: &mut H,
+    session: u8,
+    above: u64,
+    path: &str,
+) -> Result<u64>
     requires { session < SESSIONS_LIMIT }
 {
     let handle = hive.len() as u64;
@@ -56,7 +60,7 @@ pub fn open(alloc: Global, hive: &mut Hive, session: u8, above: u64, path: &str)
 }
 
 /// Asks so many times to be told of a value that is set, by a handle of a session.
-pub fn watch(hive: &mut Hive, session: u8, handle: u64, count: usize) -> Result<()>
+pub fn watch<H: Registry>(hive: &mut H, session: u8, handle: u64, count: usize) -> Result<()>
     requires { session < SESSIONS_LIMIT }
 {
     for _watch in 0..count {
@@ -90,9 +94,9 @@ pub fn sets(alloc: Global, handle: u64, count: usize) -> Result<Vec<Change>> {
 }
 
 /// Opens so many handles of session 0 to a key.
-pub fn open_many(
+pub fn open_many<H: Registry>(
     alloc: Global,
-    hive: &mut Hive,
+    hive: &mut H,
     above: u64,
     path: &str,
     count: usize,
@@ -136,7 +140,7 @@ pub fn sets_between(alloc: Global, asking: u64, handle: u64, count: usize) -> Re
 }
 
 /// Makes changes of session 0, each of which is accepted.
-pub fn apply_all(hive: &mut Hive, changes: Vec<Change>) -> Result<()> {
+pub fn apply_all<H: Registry>(hive: &mut H, changes: Vec<Change>) -> Result<()> {
     for change in changes {
         apply_one(hive, 0, change)?;
     }
@@ -144,7 +148,7 @@ pub fn apply_all(hive: &mut Hive, changes: Vec<Change>) -> Result<()> {
 }
 
 /// Takes all notices of a session, and answers how many there were, at most so many.
-pub fn take_all(hive: &mut Hive, session: u8, most: usize) -> usize
+pub fn take_all<H: Registry>(hive: &mut H, session: u8, most: usize) -> usize
     requires { session < SESSIONS_LIMIT }
 {
     let mut taken: usize = 0;

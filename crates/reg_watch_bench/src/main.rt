@@ -6,7 +6,8 @@
 //! a watch has a journal as long as the other one's: there each session asked, too, and then closed the handle that did. Without an
 //! argument it does the same with a few watches and prints counts alone, which are the same on every run.
 //!
-//! Its one contract: a hive is changed by calls that are all accepted, and each is an entry more.
+//! Its one contract: a hive is changed by calls that are all accepted, and each is an entry more. All of it but `main` is for any
+//! [`reg_registry::Registry`], since a function over the hive itself takes ten times as long to check.
 #![tactic(auto)]
 
 mod hives;
@@ -14,6 +15,7 @@ mod watches;
 
 use crate::watches::Size;
 use anyhow::{Result, bail};
+use reg_registry::PlainHive;
 use std::env;
 
 /// How often everything is measured.
@@ -24,13 +26,13 @@ fn main(rt: HostRuntime) -> Result<()> {
     let mut words = env::args(&rt)?;
     let _program = words.next();
     let Some(word) = words.next() else {
-        return watches::count(&rt, alloc, Size::SMALL);
+        return watches::count::<PlainHive>(&rt, alloc, Size::SMALL);
     };
     if word.as_str() != "measure" {
         bail!("the only word is: measure");
     }
     for _run in 0..RUNS {
-        watches::measure(&rt, alloc, Size::FULL)?;
+        watches::measure::<PlainHive>(&rt, alloc, Size::FULL)?;
     }
     Ok(())
 }

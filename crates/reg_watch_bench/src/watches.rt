@@ -5,8 +5,8 @@ use crate::hives::{
     sets_in_turn, take_all, watch,
 };
 use anyhow::Result;
-use reg_calls::Hive;
 use reg_model::{Bytes, Change};
+use reg_registry::Registry;
 use reg_workload::PerCall;
 use std::alloc::Global;
 use std::rt::Clock;
@@ -70,7 +70,7 @@ struct Times {
     by_many: Duration,
 }
 
-fn open_handles(alloc: Global, hive: &mut Hive, size: Size) -> Result<Handles> {
+fn open_handles<H: Registry>(alloc: Global, hive: &mut H, size: Size) -> Result<Handles> {
     let root = open_root(hive, 0)?;
     let watched = open(alloc, hive, 0, root, "W0")?;
     let other = open(alloc, hive, 0, root, "Other")?;
@@ -83,7 +83,7 @@ fn open_handles(alloc: Global, hive: &mut Hive, size: Size) -> Result<Handles> {
 }
 
 /// Lets each session watch a key of its own. Where the watches don't stay, the handle that asked is closed, which ends them.
-fn watch_by_all(alloc: Global, hive: &mut Hive, size: Size, stay: bool) -> Result<()> {
+fn watch_by_all<H: Registry>(alloc: Global, hive: &mut H, size: Size, stay: bool) -> Result<()> {
     for session in 0..size.sessions.min(64) {
         let root = open_root(hive, session)?;
         let path = format!(in alloc; "W{session}")?;
@@ -97,17 +97,17 @@ fn watch_by_all(alloc: Global, hive: &mut Hive, size: Size, stay: bool) -> Resul
 }
 
 /// How long it takes to make changes of session 0.
-fn time_all(rt: &impl Clock, hive: &mut Hive, changes: Vec<Change>) -> Result<Duration> {
+fn time_all<H: Registry>(rt: &impl Clock, hive: &mut H, changes: Vec<Change>) -> Result<Duration> {
     let start = Instant::now(rt)?;
     apply_all(hive, changes)?;
     Ok(start.elapsed(rt)?)
 }
 
 /// How long it takes to set a value of a key that nobody watches.
-fn time_sets(
+fn time_sets<H: Registry>(
     rt: &impl Clock,
     alloc: Global,
-    hive: &mut Hive,
+    hive: &mut H,
     handles: &Handles,
     size: Size,
 ) -> Result<Times> {
@@ -119,7 +119,12 @@ fn time_sets(
 }
 
 /// How long one set of a key takes.
-fn time_set(rt: &impl Clock, alloc: Global, hive: &mut Hive, handle: u64) -> Result<Duration> {
+fn time_set<H: Registry>(
+    rt: &impl Clock,
+    alloc: Global,
+    hive: &mut H,
+    handle: u64,
+) -> Result<Duration> {
     let change = set(alloc, handle)?;
     let start = Instant::now(rt)?;
     apply_one(hive, 0, change)?;
@@ -127,10 +132,10 @@ fn time_set(rt: &impl Clock, alloc: Global, hive: &mut Hive, handle: u64) -> Res
 }
 
 /// How long it takes to ask for a notification and then set a value of another key, as often as a session may have watches.
-fn time_between(
+fn time_between<H: Registry>(
     rt: &impl Clock,
     alloc: Global,
-    hive: &mut Hive,
+    hive: &mut H,
     handles: &Handles,
     size: Size,
 ) -> Result<Duration> {
@@ -139,7 +144,7 @@ fn time_between(
 }
 
 /// Makes the keys of a tree `T`, and watches the first ones by handles of their own.
-fn plant(alloc: Global, hive: &mut Hive, root: u64, size: Size) -> Result<()> {
+fn plant<H: Registry>(alloc: Global, hive: &mut H, root: u64, size: Size) -> Result<()> {
     let tree = open(alloc, hive, 0, root, "T")?;
     for number in 0..size.keys {
         let path = format!(in alloc; "key {number}")?;
@@ -154,7 +159,12 @@ fn plant(alloc: Global, hive: &mut Hive, root: u64, size: Size) -> Result<()> {
 }
 
 /// How long it takes to delete the tree.
-fn time_fall(rt: &impl Clock, alloc: Global, hive: &mut Hive, root: u64) -> Result<Duration> {
+fn time_fall<H: Registry>(
+    rt: &impl Clock,
+    alloc: Global,
+    hive: &mut H,
+    root: u64,
+) -> Result<Duration> {
     let change = Change::DeleteTree {
         handle: root,
         path: Bytes::from_slice(alloc, b"T")?,
@@ -166,10 +176,10 @@ fn time_fall(rt: &impl Clock, alloc: Global, hive: &mut Hive, root: u64) -> Resu
 
 /// The steps on sets without a watch, with their times: in a hive whose journal is as long as that with watches, since all was asked
 /// for and ended again. Last, how long requests with sets between take.
-fn run_ended(
+fn run_ended<H: Registry>(
     rt: &impl Clock,
     alloc: Global,
-    hive: &mut Hive,
+    hive: &mut H,
     size: Size,
 ) -> Result<(Times, Duration)> {
     let handles = open_handles(alloc, hive, size)?;
@@ -181,10 +191,10 @@ fn run_ended(
 
 /// The steps on sets beside watches of other keys, with their times; then a set that fires those of the first session, and last how
 /// long requests with sets between take, beside the watches of all other sessions.
-fn run_watched(
+fn run_watched<H: Registry>(
     rt: &impl Clock,
     alloc: Global,
-    hive: &mut Hive,
+    hive: &mut H,
     size: Size,
 ) -> Result<(Times, Duration, Duration)> {
     let handles = open_handles(alloc, hive, size)?;
@@ -196,14 +206,19 @@ fn run_watched(
 }
 
 /// The steps on a tree, with the time that its deletion takes.
-fn run_fall(rt: &impl Clock, alloc: Global, hive: &mut Hive, size: Size) -> Result<Duration> {
+fn run_fall<H: Registry>(
+    rt: &impl Clock,
+    alloc: Global,
+    hive: &mut H,
+    size: Size,
+) -> Result<Duration> {
     let root = open_root(hive, 0)?;
     plant(alloc, hive, root, size)?;
     time_fall(rt, alloc, hive, root)
 }
 
 /// Prints how many watches are pending, and how many notices session 0 was told.
-fn print_counts(rt: &impl Print, hive: &mut Hive, what: &str, size: Size) -> Result<()> {
+fn print_counts<H: Registry>(rt: &impl Print, hive: &mut H, what: &str, size: Size) -> Result<()> {
     let taken = take_all(hive, 0, size.watches.saturating_add(1));
     println!(rt;
         "{what}: {} pending, {taken} told, {} entries",
@@ -213,29 +228,29 @@ fn print_counts(rt: &impl Print, hive: &mut Hive, what: &str, size: Size) -> Res
     Ok(())
 }
 
-fn count_ended(rt: &(impl Print + Clock), alloc: Global, size: Size) -> Result<()> {
-    let mut hive = new_hive(alloc)?;
+fn count_ended<H: Registry>(rt: &(impl Print + Clock), alloc: Global, size: Size) -> Result<()> {
+    let mut hive: H = new_hive(alloc)?;
     let _times = run_ended(rt, alloc, &mut hive, size)?;
     print_counts(rt, &mut hive, "ended", size)
 }
 
-fn count_watched(rt: &(impl Print + Clock), alloc: Global, size: Size) -> Result<()> {
-    let mut hive = new_hive(alloc)?;
+fn count_watched<H: Registry>(rt: &(impl Print + Clock), alloc: Global, size: Size) -> Result<()> {
+    let mut hive: H = new_hive(alloc)?;
     let _times = run_watched(rt, alloc, &mut hive, size)?;
     print_counts(rt, &mut hive, "watched", size)
 }
 
-fn count_fall(rt: &(impl Print + Clock), alloc: Global, size: Size) -> Result<()> {
-    let mut hive = new_hive(alloc)?;
+fn count_fall<H: Registry>(rt: &(impl Print + Clock), alloc: Global, size: Size) -> Result<()> {
+    let mut hive: H = new_hive(alloc)?;
     let _time = run_fall(rt, alloc, &mut hive, size)?;
     print_counts(rt, &mut hive, "tree", size)
 }
 
 /// Prints counts of all steps.
-pub fn count(rt: &(impl Print + Clock), alloc: Global, size: Size) -> Result<()> {
-    count_ended(rt, alloc, size)?;
-    count_watched(rt, alloc, size)?;
-    count_fall(rt, alloc, size)
+pub fn count<H: Registry>(rt: &(impl Print + Clock), alloc: Global, size: Size) -> Result<()> {
+    count_ended::<H>(rt, alloc, size)?;
+    count_watched::<H>(rt, alloc, size)?;
+    count_fall::<H>(rt, alloc, size)
 }
 
 fn print_times(rt: &impl Print, what: &str, times: Times, size: Size) -> Result<()> {
@@ -259,15 +274,19 @@ fn print_between(rt: &impl Print, what: &str, between: Duration, size: Size) -> 
     Ok(())
 }
 
-fn measure_ended(rt: &(impl Print + Clock), alloc: Global, size: Size) -> Result<()> {
-    let mut hive = new_hive(alloc)?;
+fn measure_ended<H: Registry>(rt: &(impl Print + Clock), alloc: Global, size: Size) -> Result<()> {
+    let mut hive: H = new_hive(alloc)?;
     let (times, between) = run_ended(rt, alloc, &mut hive, size)?;
     print_times(rt, "without a watch", times, size)?;
     print_between(rt, "without others", between, size)
 }
 
-fn measure_watched(rt: &(impl Print + Clock), alloc: Global, size: Size) -> Result<()> {
-    let mut hive = new_hive(alloc)?;
+fn measure_watched<H: Registry>(
+    rt: &(impl Print + Clock),
+    alloc: Global,
+    size: Size,
+) -> Result<()> {
+    let mut hive: H = new_hive(alloc)?;
     let (times, firing, between) = run_watched(rt, alloc, &mut hive, size)?;
     print_times(rt, "with watches on other keys", times, size)?;
     println!(rt;
@@ -277,16 +296,16 @@ fn measure_watched(rt: &(impl Print + Clock), alloc: Global, size: Size) -> Resu
     print_between(rt, "beside others", between, size)
 }
 
-fn measure_fall(rt: &(impl Print + Clock), alloc: Global, size: Size) -> Result<()> {
-    let mut hive = new_hive(alloc)?;
+fn measure_fall<H: Registry>(rt: &(impl Print + Clock), alloc: Global, size: Size) -> Result<()> {
+    let mut hive: H = new_hive(alloc)?;
     let fallen = run_fall(rt, alloc, &mut hive, size)?;
     println!(rt; "tree deleted, {}", PerCall::new(fallen, 1))?;
     Ok(())
 }
 
 /// Prints the times of all steps.
-pub fn measure(rt: &(impl Print + Clock), alloc: Global, size: Size) -> Result<()> {
-    measure_ended(rt, alloc, size)?;
-    measure_watched(rt, alloc, size)?;
-    measure_fall(rt, alloc, size)
+pub fn measure<H: Registry>(rt: &(impl Print + Clock), alloc: Global, size: Size) -> Result<()> {
+    measure_ended::<H>(rt, alloc, size)?;
+    measure_watched::<H>(rt, alloc, size)?;
+    measure_fall::<H>(rt, alloc, size)
 }

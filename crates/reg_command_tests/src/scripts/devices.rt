@@ -143,7 +143,8 @@ fn told_of_three(alloc: Global, read: usize, write: usize, mute: bool) -> Result
     told(alloc, SCRIPT, REPLIES, reads, writes)
 }
 
-// its LFs are the bytes 12 and 32 of 43: the 3rd read finds one line told, the 6th two, and the 8th, which finds the end, no more
+// its LFs are the bytes 12 and 32 of 43: before the 3rd read the 11 bytes of the first reply are passed on, before the 6th the 2 of the
+// second, and after the 8th, which finds the end, the 26 of the last
 #[test]
 fn tells_the_read_that_failed(rt: HostRuntime) -> Result<(), Fail> {
     for (read, wanted) in [
@@ -151,10 +152,10 @@ fn tells_the_read_that_failed(rt: HostRuntime) -> Result<(), Fail> {
         (2, "1;error script 1\n;0;true;2;0"),
         (3, "1;error script 1\n;11;true;3;3"),
         (5, "1;error script 1\n;11;true;5;3"),
-        (6, "1;error script 1\n;13;true;6;3"),
-        (8, "1;error script 1\n;13;true;8;3"),
-        (9, "0;;39;true;8;8"),
-        (0, "0;;39;true;8;8"),
+        (6, "1;error script 1\n;13;true;6;4"),
+        (8, "1;error script 1\n;13;true;8;4"),
+        (9, "0;;39;true;8;10"),
+        (0, "0;;39;true;8;10"),
     ] {
         assert_told(&rt, told_of_three(rt.alloc(), read, 0, false), wanted)?;
     }
@@ -164,10 +165,12 @@ fn tells_the_read_that_failed(rt: HostRuntime) -> Result<(), Fail> {
 #[test]
 fn tells_the_write_that_failed(rt: HostRuntime) -> Result<(), Fail> {
     for (write, wanted) in [
-        (1, "1;error script 2\n;0;true;8;1"),
-        (2, "1;error script 2\n;5;true;8;2"),
-        (8, "1;error script 2\n;35;true;8;8"),
-        (9, "0;;39;true;8;8"),
+        (1, "1;error script 2\n;0;true;2;1"),
+        (2, "1;error script 2\n;5;true;2;2"),
+        (4, "1;error script 2\n;11;true;5;4"),
+        (8, "1;error script 2\n;28;true;8;8"),
+        (10, "1;error script 2\n;38;true;8;10"),
+        (11, "0;;39;true;8;10"),
     ] {
         for mute in [false, true] {
             assert_told(&rt, told_of_three(rt.alloc(), 0, write, mute), wanted)?;
@@ -176,13 +179,14 @@ fn tells_the_write_that_failed(rt: HostRuntime) -> Result<(), Fail> {
     Ok(())
 }
 
-// the replies before a read that failed are written, and where that fails it is what is told
+// the replies before a read that fails are passed on before it, and where that fails it is what is told
 #[test]
 fn tells_the_write_after_a_failed_read(rt: HostRuntime) -> Result<(), Fail> {
     for (write, wanted) in [
-        (1, "1;error script 2\n;0;true;6;1"),
-        (3, "1;error script 2\n;10;true;6;3"),
-        (4, "1;error script 1\n;13;true;6;3"),
+        (1, "1;error script 2\n;0;true;2;1"),
+        (3, "1;error script 2\n;10;true;2;3"),
+        (4, "1;error script 2\n;11;true;5;4"),
+        (5, "1;error script 1\n;13;true;6;4"),
     ] {
         assert_told(&rt, told_of_three(rt.alloc(), 6, write, false), wanted)?;
     }
@@ -191,7 +195,7 @@ fn tells_the_write_after_a_failed_read(rt: HostRuntime) -> Result<(), Fail> {
 
 /// What is told of 40,000 lines, 40,000 bytes a read and 4,096 a write, where these calls fail.
 fn told_of_many(alloc: Global, read: usize, write: usize) -> Result<String, Fail> {
-    let script = "frob\n".repeat(alloc, 40_000)?;
+    let script = "x\n".repeat(alloc, 40_000)?;
     let replies = "bad\n".repeat(alloc, 40_000)?;
     let reads = Habits {
         step: 40_000,
@@ -206,16 +210,16 @@ fn told_of_many(alloc: Global, read: usize, write: usize) -> Result<String, Fail
     told(alloc, script.as_str(), replies.as_str(), reads, writes)
 }
 
-// replies are written 65,536 bytes at a time: first once the third read is in, and again once the fifth is
+// of 80,000 bytes of replies to a read 65,536 are written as soon as there are so many, and the rest before the next read
 #[test]
 fn tells_failures_of_a_long_script(rt: HostRuntime) -> Result<(), Fail> {
     for (read, write, wanted) in [
-        (2, 0, "1;error script 1\n;32000;true;2;8"),
-        (6, 0, "1;error script 1\n;160000;true;6;40"),
-        (0, 1, "1;error script 2\n;0;true;3;1"),
-        (0, 17, "1;error script 2\n;65536;true;5;17"),
-        (0, 40, "1;error script 2\n;159744;true;6;40"),
-        (7, 41, "0;;160000;true;6;40"),
+        (2, 0, "1;error script 1\n;80000;true;2;20"),
+        (3, 0, "1;error script 1\n;160000;true;3;40"),
+        (0, 1, "1;error script 2\n;0;true;1;1"),
+        (0, 17, "1;error script 2\n;65536;true;1;17"),
+        (0, 40, "1;error script 2\n;157824;true;2;40"),
+        (4, 41, "0;;160000;true;3;40"),
     ] {
         assert_told(&rt, told_of_many(rt.alloc(), read, write), wanted)?;
     }
