@@ -1,4 +1,6 @@
 //! A host that refuses a step: whatever that is, the file is as it was, and nothing is left beside it.
+ghost use Rattle.std.specs.Prelude.{◌≤◌, IfOk};
+
 use crate::support::Deed::{Block, Edit, Keep, Names, Run, Same};
 use crate::support::{assert_told, new_folder, tale, tale_in};
 use reg_files::Lockable;
@@ -51,7 +53,9 @@ fn refusal() -> io::Error {
 
 impl RefusingFile {
     /// How many of these bytes may pass, where a limit is set.
-    fn room(&self, limit: Option<usize>, wanted: usize) -> io::Result<usize> {
+    fn room(&self, limit: Option<usize>, wanted: usize) -> io::Result<usize>
+        ensures { IfOk result (λ room. room ≤ wanted) }
+    {
         match limit {
             Some(limit) if self.done >= limit => Err(refusal()),
             Some(limit) => Ok(wanted.min(limit - self.done)),
