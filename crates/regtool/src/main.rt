@@ -7,7 +7,7 @@
 
 ghost use Rattle.std.specs.Prelude.{◌≡◌, ◌≢◌, codes};
 
-pub use reg_command::tool;
+pub use reg_files::{Input, file_tool};
 use std::io::ErrorKind;
 use std::process::ExitCode;
 use std::{env, io};
@@ -38,8 +38,8 @@ fn main(rt: HostRuntime) -> ExitCode {
             return ExitCode::from(status);
         }
     };
-    let mut input = rt.reader();
+    let mut input = Input::new(alloc, rt.reader());
     let mut output = io::writer(&rt);
     let mut errors = rt.stderr();
-    ExitCode::from(tool(alloc, words, &mut input, &mut output, &mut errors))
+    ExitCode::from(file_tool(alloc, &rt, words, &mut input, &mut output, &mut errors))
 }

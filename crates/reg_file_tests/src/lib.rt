@@ -1,0 +1,14 @@
+//! Tests of the tool on files: with files of the system in a folder of their own, and with a host that refuses a step. There is nothing
+//! here but tests, and so no contract.
+//!
+//! The wanted texts and bytes come from the manual and from the format's tables.
+#![tactic(auto)]
+
+#[cfg(test)]
+mod commands;
+#[cfg(test)]
+mod edits;
+#[cfg(test)]
+mod refusals;
+#[cfg(test)]
+mod support;

@@ -1,0 +1,328 @@
+//! A host that refuses a step: whatever that is, the file is as it was, and nothing is left beside it.
+ghost use Rattle.std.specs.Prelude.{◌≤◌, IfOk};
+
+use crate::support::Deed::{Block, Edit, Keep, Names, Run, Same};
+use crate::support::{assert_told, new_folder, tale, tale_in};
+use reg_files::Lockable;
+use std::alloc::{AllocError, Allocator, Global};
+use std::fs::{File, Metadata, OpenFile, OpenOptions, Permissions, TryLockError};
+use std::io::{ErrorKind, Read, Seek, SeekFrom, Write};
+use std::path::PathBuf;
+use std::rt::{Clock, Files};
+use std::test::Fail;
+use std::time::Duration;
+use std::{fs, io};
+
+/// What a host refuses.
+#[derive(Clone, Copy, Debug, PartialEq, Eq)]
+enum Refused {
+    Nothing,
+    Clock,
+    Create,
+    Permit,
+    /// Writes past so many bytes.
+    Write(usize),
+    Sync,
+    Rename,
+    /// To open a folder.
+    Folder,
+    /// Reads past so many bytes.
+    Read(usize),
+    /// The lock, as where another one has it.
+    Lock,
+}
+
+/// The system's host, but for what it refuses.
+#[derive(Drop)]
+struct Refusing<'a> {
+    rt: &'a HostRuntime,
+    refused: Refused,
+}
+
+/// A file of such a host.
+#[derive(Drop)]
+struct RefusingFile {
+    file: File,
+    refused: Refused,
+    done: usize,
+}
+
+fn refusal() -> io::Error {
+    io::Error::from(ErrorKind::StorageFull)
+}
+
+impl RefusingFile {
+    /// How many of these bytes may pass, where a limit is set.
+    fn room(&self, limit: Option<usize>, wanted: usize) -> io::Result<usize>
+        ensures { IfOk result (λ room. room ≤ wanted) }
+    {
+        match limit {
+            Some(limit) if self.done >= limit => Err(refusal()),
+            Some(limit) => Ok(wanted.min(limit - self.done)),
+            None => Ok(wanted),
+        }
+    }
+}
+
+impl Read for RefusingFile {
+    fn read(&mut self, buf: &mut [u8]) -> io::Result<usize> {
+        let limit = match self.refused {
+            Refused::Read(limit) => Some(limit),
+            _ => None,
+        };
+        let room = self.room(limit, buf.len())?;
+        let count = self.file.read(&mut buf[..room])?;
+        self.done = self.done.saturating_add(count);
+        Ok(count)
+    }
+}
+
+impl Write for RefusingFile {
+    fn write(&mut self, buf: &[u8]) -> io::Result<usize> {
+        let limit = match self.refused {
+            Refused::Write(limit) => Some(limit),
+            _ => None,
+        };
+        let room = self.room(limit, buf.len())?;
+        let count = self.file.write(&buf[..room])?;
+        self.done = self.done.saturating_add(count);
+        Ok(count)
+    }
+
+    fn flush(&mut self) -> io::Result<()> {
+        self.file.flush()
+    }
+}
+
+impl Seek for RefusingFile {
+    fn seek(&mut self, to: SeekFrom) -> io::Result<u64> {
+        self.file.seek(to)
+    }
+}
+
+impl OpenFile for RefusingFile {
+    fn metadata(&self) -> io::Result<Metadata> {
+        self.file.metadata()
+    }
+
+    fn set_len(&self, size: u64) -> io::Result<()> {
+        self.file.set_len(size)
+    }
+
+    fn sync_all(&self) -> io::Result<()> {
+        if self.refused == Refused::Sync {
+            return Err(refusal());
+        }
+        self.file.sync_all()
+    }
+
+    fn sync_data(&self) -> io::Result<()> {
+        self.file.sync_data()
+    }
+
+    fn set_permissions(&self, perm: Permissions) -> io::Result<()> {
+        if self.refused == Refused::Permit {
+            return Err(refusal());
+        }
+        self.file.set_permissions(perm)
+    }
+}
+
+impl Lockable for RefusingFile {
+    fn try_lock(&self) -> Result<(), TryLockError> {
+        if self.refused == Refused::Lock {
+            return Err(TryLockError::WouldBlock);
+        }
+        self.file.try_lock()
+    }
+}
+
+impl Clock for Refusing<'_> {
+    fn monotonic(&self) -> io::Result<Duration> {
+        self.rt.monotonic()
+    }
+
+    fn since_1970(&self) -> io::Result<Duration> {
+        if self.refused == Refused::Clock {
+            return Err(refusal());
+        }
+        Ok(Duration::from_secs(0))
+    }
+}
+
+impl Files for Refusing<'_> {
+    type File = RefusingFile;
+
+    type Dir = <HostRuntime as Files>::Dir;
+
+    fn open_file(&self, how: &OpenOptions, path: &str) -> io::Result<RefusingFile> {
+        if self.refused == Refused::Create && how.asks_create_new() {
+            return Err(refusal());
+        }
+        if self.refused == Refused::Folder
+            && fs::metadata(self.rt, path).is_ok_and(|m| m.is_dir())
+        {
+            return Err(refusal());
+        }
+        Ok(RefusingFile {
+            file: self.rt.open_file(how, path)?,
+            refused: self.refused,
+            done: 0,
+        })
+    }
+
+    fn open_dir(&self, path: &str) -> io::Result<Self::Dir> {
+        self.rt.open_dir(path)
+    }
+
+    fn metadata(&self, path: &str) -> io::Result<Metadata> {
+        Files::metadata(self.rt, path)
+    }
+
+    fn symlink_metadata(&self, path: &str) -> io::Result<Metadata> {
+        self.rt.symlink_metadata(path)
+    }
+
+    fn copy(&self, from: &str, to: &str) -> io::Result<u64> {
+        self.rt.copy(from, to)
+    }
+
+    fn rename(&self, from: &str, to: &str) -> io::Result<()> {
+        if self.refused == Refused::Rename {
+            return Err(refusal());
+        }
+        self.rt.rename(from, to)
+    }
+
+    fn remove_file(&self, path: &str) -> io::Result<()> {
+        self.rt.remove_file(path)
+    }
+
+    fn create_dir(&self, path: &str) -> io::Result<()> {
+        self.rt.create_dir(path)
+    }
+
+    fn remove_dir(&self, path: &str) -> io::Result<()> {
+        self.rt.remove_dir(path)
+    }
+
+    fn remove_dir_all<B: Allocator>(&self, alloc: B, path: &str) -> io::Result<()> {
+        self.rt.remove_dir_all(alloc, path)
+    }
+
+    fn canonicalize<B: Allocator>(&self, alloc: B, path: &str) -> io::Result<PathBuf<B>> {
+        self.rt.canonicalize(alloc, path)
+    }
+}
+
+const SCRIPT: &str = "root 983103\ncreate 0 =A 983103\n";
+
+/// What an edit with `--now` under a refusal tells, whether the file is as it was, and what is in its folder.
+fn edited(rt: &HostRuntime, refused: Refused) -> Result<String, Fail> {
+    let folder = new_folder(rt)?;
+    tale_in(rt, rt, folder.as_str(), &[Run("regtool new @/a")])?;
+    let deeds = [
+        Keep("a"),
+        Edit("regtool edit @/a --now", SCRIPT),
+        Same("a"),
+        Names,
+    ];
+    let told = tale_in(rt, &Refusing { rt, refused }, folder.as_str(), &deeds)?;
+    fs::remove_dir_all(rt, folder.as_str())?;
+    Ok(told)
+}
+
+/// Before the script nothing is told of it.
+#[test]
+fn leaves_the_file_before_the_script(rt: HostRuntime) -> Result<(), Fail> {
+    let rows = [
+        (
+            Refused::Clock,
+            "1;error clock @/a: no storage space\n;|same true|a |",
+        ),
+        (Refused::Lock, "1;error busy @/a\n;|same true|a |"),
+        (
+            Refused::Read(0),
+            "1;error read @/a: no storage space\n;|same true|a |",
+        ),
+        (
+            Refused::Read(5000),
+            "1;error read @/a: no storage space\n;|same true|a |",
+        ),
+    ];
+    for (refused, wanted) in rows {
+        assert_told(&rt, edited(&rt, refused), wanted)?;
+    }
+    Ok(())
+}
+
+/// What an edit tells whose file is not saved, since this step was refused.
+fn unsaved(alloc: Global, step: &str) -> Result<String, AllocError> {
+    format!(in alloc;
+        "1;error {step} @/a: no storage space\n;0 handle 0\n0 handle 1 disposition 1\n|same true|a |"
+    )
+}
+
+#[test]
+fn leaves_the_file_whatever_is_refused(rt: HostRuntime) -> Result<(), Fail> {
+    let rows = [
+        (Refused::Create, "create"),
+        (Refused::Permit, "permit"),
+        (Refused::Write(0), "write"),
+        (Refused::Write(8191), "write"),
+        (Refused::Sync, "sync"),
+        (Refused::Rename, "rename"),
+    ];
+    for (refused, step) in rows {
+        let wanted = unsaved(rt.alloc(), step)?;
+        assert_told(&rt, edited(&rt, refused), wanted.as_str())?;
+    }
+    Ok(())
+}
+
+/// The new file took its place, and may be lost where the machine stops.
+#[test]
+fn tells_a_folder_that_is_not_synced(rt: HostRuntime) -> Result<(), Fail> {
+    let wanted = "1;error sync folder of @/a: no storage space\n;\
+        0 handle 0\n0 handle 1 disposition 1\n|same false|a |";
+    assert_told(&rt, edited(&rt, Refused::Folder), wanted)
+}
+
+/// A new file that can't be written is taken away.
+#[test]
+fn leaves_no_part_of_a_new_file(rt: HostRuntime) -> Result<(), Fail> {
+    let rows = [
+        (Refused::Create, "1;error create @/a: no storage space\n;|"),
+        (Refused::Write(0), "1;error write @/a: no storage space\n;|"),
+        (
+            Refused::Write(4096),
+            "1;error write @/a: no storage space\n;|",
+        ),
+        (Refused::Sync, "1;error sync @/a: no storage space\n;|"),
+    ];
+    for (refused, wanted) in rows {
+        let host = Refusing { rt: &rt, refused };
+        assert_told(
+            &rt,
+            tale(&rt, &host, &[Run("regtool new @/a"), Names]),
+            wanted,
+        )?;
+    }
+    Ok(())
+}
+
+/// The clock of that host stands at the beginning of 1970.
+#[test]
+fn takes_the_moment_of_the_clock(rt: HostRuntime) -> Result<(), Fail> {
+    let host = Refusing {
+        rt: &rt,
+        refused: Refused::Nothing,
+    };
+    let deeds = [
+        Run("regtool new @/a"),
+        Edit("regtool edit @/a --now", SCRIPT),
+        Block("a"),
+    ];
+    let wanted = "0;;|0;;0 handle 0\n0 handle 1 disposition 1\n|2 2 116444736000000000|";
+    assert_told(&rt, tale(&rt, &host, &deeds), wanted)
+}

@@ -1,0 +1,7 @@
+pub mod AskedWords
+pub mod CommandShapes
+pub mod EditSteps
+pub mod ImageBins
+pub mod OtherBins
+pub mod ToolLines
+pub mod UnderstoodWords

@@ -1,0 +1,108 @@
+-- The command line of the tool on files (this project's own).
+use Rattle.std.specs.Prelude.{ℕ, ◌<◌, ◌≡◌, ◌≢◌, ◌↔◌, List, [], ◌∷◌, codes, map, option_map, unwrap_or, Option, Some, None, Bool, true, false}
+use Rattle.std.specs.Str.Parse.{IsNumeral, digits_value, without_leading_plus}
+use Rattle.clap.specs.Words.{App, Kinds, Row, Rule, Text, all_of, fault_of, first_of, new_app, new_rule, one_of, subcommand_of, with_rule, with_subcommand}
+use Rattle.clap.specs.Lexer.{usize_max}
+use Rattle.clap.specs.declared.builder.action.ArgAction.TheVariants as action
+use Rattle.clap.specs.declared.builder.value_parser.ValueParser.TheVariants as parser
+use Rattle.reg_command.specs.CommandLines.{required, run_command}
+use Rattle.reg_files.specs.declared.words.Begin.{Begin}
+use Rattle.reg_files.specs.declared.words.Begin.TheVariants.{Kept, Now, At}
+use Rattle.reg_files.specs.declared.words.Request.{Request}
+use Rattle.reg_files.specs.declared.words.Request.TheVariants.{Dump, Check, New, Edit}
+
+-- `clap`'s command `regtool`, one of whose subcommands must be there: `run`, `dump` and `check` as without files, where `dump` may have a
+-- file and `check` files; `new` with a file and the option `--name`; and `edit` with a file, the options `--output` and `--at`, which is a
+-- number of 64 bits, and the flags `--now` and `--dry-run`
+abbrev pub option_rule : Text → Rule
+option_rule name = record (new_rule name) { long = Some name; value_names = 1 }
+
+abbrev pub flag_rule : Text → Rule
+flag_rule name = record (new_rule name) { long = Some name; action = Some action.SetTrue }
+
+abbrev pub file_rule : Bool → Rule
+file_rule is_required = record (new_rule (codes "file")) { value_names = 1; required = is_required }
+
+abbrev pub files_rule : Rule
+files_rule = record (new_rule (codes "files")) {
+  value_names = 1;
+  action = Some action.Append;
+  range = Some (record { start_inclusive = 1; end_inclusive = usize_max });
+}
+
+abbrev pub at_rule : Rule
+at_rule = record (option_rule (codes "at")) { parser = Some (parser.Unsigned 0 18446744073709551615) }
+
+abbrev pub dump_command : App
+dump_command = with_rule (new_app (codes "dump")) (file_rule false)
+
+abbrev pub check_command : App
+check_command = with_rule (new_app (codes "check")) files_rule
+
+abbrev pub new_command : App
+new_command = with_rule (with_rule (new_app (codes "new")) (file_rule true)) (option_rule (codes "name"))
+
+abbrev pub edit_command : App
+edit_command =
+    with_rule
+    (with_rule (with_rule (with_rule (with_rule (new_app (codes "edit")) (file_rule true)) (option_rule (codes "output"))) (flag_rule (codes "now"))) at_rule)
+    (flag_rule (codes "dry-run"))
+
+unfoldable pub regtool : App
+regtool =
+    with_subcommand
+    (with_subcommand
+    (with_subcommand (with_subcommand (with_subcommand (required (new_app (codes "regtool"))) run_command.top) dump_command.top) check_command.top)
+    new_command.top)
+    edit_command.top
+
+-- the kinds of fault that `clap` finds in the words of a command line, the program's name first: none where it takes them
+unfoldable pub faults_in : List (List ℕ) → Kinds
+faults_in words = fault_of regtool words
+
+-- the subcommand that `clap` finds in the words, and the matches of its options
+unfoldable pub found_in : List (List ℕ) → Option (Text × List Row)
+found_in words = subcommand_of regtool words
+
+-- a text writes this number of 64 bits in decimal digits
+pub record IsMoment (text : List ℕ) (number : ℕ) : Type 0 where
+  pub numeral : IsNumeral 10 (without_leading_plus text)
+  pub small : digits_value 10 (without_leading_plus text) < 18446744073709551616
+  pub value : number ≡ digits_value 10 (without_leading_plus text)
+
+-- the flag of that name was given
+abbrev pub IsSet : Text → List Row → Type 0
+IsSet name rows = first_of name rows ≡ Some (codes "true")
+
+-- the moment that the matches of `edit` ask for: that of the file, of the clock, or one that is given
+abbrev pub AsksToBegin : List Row → Begin → Type 0
+AsksToBegin rows Kept = (IsSet (codes "now") rows → ⊥) × (one_of (codes "at") rows ≡ None)
+AsksToBegin rows Now = IsSet (codes "now") rows × (one_of (codes "at") rows ≡ None)
+AsksToBegin rows (At moment) =
+    (IsSet (codes "now") rows → ⊥) × ((text : Text) × (one_of (codes "at") rows ≡ Some text) × IsMoment text moment)
+
+-- what a subcommand with its matches asks for of files
+abbrev pub Asks : Text × List Row → Request → Type 0
+Asks found (Dump file) = (found.0 ≡ codes "dump") × (first_of (codes "file") found.1 ≡ Some file.now)
+Asks found (Check files) = (found.0 ≡ codes "check") × (all_of (codes "files") found.1 ≡ Some (map (λ file. file.now) files.items))
+Asks found (New file name) =
+    (found.0 ≡ codes "new") × (first_of (codes "file") found.1 ≡ Some file.now)
+    × (name.now ≡ unwrap_or (first_of (codes "name") found.1) (codes "ROOT"))
+Asks found (Edit edit) =
+    (found.0 ≡ codes "edit") × (first_of (codes "file") found.1 ≡ Some edit.file.now)
+    × (option_map (λ output. output.now) edit.output ≡ first_of (codes "output") found.1) × AsksToBegin found.1 edit.begin
+    × ((edit.dry_run ≡ true) ↔ IsSet (codes "dry-run") found.1)
+
+-- what a subcommand asks for, if there is one
+abbrev pub AsksIn : Option (Text × List Row) → Request → Type 0
+AsksIn (Some found) request = Asks found request
+AsksIn None request = ⊥
+
+-- these words are a command line of the tool on files, which asks for that: `clap` takes them
+pub record IsCommandLine (words : List (List ℕ)) (request : Request) : Type 0 where
+  pub taken : faults_in words ≡ []
+  pub asks : AsksIn (found_in words) request
+
+-- these words are no command line of it: whatever is asked, they don't ask for it
+abbrev pub AsksNothing : List (List ℕ) → Type 0
+AsksNothing words = (request : Request) → IsCommandLine words request → ⊥

@@ -1,0 +1,6 @@
+pub mod CommandLines
+pub mod Edits
+pub mod Inputs
+pub mod Serving
+pub mod Moments
+pub mod Internal

@@ -1,0 +1,44 @@
+-- What the tool on files did (this project's own).
+use Rattle.std.specs.Prelude.{◌≡◌, ℕ, List, Option, Some, None}
+use Rattle.reg_command.specs.CommandLines.{AsksNothing as AsksNothingOfTool}
+use Rattle.reg_command.specs.Failures.{IsDone, IsStopped, IsRefused as IsRefusedByTool}
+use Rattle.reg_files.specs.CommandLines.{AsksNothing, IsCommandLine}
+use Rattle.reg_files.specs.Edits.{Edits, IsUntouched}
+use Rattle.reg_files.specs.declared.words.Begin.{Begin}
+use Rattle.reg_files.specs.declared.words.Begin.TheVariants.{Kept, Now, At}
+use Rattle.reg_files.specs.declared.words.Request.{Request}
+use Rattle.reg_files.specs.declared.words.Request.TheVariants.{Dump, Check, New, Edit}
+
+-- the moment that is given for the one that is asked for: none for that of the file, and for that of the clock any
+abbrev pub IsGiven : Begin → Option ℕ → Type 0
+IsGiven Kept given = given ≡ None
+IsGiven Now given = (moment : ℕ) × (given ≡ Some moment)
+IsGiven (At moment) given = given ≡ Some moment
+
+-- what a request did with the input and the output, where the status is 0: an edit ran the script on the hive in some bytes, those of the
+-- file, and the others read nothing
+abbrev pub Serves : Request → (unread left before after : Option (List ℕ)) → Type 0
+Serves (Dump file) unread left before after = left ≡ unread
+Serves (Check files) unread left before after = left ≡ unread
+Serves (New file name) unread left before after = IsUntouched unread left before after
+Serves (Edit edit) unread left before after =
+    (bytes : List ℕ) × (given : Option ℕ) × (saved : Option (List ℕ)) × IsGiven edit.begin given × Edits bytes given saved unread left before after
+
+-- what the words ask for of files was done
+pub record IsServed (words : List (List ℕ)) (unread left before after : Option (List ℕ)) : Type 0 where
+  pub request : Request
+  pub command : IsCommandLine words request
+  pub serves : Serves request unread left before after
+
+-- these words ask for nothing, and nothing was touched
+pub record IsRefused (words : List (List ℕ)) (unread left before after : Option (List ℕ)) : Type 0 where
+  pub no_tool : AsksNothingOfTool words
+  pub no_files : AsksNothing words
+  pub untouched : IsUntouched unread left before after
+
+-- what `tool` says of a status
+pub record IsOfTool (status : ℕ) (words : List (List ℕ)) (unread left before after told told_after : Option (List ℕ)) (failed now_failed : Option ℕ) : Type 0
+  where
+    pub answered : status ≡ 0 → IsDone words unread left before after told told_after
+    pub stopped : status ≡ 1 → IsStopped words unread left before after told told_after failed now_failed
+    pub usage : status ≡ 2 → IsRefusedByTool words unread left before after

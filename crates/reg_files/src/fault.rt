@@ -1,0 +1,115 @@
+//! What ends a command on a file, and its text.
+
+use crate::edits::{EditFault, FreshFault};
+use std::alloc::AllocError;
+use std::fmt::{Display, Formatter};
+use std::io::ErrorKind;
+use std::{fmt, io};
+use thiserror::Error;
+
+/// A step on a file that the system can refuse.
+#[derive(Clone, Copy, Debug, PartialEq, Eq)]
+pub enum Step {
+    /// The host's clock is asked.
+    Clock,
+    /// The file is looked for, through links.
+    Find,
+    Open,
+    Lock,
+    Read,
+    /// A file is made anew: `new`'s own, or the temporary one beside the file that is saved.
+    Create,
+    /// The new file gets the permissions of the one that it takes the place of.
+    Permit,
+    Write,
+    Sync,
+    Rename,
+    /// The folder is synced, after the rename.
+    SyncFolder,
+}
+
+impl Step {
+    /// Whether it is a step of saving, on the file that is written.
+    pub fn saves(self) -> bool {
+        match self {
+            Step::Clock | Step::Find | Step::Open | Step::Lock | Step::Read => false,
+            Step::Create
+            | Step::Permit
+            | Step::Write
+            | Step::Sync
+            | Step::Rename
+            | Step::SyncFolder => true,
+        }
+    }
+}
+
+impl Display for Step {
+    fn fmt<W: fmt::Write>(&self, f: &mut Formatter<W>) -> fmt::Result {
+        f.pad(match self {
+            Step::Clock => "clock",
+            Step::Find => "find",
+            Step::Open => "open",
+            Step::Lock => "lock",
+            Step::Read => "read",
+            Step::Create => "create",
+            Step::Permit => "permit",
+            Step::Write => "write",
+            Step::Sync => "sync",
+            Step::Rename => "rename",
+            Step::SyncFolder => "sync folder of",
+        })
+    }
+}
+
+/// What ended a command on a file early, with status 1.
+#[derive(Clone, Copy, Debug, Error)]
+pub enum Fault {
+    /// The system refused a step.
+    #[error("{step}: {error}")]
+    Step { step: Step, error: io::Error },
+    /// Another one holds the file's lock, or took its place since it was opened.
+    #[error("the file is locked")]
+    Busy,
+    /// The edit ended before there was an image to save.
+    #[error("the edit ended early")]
+    Edit(EditFault),
+    /// The root's name is no key name.
+    #[error("the root's name is no key name")]
+    Name,
+    /// A write to the output failed after so many bytes.
+    #[error("a write failed after {0} bytes")]
+    Cut(u64),
+    /// Memory runs out.
+    #[error("memory runs out")]
+    Memory,
+}
+
+impl From<EditFault> for Fault {
+    fn from(fault: EditFault) -> Fault {
+        Fault::Edit(fault)
+    }
+}
+
+impl From<FreshFault> for Fault {
+    fn from(fault: FreshFault) -> Fault {
+        match fault {
+            FreshFault::Name => Fault::Name,
+            FreshFault::Memory => Fault::Memory,
+        }
+    }
+}
+
+impl From<AllocError> for Fault {
+    fn from(_fault: AllocError) -> Fault {
+        Fault::Memory
+    }
+}
+
+/// What a step gave, or the fault that it is refused.
+pub fn taken<T>(step: Step, answer: io::Result<T>) -> Result<T, Fault> {
+    match answer {
+        Ok(value) => Ok(value),
+        Err(error) if error.kind() == ErrorKind::OutOfMemory => Err(Fault::Memory),
+        Err(error) => Err(Fault::Step { step, error }),
+    }
+}

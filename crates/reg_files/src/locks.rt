@@ -1,0 +1,82 @@
+//! A file opened for one edit at a time.
+
+use crate::fault::{Fault, Step, taken};
+use reg_heap::limits::BINS_LIMIT;
+use std::alloc::Global;
+use std::fs;
+use std::fs::{File, Metadata, OpenFile, OpenOptions, TryLockError};
+use std::io::{ErrorKind, Read};
+use std::os::unix::fs::MetadataExt;
+use std::rt::Files;
+
+/// An open file whose lock one holder at a time has.
+pub trait Lockable {
+    /// Takes the file's lock, or answers `WouldBlock` where another one has it. It is given up where the file is closed.
+    fn try_lock(&self) -> Result<(), TryLockError>;
+}
+
+impl Lockable for File {
+    fn try_lock(&self) -> Result<(), TryLockError> {
+        File::try_lock(self)
+    }
+}
+
+/// The longest image: a base block and the most bins.
+const LONGEST_IMAGE: u64 = 4096 + BINS_LIMIT as u64;
+
+/// The path of a file without links, so that a save replaces the file and no link to it.
+pub fn real_path<H: Files>(alloc: Global, host: &H, file: &str) -> Result<String, Fault> {
+    let path = taken(Step::Find, host.canonicalize(alloc, file))?;
+    Ok(path.into_string())
+}
+
+/// The same of a file that may not be there yet: then its path is as it was given.
+pub fn target_path<H: Files>(alloc: Global, host: &H, file: &str) -> Result<String, Fault> {
+    match host.canonicalize(alloc, file) {
+        Ok(path) => Ok(path.into_string()),
+        Err(error) if error.kind() == ErrorKind::NotFound => Ok(file.to_string(alloc)?),
+        Err(error) => taken(Step::Create, Err(error)),
+    }
+}
+
+/// Whether two are of one file.
+fn is_same(one: &Metadata, other: &Metadata) -> bool {
+    one.dev() == other.dev() && one.ino() == other.ino()
+}
+
+/// Takes a file's lock. `Busy` where another one has it, or where a file that was saved since took this one's place.
+fn lock<H: Files>(host: &H, path: &str, file: &H::File) -> Result<(), Fault>
+where
+    H::File: Lockable,
+{
+    match file.try_lock() {
+        Ok(()) => {}
+        Err(TryLockError::WouldBlock) => return Err(Fault::Busy),
+        Err(TryLockError::Error(error)) => return taken(Step::Lock, Err(error)),
+    }
+    let locked = taken(Step::Lock, file.metadata())?;
+    let standing = taken(Step::Lock, fs::metadata(host, path))?;
+    if is_same(&locked, &standing) {
+        Ok(())
+    } else {
+        Err(Fault::Busy)
+    }
+}
+
+/// Opens a file, with leave to write where it is to be saved, and takes its lock.
+pub fn open_locked<H: Files>(host: &H, path: &str, writes: bool) -> Result<H::File, Fault>
+where
+    H::File: Lockable,
+{
+    let opened = OpenOptions::new().read(true).write(writes).open(host, path);
+    let file = taken(Step::Open, opened)?;
+    lock(host, path, &file)?;
+    Ok(file)
+}
+
+/// Reads a file, as far as an image can reach.
+pub fn read_image<F: Read>(alloc: Global, file: &mut F) -> Result<Vec<u8>, Fault> {
+    let mut bytes = Vec::new(alloc);
+    taken(Step::Read, file.take(LONGEST_IMAGE).read_to_end(&mut bytes))?;
+    Ok(bytes)
+}
