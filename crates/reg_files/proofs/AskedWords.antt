@@ -9,7 +9,7 @@ use Rattle.clap.proofs.WalkLemmas.{first_value-rows, one_text-rows, raw_values-r
 use Rattle.reg_files.specs.CommandLines.{IsMoment, IsSet, Asks, AsksToBegin}
 use Rattle.reg_files.specs.Internal.Commands.{IsBegin}
 use Rattle.reg_files.specs.declared.words.Request.{Request}
-use Rattle.reg_files.specs.declared.words.Request.TheVariants.{Dump, Check, New, Edit}
+use Rattle.reg_files.specs.declared.words.Request.TheVariants.{Dump, Check, Listing, Get, New, Edit}
 use Rattle.reg_files.specs.declared.words.Begin.{Begin}
 use Rattle.reg_files.specs.declared.words.Begin.TheVariants.{Kept, Now, At}
 
@@ -83,25 +83,51 @@ module _ (rows : List Row) where
   pub no_dump : first_of (codes "file") rows ≡ None → (request : Request) → Asks (codes "dump", rows) request → ⊥
   no_dump e (Dump file) h = let bad : None ≡ Some file.now = sym e ∙ h.1 in cc
   no_dump e (Check files) h = let bad : codes "dump" ≡ codes "check" = h.0 in cc
+  no_dump e (Listing file path is_whole) h = let bad : codes "dump" ≡ codes "ls" = h.0 in cc
+  no_dump e (Get file path value is_raw) h = let bad : codes "dump" ≡ codes "get" = h.0 in cc
   no_dump e (New file name) h = let bad : codes "dump" ≡ codes "new" = h.0 in cc
   no_dump e (Edit edit) h = let bad : codes "dump" ≡ codes "edit" = h.0 in cc
 
   pub no_check : all_of (codes "files") rows ≡ None → (request : Request) → Asks (codes "check", rows) request → ⊥
   no_check e (Dump file) h = let bad : codes "check" ≡ codes "dump" = h.0 in cc
   no_check e (Check files) h = let bad : None ≡ Some (map (λ file. file.now) files.items) = sym e ∙ h.1 in cc
+  no_check e (Listing file path is_whole) h = let bad : codes "check" ≡ codes "ls" = h.0 in cc
+  no_check e (Get file path value is_raw) h = let bad : codes "check" ≡ codes "get" = h.0 in cc
   no_check e (New file name) h = let bad : codes "check" ≡ codes "new" = h.0 in cc
   no_check e (Edit edit) h = let bad : codes "check" ≡ codes "edit" = h.0 in cc
 
   pub no_new : first_of (codes "file") rows ≡ None → (request : Request) → Asks (codes "new", rows) request → ⊥
   no_new e (Dump file) h = let bad : codes "new" ≡ codes "dump" = h.0 in cc
   no_new e (Check files) h = let bad : codes "new" ≡ codes "check" = h.0 in cc
+  no_new e (Listing file path is_whole) h = let bad : codes "new" ≡ codes "ls" = h.0 in cc
+  no_new e (Get file path value is_raw) h = let bad : codes "new" ≡ codes "get" = h.0 in cc
   no_new e (New file name) h = let bad : None ≡ Some file.now = sym e ∙ h.1 in cc
   no_new e (Edit edit) h = let bad : codes "new" ≡ codes "edit" = h.0 in cc
+
+  pub no_list : first_of (codes "file") rows ≡ None → (request : Request) → Asks (codes "ls", rows) request → ⊥
+  no_list e (Dump file) h = let bad : codes "ls" ≡ codes "dump" = h.0 in cc
+  no_list e (Check files) h = let bad : codes "ls" ≡ codes "check" = h.0 in cc
+  no_list e (Listing file path is_whole) h = let bad : None ≡ Some file.now = sym e ∙ h.1 in cc
+  no_list e (Get file path value is_raw) h = let bad : codes "ls" ≡ codes "get" = h.0 in cc
+  no_list e (New file name) h = let bad : codes "ls" ≡ codes "new" = h.0 in cc
+  no_list e (Edit edit) h = let bad : codes "ls" ≡ codes "edit" = h.0 in cc
+
+  pub no_get : ((first_of (codes "file") rows ≡ None) ⊎ (first_of (codes "path") rows ≡ None)) → (request : Request) →
+      Asks (codes "get", rows) request → ⊥
+  no_get e (Dump file) h = let bad : codes "get" ≡ codes "dump" = h.0 in cc
+  no_get e (Check files) h = let bad : codes "get" ≡ codes "check" = h.0 in cc
+  no_get e (Listing file path is_whole) h = let bad : codes "get" ≡ codes "ls" = h.0 in cc
+  no_get (inl e) (Get file path value is_raw) h = let bad : None ≡ Some file.now = sym e ∙ h.1 in cc
+  no_get (inr e) (Get file path value is_raw) h = let bad : None ≡ Some path.now = sym e ∙ h.2 in cc
+  no_get e (New file name) h = let bad : codes "get" ≡ codes "new" = h.0 in cc
+  no_get e (Edit edit) h = let bad : codes "get" ≡ codes "edit" = h.0 in cc
 
   pub no_edit : ((first_of (codes "file") rows ≡ None) ⊎ ((begin : Begin) → AsksToBegin rows begin → ⊥)) → (request : Request) →
       Asks (codes "edit", rows) request → ⊥
   no_edit e (Dump file) h = let bad : 101 ≡ 100 = ap (λ letters. get_or letters 0 0) h.0 in absurd (omega (arith, bad))
   no_edit e (Check files) h = let bad : codes "edit" ≡ codes "check" = h.0 in cc
+  no_edit e (Listing file path is_whole) h = let bad : codes "edit" ≡ codes "ls" = h.0 in cc
+  no_edit e (Get file path value is_raw) h = let bad : codes "edit" ≡ codes "get" = h.0 in cc
   no_edit e (New file name) h = let bad : codes "edit" ≡ codes "new" = h.0 in cc
   no_edit (inl e) (Edit edit) h = let bad : None ≡ Some edit.file.now = sym e ∙ h.1 in cc
   no_edit (inr never) (Edit edit) h = never edit.begin h.3
@@ -112,13 +138,14 @@ found_begin P r begin e h = subst (IsBegin P) e h
 pub no_begin : (P : Begin → Type 0) (r : Option Begin) → r ≡ None → IsBegin P r → (begin : Begin) → P begin → ⊥
 no_begin P r e h = subst (IsBegin P) e h
 
--- the name that is given, or the one in its place
-pub named_or : {N : Type 0} (f : Found) (got : Option N) (now : N → Text) (name other : N) → option_map now got ≡ first_value f (codes "name") →
-    name ≡ unwrap_or got other → now other ≡ codes "ROOT" → now name ≡ unwrap_or (first_of (codes "name") (rows_of f)) (codes "ROOT")
-named_or {N = N} f got now name other e is o =
-    ap now is ∙ (mapped got ∙ ap (λ (t : Option Text). unwrap_or t (codes "ROOT")) (sym (first_is f (codes "name") _ e)))
+-- the text that is given, or the one in its place
+pub given_or : {N : Type 0} (f : Found) (word instead : Text) (got : Option N) (now : N → Text) (given other : N) →
+    option_map now got ≡ first_value f word →
+    given ≡ unwrap_or got other → now other ≡ instead → now given ≡ unwrap_or (first_of word (rows_of f)) instead
+given_or {N = N} f word instead got now given other e is o =
+    ap now is ∙ (mapped got ∙ ap (λ (t : Option Text). unwrap_or t instead) (sym (first_is f word _ e)))
   where
-    mapped : (g : Option N) → now (unwrap_or g other) ≡ unwrap_or (option_map now g) (codes "ROOT")
+    mapped : (g : Option N) → now (unwrap_or g other) ≡ unwrap_or (option_map now g) instead
     mapped None = o
     mapped (Some n) = refl
 

@@ -9,10 +9,11 @@ use Rattle.reg_command.specs.CommandLines.{required, run_command}
 use Rattle.reg_files.specs.declared.words.Begin.{Begin}
 use Rattle.reg_files.specs.declared.words.Begin.TheVariants.{Kept, Now, At}
 use Rattle.reg_files.specs.declared.words.Request.{Request}
-use Rattle.reg_files.specs.declared.words.Request.TheVariants.{Dump, Check, New, Edit}
+use Rattle.reg_files.specs.declared.words.Request.TheVariants.{Dump, Check, Listing, Get, New, Edit}
 
 -- `clap`'s command `regtool`, one of whose subcommands must be there: `run`, `dump` and `check` as without files, where `dump` may have a
--- file and `check` files; `new` with a file and the option `--name`; and `edit` with a file, the options `--output` and `--at`, which is a
+-- file and `check` files; `ls` with a file, a path that may be left out, and the flag `--tree`; `get` with a file, a path, a value's name that may
+-- be left out, and the flag `--raw`; `new` with a file and the option `--name`; and `edit` with a file, the options `--output` and `--at`, which is a
 -- number of 64 bits, and the flags `--now` and `--dry-run`
 abbrev pub option_rule : Text → Rule
 option_rule name = record (new_rule name) { long = Some name; value_names = 1 }
@@ -20,8 +21,11 @@ option_rule name = record (new_rule name) { long = Some name; value_names = 1 }
 abbrev pub flag_rule : Text → Rule
 flag_rule name = record (new_rule name) { long = Some name; action = Some action.SetTrue }
 
+abbrev pub place_rule : Text → Bool → Rule
+place_rule name is_required = record (new_rule name) { value_names = 1; required = is_required }
+
 abbrev pub file_rule : Bool → Rule
-file_rule is_required = record (new_rule (codes "file")) { value_names = 1; required = is_required }
+file_rule is_required = place_rule (codes "file") is_required
 
 abbrev pub files_rule : Rule
 files_rule = record (new_rule (codes "files")) {
@@ -39,6 +43,16 @@ dump_command = with_rule (new_app (codes "dump")) (file_rule false)
 abbrev pub check_command : App
 check_command = with_rule (new_app (codes "check")) files_rule
 
+abbrev pub list_command : App
+list_command =
+    with_rule (with_rule (with_rule (new_app (codes "ls")) (file_rule true)) (place_rule (codes "path") false)) (flag_rule (codes "tree"))
+
+abbrev pub get_command : App
+get_command =
+    with_rule
+    (with_rule (with_rule (with_rule (new_app (codes "get")) (file_rule true)) (place_rule (codes "path") true)) (place_rule (codes "value") false))
+    (flag_rule (codes "raw"))
+
 abbrev pub new_command : App
 new_command = with_rule (with_rule (new_app (codes "new")) (file_rule true)) (option_rule (codes "name"))
 
@@ -52,7 +66,11 @@ unfoldable pub regtool : App
 regtool =
     with_subcommand
     (with_subcommand
+    (with_subcommand
+    (with_subcommand
     (with_subcommand (with_subcommand (with_subcommand (required (new_app (codes "regtool"))) run_command.top) dump_command.top) check_command.top)
+    list_command.top)
+    get_command.top)
     new_command.top)
     edit_command.top
 
@@ -85,6 +103,12 @@ AsksToBegin rows (At moment) =
 abbrev pub Asks : Text × List Row → Request → Type 0
 Asks found (Dump file) = (found.0 ≡ codes "dump") × (first_of (codes "file") found.1 ≡ Some file.now)
 Asks found (Check files) = (found.0 ≡ codes "check") × (all_of (codes "files") found.1 ≡ Some (map (λ file. file.now) files.items))
+Asks found (Listing file path is_whole) =
+    (found.0 ≡ codes "ls") × (first_of (codes "file") found.1 ≡ Some file.now) × (path.now ≡ unwrap_or (first_of (codes "path") found.1) [])
+    × ((is_whole ≡ true) ↔ IsSet (codes "tree") found.1)
+Asks found (Get file path name is_raw) =
+    (found.0 ≡ codes "get") × (first_of (codes "file") found.1 ≡ Some file.now) × (first_of (codes "path") found.1 ≡ Some path.now)
+    × (name.now ≡ unwrap_or (first_of (codes "value") found.1) []) × ((is_raw ≡ true) ↔ IsSet (codes "raw") found.1)
 Asks found (New file name) =
     (found.0 ≡ codes "new") × (first_of (codes "file") found.1 ≡ Some file.now)
     × (name.now ≡ unwrap_or (first_of (codes "name") found.1) (codes "ROOT"))

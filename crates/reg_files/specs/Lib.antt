@@ -1,5 +1,6 @@
 pub mod CommandLines
 pub mod Edits
+pub mod Lookups
 pub mod Inputs
 pub mod Serving
 pub mod Moments

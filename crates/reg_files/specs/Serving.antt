@@ -4,10 +4,11 @@ use Rattle.reg_command.specs.CommandLines.{AsksNothing as AsksNothingOfTool}
 use Rattle.reg_command.specs.Failures.{IsDone, IsStopped, IsRefused as IsRefusedByTool}
 use Rattle.reg_files.specs.CommandLines.{AsksNothing, IsCommandLine}
 use Rattle.reg_files.specs.Edits.{Edits, IsUntouched}
+use Rattle.reg_files.specs.Lookups.{Lists, Gets}
 use Rattle.reg_files.specs.declared.words.Begin.{Begin}
 use Rattle.reg_files.specs.declared.words.Begin.TheVariants.{Kept, Now, At}
 use Rattle.reg_files.specs.declared.words.Request.{Request}
-use Rattle.reg_files.specs.declared.words.Request.TheVariants.{Dump, Check, New, Edit}
+use Rattle.reg_files.specs.declared.words.Request.TheVariants.{Dump, Check, Listing, Get, New, Edit}
 
 -- the moment that is given for the one that is asked for: none for that of the file, and for that of the clock any
 abbrev pub IsGiven : Begin → Option ℕ → Type 0
@@ -16,10 +17,13 @@ IsGiven Now given = (moment : ℕ) × (given ≡ Some moment)
 IsGiven (At moment) given = given ≡ Some moment
 
 -- what a request did with the input and the output, where the status is 0: an edit ran the script on the hive in some bytes, those of the
--- file, and the others read nothing
+-- file; a key or a value of the hive in some bytes was told; and the others, too, read nothing
 abbrev pub Serves : Request → (unread left before after : Option (List ℕ)) → Type 0
 Serves (Dump file) unread left before after = left ≡ unread
 Serves (Check files) unread left before after = left ≡ unread
+Serves (Listing file path is_whole) unread left before after = (left ≡ unread) × ((bytes : List ℕ) × Lists bytes path.now is_whole before after)
+Serves (Get file path name is_raw) unread left before after =
+    (left ≡ unread) × ((bytes : List ℕ) × Gets bytes path.now name.now is_raw before after)
 Serves (New file name) unread left before after = IsUntouched unread left before after
 Serves (Edit edit) unread left before after =
     (bytes : List ℕ) × (given : Option ℕ) × (saved : Option (List ℕ)) × IsGiven edit.begin given × Edits bytes given saved unread left before after

@@ -1,7 +1,8 @@
 //! The commands on files.
 
-ghost use Rattle.std.specs.Prelude.{◌≡◌, ◌≤◌, IfOk, OnOk};
+ghost use Rattle.std.specs.Prelude.{◌≡◌, ◌≤◌, ℕ, List, IfOk, OnOk};
 ghost use Rattle.reg_command.specs.CommandLines.{texts};
+ghost use Rattle.reg_files.specs.Lookups.{Lists, Gets};
 ghost use Rattle.reg_files.specs.Serving.{IsGiven, Serves};
 ghost use Rattle.reg_files.specs.Internal.Tellings.{word_of, telling_words};
 ghost use Rattle.reg_files.specs.declared.words.Request.{Request};
@@ -10,6 +11,7 @@ use crate::edits::{edit, fresh_image};
 use crate::fault::{Fault, Step, taken};
 use crate::input::PutBack;
 use crate::locks::{Lockable, open_locked, read_image, real_path, target_path};
+use crate::lookups::{get, list};
 use crate::moments::moment_at;
 use crate::saving::{create, replace};
 use crate::words::{Begin, EditRequest};
@@ -103,6 +105,56 @@ pub fn check_file<H: Files, W: Write, E: Sink>(
         write_name(alloc, file, output)?;
     }
     stream(alloc, Telling::Check, &mut input, output, errors)
+}
+
+/// Reads the image in a file.
+fn image_in<H: Files>(alloc: Global, host: &H, file: &str) -> Result<Vec<u8>, Fault> {
+    let mut input = taken(Step::Open, File::open(host, file))?;
+    read_image(alloc, &mut input)
+}
+
+/// Lists a key of a file's hive, by its path.
+pub fn list_key<H: Files, W: Write>(
+    alloc: Global,
+    host: &H,
+    file: &str,
+    path: &str,
+    is_whole: bool,
+    output: &mut W,
+) -> Result<(), Fault>
+    ensures { OnOk result ((bytes : List ℕ) × Lists bytes path.now is_whole (W.contents output.old) (W.contents output.new)) }
+{
+    let image = image_in(alloc, host, file)?;
+    match list(alloc, image.as_slice(), path.as_bytes(), is_whole, output) {
+        Ok(()) => Ok(()),
+        Err(fault) => Err(Fault::from(fault)),
+    }
+}
+
+/// Tells a value of a file's hive, by its key's path and its name.
+pub fn get_value<H: Files, W: Write>(
+    alloc: Global,
+    host: &H,
+    file: &str,
+    path: &str,
+    name: &str,
+    is_raw: bool,
+    output: &mut W,
+) -> Result<(), Fault>
+    ensures { OnOk result ((bytes : List ℕ) × Gets bytes path.now name.now is_raw (W.contents output.old) (W.contents output.new)) }
+{
+    let image = image_in(alloc, host, file)?;
+    match get(
+        alloc,
+        image.as_slice(),
+        path.as_bytes(),
+        name.as_bytes(),
+        is_raw,
+        output,
+    ) {
+        Ok(()) => Ok(()),
+        Err(fault) => Err(Fault::from(fault)),
+    }
 }
 
 /// The moment at which an edit begins; `None` is that of the image.

@@ -1,6 +1,9 @@
 //! What ends a command on a file, and its text.
 
 use crate::edits::{EditFault, FreshFault};
+use crate::lookups::LookupFault;
+use reg_dump::DumpFault;
+use reg_looks::LookFault;
 use std::alloc::AllocError;
 use std::fmt::{Display, Formatter};
 use std::io::ErrorKind;
@@ -73,6 +76,9 @@ pub enum Fault {
     /// The edit ended before there was an image to save.
     #[error("the edit ended early")]
     Edit(EditFault),
+    /// The image wasn't looked into to the end.
+    #[error("the lookup ended early")]
+    Lookup(LookupFault),
     /// The root's name is no key name.
     #[error("the root's name is no key name")]
     Name,
@@ -87,6 +93,18 @@ pub enum Fault {
 impl From<EditFault> for Fault {
     fn from(fault: EditFault) -> Fault {
         Fault::Edit(fault)
+    }
+}
+
+impl From<LookupFault> for Fault {
+    fn from(fault: LookupFault) -> Fault {
+        match fault {
+            LookupFault::Look(LookFault::Stopped(DumpFault::Write { written })) => {
+                Fault::Cut(written)
+            }
+            LookupFault::Look(LookFault::Stopped(DumpFault::Memory)) => Fault::Memory,
+            fault => Fault::Lookup(fault),
+        }
     }
 }
 

@@ -6,6 +6,7 @@ mod edits;
 mod fault;
 mod input;
 mod locks;
+mod lookups;
 mod moments;
 mod saving;
 mod words;
@@ -20,9 +21,10 @@ ghost use Rattle.reg_files.specs.CommandLines.{AsksNothing};
 ghost use Rattle.reg_files.specs.Edits.{IsUntouched};
 ghost use Rattle.reg_files.specs.Serving.{Serves, IsServed, IsRefused, IsOfTool};
 
-use crate::commands::{check_file, dump_file, edit_file, new_file};
+use crate::commands::{check_file, dump_file, edit_file, get_value, list_key, new_file};
 use crate::edits::EditFault;
 use crate::fault::Fault;
+use crate::lookups::LookupFault;
 use crate::words::{EditRequest, Request, read_words};
 use clap::Error;
 use clap::error::ErrorKind;
@@ -40,13 +42,16 @@ fn fault_text(alloc: Global, file: &str, fault: Fault) -> Result<String, AllocEr
         Fault::Busy => format!(in alloc; "error busy {file}\n"),
         Fault::Name => format!(in alloc; "error name {file}: {fault}\n"),
         Fault::Step { step, error } => format!(in alloc; "error {step} {file}: {error}\n"),
-        Fault::Edit(EditFault::Load(fault)) => {
+        Fault::Edit(EditFault::Load(fault)) | Fault::Lookup(LookupFault::Load(fault)) => {
             let number = fault.number();
             format!(in alloc; "error 1009 load {number} {file}: {fault}\n")
         }
         Fault::Edit(EditFault::Script(fault)) => {
             let number = fault.number();
             format!(in alloc; "error script {number}: {fault}\n")
+        }
+        Fault::Lookup(LookupFault::Look(fault)) => {
+            format!(in alloc; "error missing {file}: {fault}\n")
         }
         Fault::Cut(written) => format!(in alloc; "error 1013 written {written}\n"),
         Fault::Edit(EditFault::Memory) | Fault::Memory => format!(in alloc; "error 8\n"),
@@ -121,6 +126,23 @@ where
             settle(alloc, errors, file, done)
         }
         Request::Check(files) => check_files(alloc, host, files.as_slice(), output, errors),
+        Request::Listing {
+            file,
+            path,
+            is_whole,
+        } => match list_key(alloc, host, file, path, is_whole, output) {
+            Ok(()) => 0,
+            Err(fault) => tell(alloc, errors, file, fault),
+        },
+        Request::Get {
+            file,
+            path,
+            name,
+            is_raw,
+        } => match get_value(alloc, host, file, path, name, is_raw, output) {
+            Ok(()) => 0,
+            Err(fault) => tell(alloc, errors, file, fault),
+        },
         Request::New { file, name } => match new_file(alloc, host, file, name) {
             Ok(()) => 0,
             Err(fault) => tell(alloc, errors, file, fault),
@@ -179,7 +201,8 @@ where
 /// Runs the tool on a command line, whose first word is the program's name, and answers the exit status.
 ///
 /// Words that [`tool`] understands go to it: `run`, and `dump` and `check` without files. `dump FILE` and `check FILE..` do with files
-/// what it does with its input; several are counted a line each, behind their names. `new FILE` makes a file with a fresh hive, never
+/// what it does with its input; several are counted a line each, behind their names. `ls FILE [PATH]` lists a key's values and subkeys,
+/// `get FILE PATH [NAME]` tells a value's data. `new FILE` makes a file with a fresh hive, never
 /// over one that is there. `edit FILE` runs a script from `input` on the hive of a file, writes the replies to `output`, and saves the
 /// hive where the script ended without a fault and changed it, while it holds the file's lock.
 ///

@@ -5,8 +5,9 @@ ghost use Rattle.clap.specs.Values.{kind_of};
 ghost use Rattle.clap.specs.declared.error.kind.ErrorKind.TheVariants.{OutOfMemory};
 ghost use Rattle.clap.specs.Words.{first_of, found_of, new_app, rows_of, subcommand_rows_of};
 ghost use Rattle.reg_command.specs.CommandLines.{texts, image_option, run_command as run_shape};
-ghost use Rattle.reg_files.specs.CommandLines.{option_rule, flag_rule, file_rule, files_rule, at_rule, dump_command as dump_shape};
-ghost use Rattle.reg_files.specs.CommandLines.{check_command as check_shape, new_command as new_shape, edit_command as edit_shape};
+ghost use Rattle.reg_files.specs.CommandLines.{option_rule, flag_rule, place_rule, file_rule, files_rule, at_rule, dump_command as dump_shape};
+ghost use Rattle.reg_files.specs.CommandLines.{check_command as check_shape, list_command as list_shape, get_command as get_shape};
+ghost use Rattle.reg_files.specs.CommandLines.{new_command as new_shape, edit_command as edit_shape};
 ghost use Rattle.reg_files.specs.CommandLines.{regtool as regtool_shape, IsSet, AsksToBegin, Asks, AsksIn, AsksNothing, IsCommandLine};
 ghost use Rattle.reg_files.specs.Internal.Commands.{IsRule, IsCommand, IsFound, IsBegin};
 
@@ -43,6 +44,24 @@ pub enum Request<'a> {
     Dump(&'a str),
     /// How many keys and values each of some files has.
     Check(Vec<&'a str>),
+    /// What is below a key of a file.
+    Listing {
+        file: &'a str,
+        /// The key's path; the empty one is the root's.
+        path: &'a str,
+        /// Whether all that is below it is listed, and not only what is right below.
+        is_whole: bool,
+    },
+    /// A value of a file.
+    Get {
+        file: &'a str,
+        /// Its key's path; the empty one is the root's.
+        path: &'a str,
+        /// Its name; the empty one is that of the default value.
+        name: &'a str,
+        /// Whether its bytes are written as they are.
+        is_raw: bool,
+    },
     /// A fresh hive in a new file.
     New {
         file: &'a str,
@@ -73,14 +92,27 @@ fn flag_arg<'a>(alloc: Global, name: &'a str, help: &'a str) -> Arg<'a>
         .help(help)
 }
 
+/// An argument by its place.
+fn place_arg<'a>(
+    alloc: Global,
+    name: &'a str,
+    is_required: bool,
+    value: &'a str,
+    help: &'a str,
+) -> Arg<'a>
+    ensures { IsRule (place_rule name.now is_required) result }
+{
+    Arg::new(alloc, name)
+        .required(is_required)
+        .value_name(value)
+        .help(help)
+}
+
 /// A file, by its place.
 fn file_arg<'a>(alloc: Global, is_required: bool, help: &'a str) -> Arg<'a>
     ensures { IsRule (file_rule is_required) result }
 {
-    Arg::new(alloc, "file")
-        .required(is_required)
-        .value_name("FILE")
-        .help(help)
+    place_arg(alloc, "file", is_required, "FILE", help)
 }
 
 /// Files, by their places.
@@ -150,6 +182,44 @@ fn check_command<'a>(alloc: Global) -> Result<Command<'a>, AllocError>
     bare_command(alloc, "check", "Loads hives and counts their keys").arg(files_arg(alloc))
 }
 
+fn list_command<'a>(alloc: Global) -> Result<Command<'a>, AllocError>
+    ensures { IfOk result (λ command. IsCommand list_shape command) }
+{
+    let file = file_arg(alloc, true, "The hive");
+    let path = place_arg(
+        alloc,
+        "path",
+        false,
+        "PATH",
+        "The key, the root where none is given",
+    );
+    let tree = flag_arg(alloc, "tree", "List all that is below it");
+    bare_command(alloc, "ls", "Lists the values and subkeys of a key")
+        .arg(file)?
+        .arg(path)?
+        .arg(tree)
+}
+
+fn get_command<'a>(alloc: Global) -> Result<Command<'a>, AllocError>
+    ensures { IfOk result (λ command. IsCommand get_shape command) }
+{
+    let file = file_arg(alloc, true, "The hive");
+    let path = place_arg(alloc, "path", true, "PATH", "The key");
+    let value = place_arg(
+        alloc,
+        "value",
+        false,
+        "NAME",
+        "The value, the default one where none is given",
+    );
+    let raw = flag_arg(alloc, "raw", "Write its bytes");
+    bare_command(alloc, "get", "Tells the data of a value")
+        .arg(file)?
+        .arg(path)?
+        .arg(value)?
+        .arg(raw)
+}
+
 fn new_command<'a>(alloc: Global) -> Result<Command<'a>, AllocError>
     ensures { IfOk result (λ command. IsCommand new_shape command) }
 {
@@ -193,6 +263,8 @@ fn whole_command<'a>(alloc: Global) -> Result<Command<'a>, AllocError>
         .subcommand(run_command(alloc)?)?
         .subcommand(dump_command(alloc)?)?
         .subcommand(check_command(alloc)?)?
+        .subcommand(list_command(alloc)?)?
+        .subcommand(get_command(alloc)?)?
         .subcommand(new_command(alloc)?)?
         .subcommand(edit_command(alloc)?)
 }
@@ -262,6 +334,44 @@ fn edit_asked<'a>(matches: &ArgMatches<'a>) -> Option<Request<'a>>
     }
 }
 
+fn list_asked<'a>(matches: &ArgMatches<'a>) -> Option<Request<'a>>
+    ensures { IsFound (Asks (codes "ls", rows_of (found_of matches.now))) result }
+{
+    match matches.get_str("file") {
+        Some(file) => Some(Request::Listing {
+            file,
+            path: matches.get_str("path").unwrap_or(""),
+            is_whole: is_set(matches, "tree"),
+        }),
+        None => None,
+    }
+}
+
+/// What `get` is asked for of a file; `None` where it has no path, which `clap` doesn't take.
+fn get_of<'a>(file: &'a str, matches: &ArgMatches<'a>) -> Option<Request<'a>>
+    requires { first_of (codes "file") (rows_of (found_of matches.now)) ≡ Some file.now }
+    ensures { IsFound (Asks (codes "get", rows_of (found_of matches.now))) result }
+{
+    match matches.get_str("path") {
+        Some(path) => Some(Request::Get {
+            file,
+            path,
+            name: matches.get_str("value").unwrap_or(""),
+            is_raw: is_set(matches, "raw"),
+        }),
+        None => None,
+    }
+}
+
+fn get_asked<'a>(matches: &ArgMatches<'a>) -> Option<Request<'a>>
+    ensures { IsFound (Asks (codes "get", rows_of (found_of matches.now))) result }
+{
+    match matches.get_str("file") {
+        Some(file) => get_of(file, matches),
+        None => None,
+    }
+}
+
 fn new_asked<'a>(matches: &ArgMatches<'a>) -> Option<Request<'a>>
     ensures { IsFound (Asks (codes "new", rows_of (found_of matches.now))) result }
 {
@@ -297,6 +407,12 @@ fn command_asked<'a>(
     }
     if name == "check" {
         return check_asked(alloc, matches);
+    }
+    if name == "ls" {
+        return Ok(list_asked(matches));
+    }
+    if name == "get" {
+        return Ok(get_asked(matches));
     }
     if name == "new" {
         return Ok(new_asked(matches));

@@ -19,5 +19,7 @@ returns c =
     let with_run = with_command _ _ _ _ _ top c.in_ok-run_command.ensures c.in_ok-subcommand.ensures in
     let with_dump = with_command _ _ _ _ _ with_run c.in_ok-dump_command.ensures c.in_ok-subcommand-2.ensures in
     let with_check = with_command _ _ _ _ _ with_dump c.in_ok-check_command.ensures c.in_ok-subcommand-3.ensures in
-    let with_new = with_command _ _ _ _ _ with_check c.in_ok-new_command.ensures c.in_ok-subcommand-4.ensures in
-    IfOk-weaker c.subcommand-5.result _ _ (λ r adds. with_command _ _ r _ _ with_new c.in_ok-edit_command.ensures adds) c.subcommand-5.ensures
+    let with_list = with_command _ _ _ _ _ with_check c.in_ok-list_command.ensures c.in_ok-subcommand-4.ensures in
+    let with_get = with_command _ _ _ _ _ with_list c.in_ok-get_command.ensures c.in_ok-subcommand-5.ensures in
+    let with_new = with_command _ _ _ _ _ with_get c.in_ok-new_command.ensures c.in_ok-subcommand-6.ensures in
+    IfOk-weaker c.subcommand-7.result _ _ (λ r adds. with_command _ _ r _ _ with_new c.in_ok-edit_command.ensures adds) c.subcommand-7.ensures

@@ -1,0 +1,6 @@
+use Rattle.reg_files.proofs.EditSteps.{opens}
+use Rattle.reg_files.proofs.LookupSteps.{lists, look_stops, none_loaded}
+use Rattle.reg_files.proofs.lookups.list.Goals as goal
+
+pub returns-in-Err-clause-err : goal.returns-in-Err-clause-err
+returns-in-Err-clause-err g c = none_loaded c.in-Err.fault _ _ _ _ c.in-Err.ensures.err
