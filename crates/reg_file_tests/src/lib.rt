@@ -9,6 +9,8 @@ mod commands;
 #[cfg(test)]
 mod edits;
 #[cfg(test)]
+mod looks;
+#[cfg(test)]
 mod refusals;
 #[cfg(test)]
 mod support;
