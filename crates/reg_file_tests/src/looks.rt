@@ -58,6 +58,7 @@ fn tells_what_is_missing(rt: HostRuntime) -> Result<(), Fail> {
     ];
     let wanted = "0;;|1;error missing @/a: there is no such key\n;|\
         1;error missing @/a: there is no such key\n;|1;error missing @/a: there is no such key\n;|\
-        1;error open @/none: No such file or directory (os error 2)\n;|";
+        1;error open @/none: No such file or directory (os error 2)\n;|\
+        1;error 1009 load 2 @/bad: the image ends too early\n;|";
     assert_told(&rt, tale(&rt, &rt, &deeds), wanted)
 }
