@@ -1,5 +1,5 @@
 -- Listings, computed of a tree that was worked out by hand.
-use Rattle.std.proofs.Common.{◌≡◌, ℕ, zero, suc, ◌+◌, List, [], ◌∷◌, ◌++◌, drop, map, Option, refl, sym, ap, ◌∙◌}
+use Rattle.std.proofs.Common.{◌≡◌, ℕ, zero, suc, ◌+◌, List, [], ◌∷◌, ◌++◌, drop, map, Option, refl, ap, ◌∙◌}
 use Rattle.std.specs.Prelude.{codes, filter, flat_map}
 use Rattle.std.specs.FinMap.{from_sorted, entries-from_sorted, get-from_sorted, get}
 use Rattle.std.specs.FinMap.Entries.{find}

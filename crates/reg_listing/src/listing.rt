@@ -46,7 +46,7 @@ fn put_below<W: Sink>(
     let _name = tree.name(node);
     let mut walk = Walk::new(alloc, node);
     // No tree has so many keys: the bound only shows that the walk ends.
-    'keys: for _ in 0..u64::MAX {
+    for _key in 0..u64::MAX {
         if !walk.advance(tree)? {
             return Ok(());
         }

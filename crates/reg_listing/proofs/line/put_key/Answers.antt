@@ -1,8 +1,7 @@
 use Rattle.std.proofs.Common.{ap}
-use Rattle.reg_names.specs.Names.{text_of}
 use Rattle.reg_heap.specs.Edits.{values_of}
-use Rattle.reg_dump.proofs.SentTexts.{swapped, opened, exits}
-use Rattle.reg_listing.specs.Listings.{key_line, value_lines}
+use Rattle.reg_dump.proofs.SentTexts.{swapped, exits}
+use Rattle.reg_listing.specs.Listings.{value_lines}
 use Rattle.reg_listing.proofs.ListedLines.{key_told}
 use Rattle.reg_listing.proofs.line.put_key.Goals as goal
 

@@ -7,8 +7,8 @@ use Rattle.reg_listing.specs.Listings.{told_lines, keys_below}
 use Rattle.reg_listing.proofs.ListedKeys.{IsAmid}
 use Rattle.reg_listing.proofs.listing.put_below.Given as goal
 
-abbrev pub invariant-keys : goal.invariant-keys
-invariant-keys g l =
+abbrev pub invariant-loop-key : goal.invariant-loop-key
+invariant-loop-key g l =
     (p : Path) → IsAt l.tree p l.fn.node → (amid : IsAmid l.tree l.walk) ×
     ((begin : WriterState) → (whole left : List ℕ) →
     IsSoFar begin (g.W.Sink.contents l.initial.writer, g.W.Sink.failures l.initial.writer) whole
