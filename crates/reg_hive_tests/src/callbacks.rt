@@ -259,22 +259,20 @@ fn refused_calls(alloc: Global) -> Result<Vec<Call>, AllocError> {
     Ok(Vec::from_array(alloc, calls)?)
 }
 
-/// A hive whose callbacks count.
-trait Counted: Registry {
-    /// Registers a callback that answers a status.
-    fn add(&mut self, status: u32, altitude: u32, asked: &Rc<Cell<u32>>) -> Result<Cookie, Fail>;
-}
-
-impl Counted for Hive<Counting> {
-    fn add(&mut self, status: u32, altitude: u32, asked: &Rc<Cell<u32>>) -> Result<Cookie, Fail> {
-        let callback = Counting {
-            status,
-            asked: asked.clone()?,
-        };
-        match self.register(callback, altitude) {
-            Ok(cookie) => Ok(cookie),
-            Err(_) => Err("not registered".into()),
-        }
+/// Registers a callback that counts.
+fn register(
+    hive: &mut Hive<Counting>,
+    status: u32,
+    altitude: u32,
+    asked: &Rc<Cell<u32>>,
+) -> Result<Cookie, Fail> {
+    let callback = Counting {
+        status,
+        asked: asked.clone()?,
+    };
+    match hive.register(callback, altitude) {
+        Ok(cookie) => Ok(cookie),
+        Err(_) => Err("not registered".into()),
     }
 }
 
@@ -283,9 +281,9 @@ fn counted_hive(alloc: Global) -> Result<Hive<Counting>, Fail> {
     Ok(hive)
 }
 
-fn accepted_in<H: Counted>(alloc: Global, hive: &mut H) -> Result<String, Fail> {
+fn accepted_in(alloc: Global, hive: &mut Hive<Counting>) -> Result<String, Fail> {
     let asked = Rc::new(alloc, Cell::new(0))?;
-    let _cookie = hive.add(0, 7, &asked)?;
+    let _cookie = register(hive, 0, 7, &asked)?;
     told_of(alloc, hive, &asked, accepted_calls(alloc)?)
 }
 
@@ -303,10 +301,10 @@ fn each_call_but_close_is_asked_once(rt: HostRuntime) -> Result<(), Fail> {
     )
 }
 
-fn refused_in<H: Counted>(alloc: Global, hive: &mut H) -> Result<String, Fail> {
+fn refused_in(alloc: Global, hive: &mut Hive<Counting>) -> Result<String, Fail> {
     let asked = Rc::new(alloc, Cell::new(0))?;
     let _opened = told_of(alloc, hive, &asked, opening_calls(alloc)?)?;
-    let _cookie = hive.add(77, 7, &asked)?;
+    let _cookie = register(hive, 77, 7, &asked)?;
     told_of(alloc, hive, &asked, refused_calls(alloc)?)
 }
 
@@ -334,9 +332,9 @@ fn root_calls(alloc: Global, count: u32) -> Result<Vec<Call>, AllocError> {
 }
 
 /// An opening more than a session's 16,384 handles, and a Close, with how many calls the callback was asked of.
-fn crowded_in<H: Counted>(alloc: Global, hive: &mut H) -> Result<String, Fail> {
+fn crowded_in(alloc: Global, hive: &mut Hive<Counting>) -> Result<String, Fail> {
     let asked = Rc::new(alloc, Cell::new(0))?;
-    let _cookie = hive.add(0, 7, &asked)?;
+    let _cookie = register(hive, 0, 7, &asked)?;
     let _opened = told_of(alloc, hive, &asked, root_calls(alloc, 16_384)?)?;
     let calls = Vec::from_array(alloc, [open_root(ALL), close(5), open_root(ALL)])?;
     told_of(alloc, hive, &asked, calls)
@@ -358,11 +356,11 @@ fn nobody_is_asked_where_a_count_refuses(rt: HostRuntime) -> Result<(), Fail> {
 
 /// Two openings of the root and two calls without a handle, with how often the lower of two callbacks was asked, where the higher one
 /// refuses.
-fn lower_in<H: Counted>(alloc: Global, hive: &mut H) -> Result<String, Fail> {
+fn lower_in(alloc: Global, hive: &mut Hive<Counting>) -> Result<String, Fail> {
     let high = Rc::new(alloc, Cell::new(0))?;
     let low = Rc::new(alloc, Cell::new(0))?;
-    let _low = hive.add(87, 100, &low)?;
-    let _high = hive.add(5, 200, &high)?;
+    let _low = register(hive, 87, 100, &low)?;
+    let _high = register(hive, 5, 200, &high)?;
     told_of(alloc, hive, &low, opening_calls(alloc)?)
 }
 
