@@ -6,6 +6,9 @@
 //! Its one contract: the calls of a batch are one operation by some handles, all accepted, and each change of them is an entry more;
 //! so is each change that a hive is given beside plain maps. It stands on reg_workload, which says what is done, and on the crates
 //! that it measures. Its main types are `OpenHive`, a hive with handles, and `Both`, a hive and plain maps with the same keys.
+//!
+//! Whatever works on a hive is generic in a [`reg_registry::Registry`], and `main` alone names the type, since a function that names it
+//! is checked together with all that a hive is made of, which takes many times as long.
 #![tactic(auto)]
 
 mod arena;
