@@ -2,10 +2,11 @@
 ghost use Rattle.std.specs.Prelude.{◌<◌};
 
 use crate::cells::print_cells;
-use crate::hives::{PlainHive, apply_all, new_hive, read_all};
+use crate::hives::{apply_all, new_hive, read_all};
 use crate::times::{Times, Visits};
 use anyhow::{Result, bail};
 use reg_model::{Change, Query};
+use reg_registry::Registry;
 use reg_workload::{KeyHandles, KeyPlan, KeyStep, PlainMaps, numbers_below, queries};
 use std::alloc::Global;
 use std::rt::Clock;
@@ -20,16 +21,16 @@ const FEW: usize = 120;
 
 /// A hive and plain maps, with the keys of one plan.
 #[derive(Drop)]
-pub struct Both {
+pub struct Both<H> {
     alloc: Global,
     plan: KeyPlan,
-    hive: PlainHive,
+    hive: H,
     maps: PlainMaps,
 }
 
-impl Both {
+impl<H: Registry> Both<H> {
     /// Both with the root open and the parents made, whose handles are open.
-    pub fn new(alloc: Global, plan: KeyPlan) -> Result<Both> {
+    pub fn new(alloc: Global, plan: KeyPlan) -> Result<Both<H>> {
         let mut both = Both {
             alloc,
             plan,

@@ -1,8 +1,9 @@
 //! Questions by handles of keys that stand high or deep in a chain.
 
-use crate::hives::{PlainHive, apply_all, new_hive, read_all};
+use crate::hives::{apply_all, new_hive, read_all};
 use crate::times::Times;
 use anyhow::{Result, bail};
+use reg_registry::Registry;
 use reg_workload::{ValueStep, make_chain, query_times};
 use std::alloc::Global;
 use std::rt::Clock;
@@ -24,7 +25,7 @@ const SIZE: u64 = 4;
 const BATCHES: u32 = 50;
 
 /// Makes a chain as deep as the deeper of the keys, and sets a value of both.
-fn fill(alloc: Global, hive: &mut PlainHive, depths: [u32; 2]) -> Result<()> {
+fn fill<H: Registry>(alloc: Global, hive: &mut H, depths: [u32; 2]) -> Result<()> {
     apply_all(hive, make_chain(alloc, depths[1])?)?;
     for depth in depths {
         apply_all(hive, ValueStep::Set.changes(alloc, &[0], u64::from(depth))?)?;
@@ -33,18 +34,18 @@ fn fill(alloc: Global, hive: &mut PlainHive, depths: [u32; 2]) -> Result<()> {
 }
 
 /// Asks for the value of a key, and tells how many bytes were told.
-fn ask(alloc: Global, hive: &PlainHive, depth: u32, calls: u32) -> Result<u64> {
+fn ask<H: Registry>(alloc: Global, hive: &H, depth: u32, calls: u32) -> Result<u64> {
     let queries = query_times(alloc, calls, u64::from(depth))?;
     read_all(hive, queries.as_slice())
 }
 
 /// Asks two questions of each key, and prints how many bytes were told.
-pub fn count(rt: &impl Print, alloc: Global) -> Result<()> {
-    let mut hive = new_hive(alloc)?;
+pub fn count<H: Registry>(rt: &impl Print, alloc: Global) -> Result<()> {
+    let mut hive = new_hive::<H>(alloc)?;
     count_in(rt, alloc, &mut hive)
 }
 
-fn count_in(rt: &impl Print, alloc: Global, hive: &mut PlainHive) -> Result<()> {
+fn count_in<H: Registry>(rt: &impl Print, alloc: Global, hive: &mut H) -> Result<()> {
     fill(alloc, hive, SMALL)?;
     let mut told: u64 = 0;
     for depth in SMALL {
@@ -55,12 +56,12 @@ fn count_in(rt: &impl Print, alloc: Global, hive: &mut PlainHive) -> Result<()> 
 }
 
 /// Prints the times of a question by a handle of a key right below the root, and of one deep below it.
-pub fn measure(rt: &(impl Print + Clock), alloc: Global) -> Result<()> {
-    let mut hive = new_hive(alloc)?;
+pub fn measure<H: Registry>(rt: &(impl Print + Clock), alloc: Global) -> Result<()> {
+    let mut hive = new_hive::<H>(alloc)?;
     measure_in(rt, alloc, &mut hive)
 }
 
-fn measure_in(rt: &(impl Print + Clock), alloc: Global, hive: &mut PlainHive) -> Result<()> {
+fn measure_in<H: Registry>(rt: &(impl Print + Clock), alloc: Global, hive: &mut H) -> Result<()> {
     fill(alloc, hive, DEPTHS)?;
     let [high, deep] = DEPTHS;
     let mut times = Times::ZERO;
@@ -75,7 +76,12 @@ fn measure_in(rt: &(impl Print + Clock), alloc: Global, hive: &mut PlainHive) ->
 }
 
 // The questions are made ready before the clock starts.
-fn time_batch(rt: &impl Clock, alloc: Global, hive: &PlainHive, depth: u32) -> Result<Duration> {
+fn time_batch<H: Registry>(
+    rt: &impl Clock,
+    alloc: Global,
+    hive: &H,
+    depth: u32,
+) -> Result<Duration> {
     let queries = query_times(alloc, BATCH, u64::from(depth))?;
     let start = Instant::now(rt)?;
     let told = read_all(hive, queries.as_slice())?;

@@ -1,5 +1,6 @@
 //! Calls by handles, while few and while many are open.
 
+use crate::measured::Measured;
 use crate::open_hive::OpenHive;
 use anyhow::Result;
 use reg_workload::{BATCH, Operation, PerCall, Size};
@@ -20,12 +21,12 @@ const OPEN: [u32; 3] = [16, 512, 16_384];
 const BATCHES: usize = 1_250;
 
 /// Does each operation in one batch, and prints how many calls, handles and entries there are.
-pub fn count(rt: &impl Print, alloc: Global) -> Result<()> {
-    let mut hive = OpenHive::new(alloc, SMALL)?;
+pub fn count<H: Measured>(rt: &impl Print, alloc: Global) -> Result<()> {
+    let mut hive = OpenHive::<H>::new(alloc, SMALL)?;
     count_in(rt, &mut hive)
 }
 
-fn count_in(rt: &impl Print, hive: &mut OpenHive) -> Result<()> {
+fn count_in<H: Measured>(rt: &impl Print, hive: &mut OpenHive<H>) -> Result<()> {
     let mut made: usize = 0;
     for operation in Operation::ALL {
         made = made.saturating_add(make_batch(hive, operation)?);
@@ -39,7 +40,7 @@ fn count_in(rt: &impl Print, hive: &mut OpenHive) -> Result<()> {
 }
 
 /// Does an operation in one batch, and tells how many calls that took.
-fn make_batch(hive: &mut OpenHive, operation: Operation) -> Result<usize> {
+fn make_batch<H: Measured>(hive: &mut OpenHive<H>, operation: Operation) -> Result<usize> {
     hive.prepare(operation, 1)?;
     let calls = hive.calls(operation, 1)?;
     let made = calls.len();
@@ -49,22 +50,22 @@ fn make_batch(hive: &mut OpenHive, operation: Operation) -> Result<usize> {
 }
 
 /// Prints the times of each operation, by the numbers of keys and of open handles.
-pub fn measure(rt: &(impl Print + Clock), alloc: Global) -> Result<()> {
+pub fn measure<H: Measured>(rt: &(impl Print + Clock), alloc: Global) -> Result<()> {
     for width in WIDTHS {
         for open in OPEN {
-            measure_at(rt, alloc, Size { width, open })?;
+            measure_at::<H>(rt, alloc, Size { width, open })?;
         }
     }
     Ok(())
 }
 
-fn measure_at(rt: &(impl Print + Clock), alloc: Global, size: Size) -> Result<()> {
+fn measure_at<H: Measured>(rt: &(impl Print + Clock), alloc: Global, size: Size) -> Result<()> {
     println!(rt; "handles, {} keys, {} open:", size.keys(), size.open)?;
-    let mut hive = OpenHive::new(alloc, size)?;
+    let mut hive = OpenHive::<H>::new(alloc, size)?;
     measure_in(rt, &mut hive)
 }
 
-fn measure_in(rt: &(impl Print + Clock), hive: &mut OpenHive) -> Result<()> {
+fn measure_in<H: Measured>(rt: &(impl Print + Clock), hive: &mut OpenHive<H>) -> Result<()> {
     for operation in Operation::ALL {
         let time = time(rt, hive, operation)?;
         println!(rt; "{}, {time}", operation.name())?;
@@ -73,7 +74,11 @@ fn measure_in(rt: &(impl Print + Clock), hive: &mut OpenHive) -> Result<()> {
 }
 
 // The calls are made ready before the clock starts.
-fn time(rt: &impl Clock, hive: &mut OpenHive, operation: Operation) -> Result<PerCall> {
+fn time<H: Measured>(
+    rt: &impl Clock,
+    hive: &mut OpenHive<H>,
+    operation: Operation,
+) -> Result<PerCall> {
     let mut total = Duration::ZERO;
     for batch in 0..BATCHES {
         hive.prepare(operation, batch)?;

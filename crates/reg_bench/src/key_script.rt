@@ -1,7 +1,7 @@
 //! A script that makes keys with three values each, beside the same changes of plain maps.
 
-use crate::hives::{PlainHive, new_hive};
-use crate::script::replies;
+use crate::hives::new_hive;
+use crate::measured::Measured;
 use crate::times::Times;
 use anyhow::{Result, bail};
 use reg_workload::{
@@ -76,15 +76,15 @@ fn push_keys(alloc: Global, text: &mut String, plan: KeyPlan) -> Result<()> {
 }
 
 /// Runs a script on a hive, and tells how long that took.
-fn time_script(
+fn time_script<H: Measured>(
     rt: &impl Clock,
     alloc: Global,
-    hive: &mut PlainHive,
+    hive: &mut H,
     plan: KeyPlan,
 ) -> Result<Duration> {
     let text = script(alloc, plan)?;
     let start = Instant::now(rt)?;
-    let replies = replies(alloc, hive, text.as_bytes())?;
+    let replies = hive.replies(alloc, text.as_bytes())?;
     let time = start.elapsed(rt)?;
     if replies.is_empty() {
         bail!("the script was not answered");
@@ -110,8 +110,8 @@ fn time_maps(
 }
 
 /// Runs a small script, and prints how many entries the hive and plain maps have.
-pub fn count(rt: &(impl Print + Clock), alloc: Global) -> Result<()> {
-    let mut hive = new_hive(alloc)?;
+pub fn count<H: Measured>(rt: &(impl Print + Clock), alloc: Global) -> Result<()> {
+    let mut hive = new_hive::<H>(alloc)?;
     time_script(rt, alloc, &mut hive, SMALL)?;
     let entries = hive.len();
     let mut maps = PlainMaps::new(alloc)?;
@@ -124,9 +124,9 @@ pub fn count(rt: &(impl Print + Clock), alloc: Global) -> Result<()> {
 }
 
 /// Prints the times of scripts that make keys with three values each, and of plain maps, by the number of keys.
-pub fn measure(rt: &(impl Print + Clock), alloc: Global) -> Result<()> {
+pub fn measure<H: Measured>(rt: &(impl Print + Clock), alloc: Global) -> Result<()> {
     for parents in PARENTS {
-        measure_at(
+        measure_at::<H>(
             rt,
             alloc,
             KeyPlan {
@@ -140,10 +140,10 @@ pub fn measure(rt: &(impl Print + Clock), alloc: Global) -> Result<()> {
     Ok(())
 }
 
-fn measure_at(rt: &(impl Print + Clock), alloc: Global, plan: KeyPlan) -> Result<()> {
+fn measure_at<H: Measured>(rt: &(impl Print + Clock), alloc: Global, plan: KeyPlan) -> Result<()> {
     let mut maps = PlainMaps::new(alloc)?;
     let maps = time_maps(rt, alloc, &mut maps, plan)?;
-    let mut hive = new_hive(alloc)?;
+    let mut hive = new_hive::<H>(alloc)?;
     let hive = time_script(rt, alloc, &mut hive, plan)?;
     Times { hive, maps }.print(rt, "made by script", plan.keys() as usize)
 }

@@ -1,10 +1,11 @@
 //! Calls on a key of many values, beside a plain search of the list.
 
 use crate::cells::print_cells;
-use crate::hives::{PlainHive, apply_all, new_hive, open_root};
+use crate::hives::{apply_all, new_hive, open_root};
 use crate::times::Times;
 use anyhow::{Result, bail};
 use reg_model::Change;
+use reg_registry::Registry;
 use reg_workload::{PlainList, ValueStep, numbers_below, take_at_random};
 use std::alloc::Global;
 use std::rt::Clock;
@@ -42,16 +43,16 @@ const SEED: u64 = 42;
 const ROOT: u64 = 0;
 
 /// Opens the root and sets so many values, in the hive and in the list.
-fn fill(alloc: Global, hive: &mut PlainHive, list: &mut PlainList, values: u32) -> Result<()> {
+fn fill<H: Registry>(alloc: Global, hive: &mut H, list: &mut PlainList, values: u32) -> Result<()> {
     open_root(alloc, hive)?;
     let numbers = numbers_below(alloc, values)?;
     set_all(alloc, hive, list, numbers.as_slice())
 }
 
 /// Sets these values, in the hive and in the list.
-fn set_all(
+fn set_all<H: Registry>(
     alloc: Global,
-    hive: &mut PlainHive,
+    hive: &mut H,
     list: &mut PlainList,
     values: &[u32],
 ) -> Result<()> {
@@ -67,10 +68,10 @@ fn chosen(alloc: Global, values: u32, calls: u32) -> Result<Vec<u32>> {
 }
 
 /// Sets these values to what they are, and tells how long that took, and how long a search for each.
-fn time_sets(
+fn time_sets<H: Registry>(
     rt: &impl Clock,
     alloc: Global,
-    hive: &mut PlainHive,
+    hive: &mut H,
     list: &PlainList,
     values: &[u32],
 ) -> Result<Times> {
@@ -84,10 +85,10 @@ fn time_sets(
 
 /// Deletes these values, and tells how long that took, and how long a search for each. After each batch they are set again, and so
 /// come last.
-fn time_deletes(
+fn time_deletes<H: Registry>(
     rt: &impl Clock,
     alloc: Global,
-    hive: &mut PlainHive,
+    hive: &mut H,
     list: &mut PlainList,
     values: &[u32],
 ) -> Result<Times> {
@@ -106,9 +107,9 @@ fn time_deletes(
 }
 
 // The list stays as it is: it tells how long a search takes that finds each value.
-fn time_batch(
+fn time_batch<H: Registry>(
     rt: &impl Clock,
-    hive: &mut PlainHive,
+    hive: &mut H,
     list: &PlainList,
     calls: Vec<Change>,
 ) -> Result<Times> {
@@ -131,10 +132,10 @@ struct Calls {
     delete: Times,
 }
 
-fn time(
+fn time<H: Registry>(
     rt: &impl Clock,
     alloc: Global,
-    hive: &mut PlainHive,
+    hive: &mut H,
     list: &mut PlainList,
     size: ListSize,
 ) -> Result<Calls> {
@@ -147,12 +148,12 @@ fn time(
 }
 
 /// Does calls of each kind, and prints how many entries there are.
-pub fn count(rt: &(impl Print + Clock), alloc: Global) -> Result<()> {
-    let mut hive = new_hive(alloc)?;
+pub fn count<H: Registry>(rt: &(impl Print + Clock), alloc: Global) -> Result<()> {
+    let mut hive = new_hive::<H>(alloc)?;
     count_in(rt, alloc, &mut hive)
 }
 
-fn count_in(rt: &(impl Print + Clock), alloc: Global, hive: &mut PlainHive) -> Result<()> {
+fn count_in<H: Registry>(rt: &(impl Print + Clock), alloc: Global, hive: &mut H) -> Result<()> {
     let mut list = PlainList::new(alloc)?;
     time(rt, alloc, hive, &mut list, SMALL)?;
     let ListSize { values, calls } = SMALL;
@@ -165,12 +166,12 @@ fn count_in(rt: &(impl Print + Clock), alloc: Global, hive: &mut PlainHive) -> R
 
 /// Prints the times of setting and deleting a value of a key with as many as it may have, beside those of a plain search, and what
 /// the cells are then.
-pub fn measure(rt: &(impl Print + Clock), alloc: Global) -> Result<()> {
-    let mut hive = new_hive(alloc)?;
+pub fn measure<H: Registry>(rt: &(impl Print + Clock), alloc: Global) -> Result<()> {
+    let mut hive = new_hive::<H>(alloc)?;
     measure_in(rt, alloc, &mut hive)
 }
 
-fn measure_in(rt: &(impl Print + Clock), alloc: Global, hive: &mut PlainHive) -> Result<()> {
+fn measure_in<H: Registry>(rt: &(impl Print + Clock), alloc: Global, hive: &mut H) -> Result<()> {
     let mut list = PlainList::new(alloc)?;
     let times = time(rt, alloc, hive, &mut list, LARGE)?;
     let ListSize { values, calls } = LARGE;

@@ -2,6 +2,7 @@
 
 use crate::both::Both;
 use anyhow::Result;
+use reg_registry::Registry;
 use reg_workload::{KeyPlan, KeyStep, numbers_below, take_at_random};
 use std::alloc::Global;
 use std::rt::Clock;
@@ -27,12 +28,16 @@ const CHILDREN: [u32; 4] = [250, 500, 5_000, 60_000];
 const SEEDS: [u64; 2] = [42, 43];
 
 /// Makes keys, visits them, deletes half of them and makes these again; prints how many there are.
-pub fn count(rt: &(impl Print + Clock), alloc: Global) -> Result<()> {
-    let mut both = Both::new(alloc, SMALL)?;
+pub fn count<H: Registry>(rt: &(impl Print + Clock), alloc: Global) -> Result<()> {
+    let mut both = Both::<H>::new(alloc, SMALL)?;
     count_in(rt, alloc, &mut both)
 }
 
-fn count_in(rt: &(impl Print + Clock), alloc: Global, both: &mut Both) -> Result<()> {
+fn count_in<H: Registry>(
+    rt: &(impl Print + Clock),
+    alloc: Global,
+    both: &mut Both<H>,
+) -> Result<()> {
     let mut numbers = numbers_below(alloc, SMALL.keys())?;
     both.time_step(rt, KeyStep::Make, numbers.as_slice())?;
     both.time_visits(rt, numbers.as_slice())?;
@@ -50,9 +55,9 @@ fn count_in(rt: &(impl Print + Clock), alloc: Global, both: &mut Both) -> Result
 
 /// Prints the times of making keys: many without values below one parent; then with values, the parents one after the other, half
 /// of them deleted and made again, and the parents in turn. After each how many bytes the bins have.
-pub fn measure(rt: &(impl Print + Clock), alloc: Global) -> Result<()> {
+pub fn measure<H: Registry>(rt: &(impl Print + Clock), alloc: Global) -> Result<()> {
     for each in CHILDREN {
-        measure_at(
+        measure_at::<H>(
             rt,
             alloc,
             KeyPlan {
@@ -64,14 +69,18 @@ pub fn measure(rt: &(impl Print + Clock), alloc: Global) -> Result<()> {
         )?;
     }
     for parents in PARENTS {
-        measure_orders(rt, alloc, parents)?;
+        measure_orders::<H>(rt, alloc, parents)?;
     }
     Ok(())
 }
 
-fn measure_orders(rt: &(impl Print + Clock), alloc: Global, parents: u32) -> Result<()> {
+fn measure_orders<H: Registry>(
+    rt: &(impl Print + Clock),
+    alloc: Global,
+    parents: u32,
+) -> Result<()> {
     for in_turn in [false, true] {
-        measure_at(
+        measure_at::<H>(
             rt,
             alloc,
             KeyPlan {
@@ -85,15 +94,15 @@ fn measure_orders(rt: &(impl Print + Clock), alloc: Global, parents: u32) -> Res
     Ok(())
 }
 
-fn measure_at(rt: &(impl Print + Clock), alloc: Global, plan: KeyPlan) -> Result<()> {
-    let mut both = Both::new(alloc, plan)?;
+fn measure_at<H: Registry>(rt: &(impl Print + Clock), alloc: Global, plan: KeyPlan) -> Result<()> {
+    let mut both = Both::<H>::new(alloc, plan)?;
     measure_in(rt, alloc, &mut both, plan)
 }
 
-fn measure_in(
+fn measure_in<H: Registry>(
     rt: &(impl Print + Clock),
     alloc: Global,
-    both: &mut Both,
+    both: &mut Both<H>,
     plan: KeyPlan,
 ) -> Result<()> {
     let mut numbers = numbers_below(alloc, plan.keys())?;
@@ -125,9 +134,9 @@ fn what_of(plan: KeyPlan) -> &'static str {
     }
 }
 
-fn time_step(
+fn time_step<H: Registry>(
     rt: &(impl Print + Clock),
-    both: &mut Both,
+    both: &mut Both<H>,
     what: &str,
     step: KeyStep,
     numbers: &[u32],

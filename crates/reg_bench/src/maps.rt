@@ -2,6 +2,7 @@
 
 use crate::both::Both;
 use anyhow::Result;
+use reg_registry::Registry;
 use reg_workload::{KeyPlan, KeyStep, numbers_below, take_at_random};
 use std::alloc::Global;
 use std::rt::Clock;
@@ -16,7 +17,7 @@ const EACH: u32 = 250;
 const SEED: u64 = 42;
 
 /// Prints the times of making, opening, asking, setting, closing and deleting keys, by their number, beside those of plain maps.
-pub fn measure(rt: &(impl Print + Clock), alloc: Global) -> Result<()> {
+pub fn measure<H: Registry>(rt: &(impl Print + Clock), alloc: Global) -> Result<()> {
     for parents in PARENTS {
         let plan = KeyPlan {
             parents,
@@ -24,21 +25,21 @@ pub fn measure(rt: &(impl Print + Clock), alloc: Global) -> Result<()> {
             in_turn: false,
             with_values: true,
         };
-        measure_at(rt, alloc, plan)?;
+        measure_at::<H>(rt, alloc, plan)?;
     }
     Ok(())
 }
 
-fn measure_at(rt: &(impl Print + Clock), alloc: Global, plan: KeyPlan) -> Result<()> {
-    let mut both = Both::new(alloc, plan)?;
+fn measure_at<H: Registry>(rt: &(impl Print + Clock), alloc: Global, plan: KeyPlan) -> Result<()> {
+    let mut both = Both::<H>::new(alloc, plan)?;
     measure_in(rt, alloc, &mut both, plan)
 }
 
 // The keys are made in their order, and visited and deleted at random.
-fn measure_in(
+fn measure_in<H: Registry>(
     rt: &(impl Print + Clock),
     alloc: Global,
-    both: &mut Both,
+    both: &mut Both<H>,
     plan: KeyPlan,
 ) -> Result<()> {
     let mut numbers = numbers_below(alloc, plan.keys())?;

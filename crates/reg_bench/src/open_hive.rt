@@ -1,10 +1,10 @@
 //! A hive with open handles on many keys, and batches of calls by them.
-ghost use Rattle.std.specs.Prelude.{◌≡◌, ◌+◌, length, OnOk, IfOk, List, ℕ, map, sum_by};
+ghost use Rattle.std.specs.Prelude.{◌≡◌, ◌+◌, OnOk, IfOk, List, ℕ, map, sum_by};
 ghost use Rattle.reg_workload.specs.Operations.{call_of};
-ghost use Rattle.reg_calls.specs.HiveView.{view_of};
 ghost use Rattle.reg_bench.specs.Batches.{entries_of};
 
-use crate::hives::{PlainHive, new_hive};
+use crate::hives::new_hive;
+use crate::measured::Measured;
 use anyhow::{Result, bail};
 use reg_model::{AnswerBody, Bytes, Call, Change, Query};
 use reg_workload::{ALL_RIGHTS, BATCH, OLD_SUBKEY, Operation, Size};
@@ -21,16 +21,16 @@ fn path_of(alloc: Global, size: Size, number: u32) -> Result<String> {
 /// A hive with open handles. One batch of them is closed and opened; the others stay, and lead to the keys two names below the
 /// root, in turn.
 #[derive(Drop)]
-pub struct OpenHive {
+pub struct OpenHive<H> {
     alloc: Global,
-    hive: PlainHive,
+    hive: H,
     staying: Vec<u64>,
     spare: Vec<u64>,
 }
 
-impl OpenHive {
+impl<H: Measured> OpenHive<H> {
     /// A hive of a size. Each of its keys has a subkey, and each key of a handle that stays has a value.
-    pub fn new(alloc: Global, size: Size) -> Result<OpenHive> {
+    pub fn new(alloc: Global, size: Size) -> Result<OpenHive<H>> {
         let mut open = OpenHive {
             alloc,
             hive: new_hive(alloc)?,
@@ -58,14 +58,14 @@ impl OpenHive {
 
     /// How many handles are open.
     pub fn open_handles(&self) -> usize
-        ensures { result ≡ length (view_of self.now.hive).handles }
+        ensures { result ≡ H.handles self.now.hive }
     {
-        self.hive.open_handles()
+        self.hive.count_handles()
     }
 
     /// How many entries the journal has.
     pub fn entries(&self) -> usize
-        ensures { result ≡ length (view_of self.now.hive).journal }
+        ensures { result ≡ H.entries self.now.hive }
     {
         self.hive.len()
     }
@@ -104,9 +104,8 @@ impl OpenHive {
     }
 
     /// Makes a change, which is an entry more. A handle that it opens is a spare one.
-    #[tactic(auto, using(reg_calls::proofs::AcceptedChanges::accepted))]
     fn change(&mut self, change: Change) -> Result<()>
-        ensures { OnOk result (length (view_of self.new.hive).journal ≡ length (view_of self.old.hive).journal + 1) }
+        ensures { OnOk result (H.entries self.new.hive ≡ H.entries self.old.hive + 1) }
     {
         let reply = self.hive.apply(0, 1, change);
         if reply.status != 0 {
@@ -129,7 +128,7 @@ impl OpenHive {
 
     /// Makes a call.
     fn make_one(&mut self, call: Call) -> Result<()>
-        ensures { OnOk result (length (view_of self.new.hive).journal ≡ length (view_of self.old.hive).journal + entries_of call) }
+        ensures { OnOk result (H.entries self.new.hive ≡ H.entries self.old.hive + entries_of call) }
     {
         match call {
             Call::Change(change) => self.change(change),
@@ -139,7 +138,7 @@ impl OpenHive {
 
     /// Makes calls, each of which is accepted: each change is an entry more.
     pub fn make(&mut self, calls: Vec<Call>) -> Result<()>
-        ensures { OnOk result (length (view_of self.new.hive).journal ≡ length (view_of self.old.hive).journal + sum_by entries_of calls.items) }
+        ensures { OnOk result (H.entries self.new.hive ≡ H.entries self.old.hive + sum_by entries_of calls.items) }
     {
         for call in calls {
             self.make_one(call)?;

@@ -3,6 +3,7 @@
 use crate::both::Both;
 use crate::times::Times;
 use anyhow::Result;
+use reg_registry::Registry;
 use reg_workload::{KeyHandles, KeyPlan, KeyStep, numbers_below, numbers_in_turn, take_at_random};
 use std::alloc::Global;
 use std::rt::Clock;
@@ -58,7 +59,12 @@ fn each_once(alloc: Global, plan: KeyPlan) -> Result<Vec<u32>> {
 }
 
 /// Makes the keys and opens a handle of each.
-fn fill(rt: &impl Clock, alloc: Global, both: &mut Both, plan: KeyPlan) -> Result<KeyHandles> {
+fn fill<H: Registry>(
+    rt: &impl Clock,
+    alloc: Global,
+    both: &mut Both<H>,
+    plan: KeyPlan,
+) -> Result<KeyHandles> {
     let numbers = numbers_below(alloc, plan.keys())?;
     both.time_step(rt, KeyStep::Make, numbers.as_slice())?;
     both.open_all(rt)
@@ -74,10 +80,10 @@ struct Calls {
 }
 
 /// Asks and sets by the handles, and opens and deletes by the parents'.
-fn time(
+fn time<H: Registry>(
     rt: &impl Clock,
     alloc: Global,
-    both: &mut Both,
+    both: &mut Both<H>,
     plan: KeyPlan,
     calls: u32,
 ) -> Result<Calls> {
@@ -92,10 +98,10 @@ fn time(
 }
 
 // No key comes twice in a round, so that all of a few can be deleted together.
-fn time_deletes(
+fn time_deletes<H: Registry>(
     rt: &impl Clock,
     alloc: Global,
-    both: &mut Both,
+    both: &mut Both<H>,
     plan: KeyPlan,
     handles: &mut KeyHandles,
     calls: u32,
@@ -114,12 +120,16 @@ fn rounds(plan: KeyPlan, calls: u32) -> u32 {
 }
 
 /// Does calls of each kind, and prints how many keys, handles and entries there are.
-pub fn count(rt: &(impl Print + Clock), alloc: Global) -> Result<()> {
-    let mut both = Both::new(alloc, SMALL)?;
+pub fn count<H: Registry>(rt: &(impl Print + Clock), alloc: Global) -> Result<()> {
+    let mut both = Both::<H>::new(alloc, SMALL)?;
     count_in(rt, alloc, &mut both)
 }
 
-fn count_in(rt: &(impl Print + Clock), alloc: Global, both: &mut Both) -> Result<()> {
+fn count_in<H: Registry>(
+    rt: &(impl Print + Clock),
+    alloc: Global,
+    both: &mut Both<H>,
+) -> Result<()> {
     time(rt, alloc, both, SMALL, SMALL_CALLS)?;
     let (hive, maps) = both.entries();
     println!(rt;
@@ -131,22 +141,22 @@ fn count_in(rt: &(impl Print + Clock), alloc: Global, both: &mut Both) -> Result
 }
 
 /// Prints the times of a question, a set, an opening and a deletion, by the number of keys, beside those of plain maps.
-pub fn measure(rt: &(impl Print + Clock), alloc: Global) -> Result<()> {
+pub fn measure<H: Registry>(rt: &(impl Print + Clock), alloc: Global) -> Result<()> {
     for plan in PLANS {
-        measure_at(rt, alloc, plan)?;
+        measure_at::<H>(rt, alloc, plan)?;
     }
     Ok(())
 }
 
-fn measure_at(rt: &(impl Print + Clock), alloc: Global, plan: KeyPlan) -> Result<()> {
-    let mut both = Both::new(alloc, plan)?;
+fn measure_at<H: Registry>(rt: &(impl Print + Clock), alloc: Global, plan: KeyPlan) -> Result<()> {
+    let mut both = Both::<H>::new(alloc, plan)?;
     measure_in(rt, alloc, &mut both, plan)
 }
 
-fn measure_in(
+fn measure_in<H: Registry>(
     rt: &(impl Print + Clock),
     alloc: Global,
-    both: &mut Both,
+    both: &mut Both<H>,
     plan: KeyPlan,
 ) -> Result<()> {
     let times = time(rt, alloc, both, plan, CALLS)?;

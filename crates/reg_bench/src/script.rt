@@ -1,9 +1,9 @@
 //! A script of many lines, read from memory, answered and written to memory.
 
-use crate::hives::{PlainHive, new_hive};
+use crate::hives::new_hive;
 use crate::key_script;
-use anyhow::{Result, bail};
-use reg_script::run;
+use crate::measured::Measured;
+use anyhow::Result;
 use reg_workload::PerCall;
 use std::alloc::Global;
 use std::rt::Clock;
@@ -79,32 +79,22 @@ impl Script {
     }
 }
 
-/// Runs a script, and gives the replies.
-pub fn replies(alloc: Global, hive: &mut PlainHive, script: &[u8]) -> Result<Vec<u8>> {
-    let mut input = script;
-    let mut output = Vec::new(alloc);
-    let Ok(()) = run(alloc, &mut input, &mut output, hive) else {
-        bail!("the script was not run");
-    };
-    Ok(output)
-}
-
 fn lines_in(text: &[u8]) -> usize {
     text.iter().filter(|byte| **byte == b'\n').count()
 }
 
 /// Runs a small script, and prints how many lines and entries there are.
-pub fn count(rt: &impl Print, alloc: Global) -> Result<()> {
-    let mut hive = new_hive(alloc)?;
+pub fn count<H: Measured>(rt: &impl Print, alloc: Global) -> Result<()> {
+    let mut hive = new_hive::<H>(alloc)?;
     count_in(rt, alloc, &mut hive)
 }
 
-fn count_in(rt: &impl Print, alloc: Global, hive: &mut PlainHive) -> Result<()> {
+fn count_in<H: Measured>(rt: &impl Print, alloc: Global, hive: &mut H) -> Result<()> {
     let mut script = Script::new(alloc)?;
     for keys in SMALL {
         script.pass(keys)?;
     }
-    let replies = replies(alloc, hive, script.text.as_bytes())?;
+    let replies = hive.replies(alloc, script.text.as_bytes())?;
     println!(rt;
         "script: {} lines, {} replies, {} entries",
         lines_in(script.text.as_bytes()),
@@ -115,28 +105,28 @@ fn count_in(rt: &impl Print, alloc: Global, hive: &mut PlainHive) -> Result<()> 
 }
 
 /// Prints the times of scripts, by the number of their lines, and of scripts that make keys with values.
-pub fn measure(rt: &(impl Print + Clock), alloc: Global) -> Result<()> {
+pub fn measure<H: Measured>(rt: &(impl Print + Clock), alloc: Global) -> Result<()> {
     for visits in SIZES {
-        measure_at(rt, alloc, visits)?;
+        measure_at::<H>(rt, alloc, visits)?;
     }
-    key_script::measure(rt, alloc)
+    key_script::measure::<H>(rt, alloc)
 }
 
-fn measure_at(rt: &(impl Print + Clock), alloc: Global, visits: u32) -> Result<()> {
-    let mut hive = new_hive(alloc)?;
+fn measure_at<H: Measured>(rt: &(impl Print + Clock), alloc: Global, visits: u32) -> Result<()> {
+    let mut hive = new_hive::<H>(alloc)?;
     measure_in(rt, alloc, &mut hive, visits)
 }
 
 // The script is made before the clock starts.
-fn measure_in(
+fn measure_in<H: Measured>(
     rt: &(impl Print + Clock),
     alloc: Global,
-    hive: &mut PlainHive,
+    hive: &mut H,
     visits: u32,
 ) -> Result<()> {
     let script = Script::of_visits(alloc, visits)?;
     let start = Instant::now(rt)?;
-    let replies = replies(alloc, hive, script.text.as_bytes())?;
+    let replies = hive.replies(alloc, script.text.as_bytes())?;
     let time = start.elapsed(rt)?;
     let lines = lines_in(script.text.as_bytes());
     let replies = lines_in(replies.as_slice());

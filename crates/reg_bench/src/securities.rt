@@ -1,8 +1,9 @@
 //! Descriptors of keys, set, asked for and given to keys that are made, of which a hive has few or many.
 
-use crate::hives::{PlainHive, apply_all, new_hive, open_root};
+use crate::hives::{apply_all, new_hive, open_root};
 use anyhow::{Result, bail};
 use reg_model::{AnswerBody, Query};
+use reg_registry::Registry;
 use reg_workload::{
     PerCall, SecurityStep, descriptor_queries, numbers_below, numbers_in_turn, take_at_random,
 };
@@ -26,13 +27,18 @@ const CALLS: u32 = 100_000;
 const SHARED: u32 = 5_000;
 
 /// Does a step with each descriptor.
-fn step(alloc: Global, hive: &mut PlainHive, step: SecurityStep, descriptors: u32) -> Result<()> {
+fn step<H: Registry>(
+    alloc: Global,
+    hive: &mut H,
+    step: SecurityStep,
+    descriptors: u32,
+) -> Result<()> {
     let numbers = numbers_below(alloc, descriptors)?;
     apply_all(hive, step.changes(alloc, numbers.as_slice())?)
 }
 
 /// Asks for descriptors, each of which is told, and tells how many bytes they have together.
-fn ask_all(hive: &PlainHive, queries: &[Query]) -> Result<u64> {
+fn ask_all<H: Registry>(hive: &H, queries: &[Query]) -> Result<u64> {
     let mut told: u64 = 0;
     for query in queries {
         match &hive.read(0, query).body {
@@ -46,19 +52,24 @@ fn ask_all(hive: &PlainHive, queries: &[Query]) -> Result<u64> {
 }
 
 /// Does each step with few descriptors, asks for them, and prints how many bytes were told.
-pub fn count(rt: &impl Print, alloc: Global) -> Result<()> {
+pub fn count<H: Registry>(rt: &impl Print, alloc: Global) -> Result<()> {
     for descriptors in SMALL {
-        count_at(rt, alloc, descriptors)?;
+        count_at::<H>(rt, alloc, descriptors)?;
     }
     Ok(())
 }
 
-fn count_at(rt: &impl Print, alloc: Global, descriptors: u32) -> Result<()> {
-    let mut hive = new_hive(alloc)?;
+fn count_at<H: Registry>(rt: &impl Print, alloc: Global, descriptors: u32) -> Result<()> {
+    let mut hive = new_hive::<H>(alloc)?;
     count_in(rt, alloc, &mut hive, descriptors)
 }
 
-fn count_in(rt: &impl Print, alloc: Global, hive: &mut PlainHive, descriptors: u32) -> Result<()> {
+fn count_in<H: Registry>(
+    rt: &impl Print,
+    alloc: Global,
+    hive: &mut H,
+    descriptors: u32,
+) -> Result<()> {
     open_root(alloc, hive)?;
     step(alloc, hive, SecurityStep::Make, descriptors)?;
     step(alloc, hive, SecurityStep::Set, descriptors)?;
@@ -75,23 +86,27 @@ fn count_in(rt: &impl Print, alloc: Global, hive: &mut PlainHive, descriptors: u
 
 /// Prints the times of making a key with a new descriptor, of setting one that is there, of asking for one, and of making a key
 /// with one that is there, by the number of descriptors.
-pub fn measure(rt: &(impl Print + Clock), alloc: Global) -> Result<()> {
+pub fn measure<H: Registry>(rt: &(impl Print + Clock), alloc: Global) -> Result<()> {
     for descriptors in SIZES {
         println!(rt; "securities, {descriptors} descriptors:")?;
-        measure_at(rt, alloc, descriptors)?;
+        measure_at::<H>(rt, alloc, descriptors)?;
     }
     Ok(())
 }
 
-fn measure_at(rt: &(impl Print + Clock), alloc: Global, descriptors: u32) -> Result<()> {
-    let mut hive = new_hive(alloc)?;
+fn measure_at<H: Registry>(
+    rt: &(impl Print + Clock),
+    alloc: Global,
+    descriptors: u32,
+) -> Result<()> {
+    let mut hive = new_hive::<H>(alloc)?;
     measure_in(rt, alloc, &mut hive, descriptors)
 }
 
-fn measure_in(
+fn measure_in<H: Registry>(
     rt: &(impl Print + Clock),
     alloc: Global,
-    hive: &mut PlainHive,
+    hive: &mut H,
     descriptors: u32,
 ) -> Result<()> {
     open_root(alloc, hive)?;
@@ -117,10 +132,10 @@ fn in_disorder(alloc: Global, descriptors: u32) -> Result<Vec<u32>> {
 }
 
 // The calls are made ready before the clock starts.
-fn time_step(
+fn time_step<H: Registry>(
     rt: &(impl Print + Clock),
     alloc: Global,
-    hive: &mut PlainHive,
+    hive: &mut H,
     step: SecurityStep,
     numbers: &[u32],
 ) -> Result<()> {
@@ -132,10 +147,10 @@ fn time_step(
     Ok(())
 }
 
-fn time_queries(
+fn time_queries<H: Registry>(
     rt: &(impl Print + Clock),
     alloc: Global,
-    hive: &PlainHive,
+    hive: &H,
     numbers: &[u32],
 ) -> Result<()> {
     let queries = descriptor_queries(alloc, numbers)?;

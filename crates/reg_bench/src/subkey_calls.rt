@@ -1,10 +1,11 @@
 //! The calls on many subkeys of one key: made one by one, told one after the other, and deleted in one call.
 
 use crate::cells::{count_cells, print_cells};
-use crate::hives::{PlainHive, apply_all, new_hive, open_root};
+use crate::hives::{apply_all, new_hive, open_root};
 use crate::subkeys::{Order, SIZES, SMALL};
 use anyhow::{Result, bail};
 use reg_model::{AnswerBody, Bytes, Change, Query};
+use reg_registry::Registry;
 use reg_workload::{ALL_RIGHTS, PerCall};
 use std::alloc::Global;
 use std::rt::Clock;
@@ -45,7 +46,7 @@ fn asks(alloc: Global, keys: u32) -> Result<Vec<Query>> {
 }
 
 /// Asks for subkeys, each of which is told, and tells how many bytes their names have together.
-fn ask_all(hive: &PlainHive, queries: &[Query]) -> Result<u64> {
+fn ask_all<H: Registry>(hive: &H, queries: &[Query]) -> Result<u64> {
     let mut told: u64 = 0;
     for query in queries {
         match &hive.read(0, query).body {
@@ -69,12 +70,12 @@ fn deletes(alloc: Global) -> Result<Vec<Change>> {
 }
 
 /// Makes subkeys, asks for each and deletes all, and prints how many bytes were told, and how many entries and cells there are then.
-pub fn count(rt: &impl Print, alloc: Global) -> Result<()> {
-    let mut hive = new_hive(alloc)?;
+pub fn count<H: Registry>(rt: &impl Print, alloc: Global) -> Result<()> {
+    let mut hive = new_hive::<H>(alloc)?;
     count_in(rt, alloc, &mut hive)
 }
 
-fn count_in(rt: &impl Print, alloc: Global, hive: &mut PlainHive) -> Result<()> {
+fn count_in<H: Registry>(rt: &impl Print, alloc: Global, hive: &mut H) -> Result<()> {
     open_root(alloc, hive)?;
     let names = Order::Random.names(alloc, SMALL)?;
     apply_all(hive, makes(alloc, names.as_slice())?)?;
@@ -91,25 +92,30 @@ fn count_in(rt: &impl Print, alloc: Global, hive: &mut PlainHive) -> Result<()> 
 
 /// Prints the times of making subkeys, rising and at random, and closing them, of asking for all of them, and of deleting all in one
 /// call, by their number, and what the cells are before. Rising leaves the most lists, of which each question reads one word.
-pub fn measure(rt: &(impl Print + Clock), alloc: Global) -> Result<()> {
+pub fn measure<H: Registry>(rt: &(impl Print + Clock), alloc: Global) -> Result<()> {
     for keys in SIZES {
         for order in [Order::Rising, Order::Random] {
             println!(rt; "subkey calls, {keys} keys, {}:", order.name())?;
-            measure_at(rt, alloc, keys, order)?;
+            measure_at::<H>(rt, alloc, keys, order)?;
         }
     }
     Ok(())
 }
 
-fn measure_at(rt: &(impl Print + Clock), alloc: Global, keys: u32, order: Order) -> Result<()> {
-    let mut hive = new_hive(alloc)?;
+fn measure_at<H: Registry>(
+    rt: &(impl Print + Clock),
+    alloc: Global,
+    keys: u32,
+    order: Order,
+) -> Result<()> {
+    let mut hive = new_hive::<H>(alloc)?;
     measure_in(rt, alloc, &mut hive, keys, order)
 }
 
-fn measure_in(
+fn measure_in<H: Registry>(
     rt: &(impl Print + Clock),
     alloc: Global,
-    hive: &mut PlainHive,
+    hive: &mut H,
     keys: u32,
     order: Order,
 ) -> Result<()> {
@@ -121,10 +127,10 @@ fn measure_in(
 }
 
 // The calls are made ready before the clock starts, here and below.
-fn time_makes(
+fn time_makes<H: Registry>(
     rt: &(impl Print + Clock),
     alloc: Global,
-    hive: &mut PlainHive,
+    hive: &mut H,
     keys: u32,
     order: Order,
 ) -> Result<()> {
@@ -137,7 +143,12 @@ fn time_makes(
     Ok(())
 }
 
-fn time_asks(rt: &(impl Print + Clock), alloc: Global, hive: &PlainHive, keys: u32) -> Result<()> {
+fn time_asks<H: Registry>(
+    rt: &(impl Print + Clock),
+    alloc: Global,
+    hive: &H,
+    keys: u32,
+) -> Result<()> {
     let queries = asks(alloc, keys)?;
     let start = Instant::now(rt)?;
     let _told = ask_all(hive, queries.as_slice())?;
@@ -147,7 +158,7 @@ fn time_asks(rt: &(impl Print + Clock), alloc: Global, hive: &PlainHive, keys: u
     Ok(())
 }
 
-fn time_delete(rt: &(impl Print + Clock), alloc: Global, hive: &mut PlainHive) -> Result<()> {
+fn time_delete<H: Registry>(rt: &(impl Print + Clock), alloc: Global, hive: &mut H) -> Result<()> {
     let calls = deletes(alloc)?;
     let start = Instant::now(rt)?;
     apply_all(hive, calls)?;

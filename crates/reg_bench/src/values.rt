@@ -1,9 +1,10 @@
 //! Values, set and asked for by a handle of a key that has several.
 
-use crate::hives::{PlainHive, new_hive};
+use crate::hives::new_hive;
 use anyhow::{Result, bail};
 use reg_heap::limits::DATA_LIMIT;
 use reg_model::{AnswerBody, Bytes, Change, Query};
+use reg_registry::Registry;
 use reg_workload::{ALL_RIGHTS, PerCall};
 use std::alloc::Global;
 use std::rt::Clock;
@@ -25,7 +26,7 @@ const SIZE: usize = 100;
 const LARGE_CALLS: u32 = 50;
 
 /// Opens the root, and sets so many values.
-fn fill(alloc: Global, hive: &mut PlainHive, values: u32) -> Result<()> {
+fn fill<H: Registry>(alloc: Global, hive: &mut H, values: u32) -> Result<()> {
     let opened = hive.apply(0, 0, Change::OpenRoot { mask: ALL_RIGHTS });
     if opened.status != 0 {
         bail!("the root was not opened");
@@ -70,7 +71,7 @@ fn queries(alloc: Global, calls: u32, values: u32) -> Result<Vec<Query>> {
     Ok(queries)
 }
 
-fn set_all(hive: &mut PlainHive, changes: Vec<Change>) -> Result<()> {
+fn set_all<H: Registry>(hive: &mut H, changes: Vec<Change>) -> Result<()> {
     for change in changes {
         if hive.apply(0, 1, change).status != 0 {
             bail!("a value was not set");
@@ -80,7 +81,7 @@ fn set_all(hive: &mut PlainHive, changes: Vec<Change>) -> Result<()> {
 }
 
 /// Asks all, and tells how many bytes were told.
-fn ask_all(hive: &PlainHive, queries: &[Query]) -> Result<u64> {
+fn ask_all<H: Registry>(hive: &H, queries: &[Query]) -> Result<u64> {
     let mut total: u64 = 0;
     for query in queries {
         match hive.read(0, query).body {
@@ -92,12 +93,12 @@ fn ask_all(hive: &PlainHive, queries: &[Query]) -> Result<u64> {
 }
 
 /// Sets values and asks for them, and prints how many there are.
-pub fn count(rt: &impl Print, alloc: Global) -> Result<()> {
-    let mut hive = new_hive(alloc)?;
+pub fn count<H: Registry>(rt: &impl Print, alloc: Global) -> Result<()> {
+    let mut hive = new_hive::<H>(alloc)?;
     count_in(rt, alloc, &mut hive)
 }
 
-fn count_in(rt: &impl Print, alloc: Global, hive: &mut PlainHive) -> Result<()> {
+fn count_in<H: Registry>(rt: &impl Print, alloc: Global, hive: &mut H) -> Result<()> {
     fill(alloc, hive, SMALL)?;
     set_all(hive, sets(alloc, SMALL, SMALL, SIZE)?)?;
     let told = ask_all(hive, queries(alloc, SMALL, SMALL)?.as_slice())?;
@@ -107,15 +108,15 @@ fn count_in(rt: &impl Print, alloc: Global, hive: &mut PlainHive) -> Result<()> 
 
 /// Prints the times of setting a value and of asking for one, by the number of values, and of the largest value beside a
 /// plain copy.
-pub fn measure(rt: &(impl Print + Clock), alloc: Global) -> Result<()> {
+pub fn measure<H: Registry>(rt: &(impl Print + Clock), alloc: Global) -> Result<()> {
     for values in SIZES {
-        measure_at(rt, alloc, values, CALLS, SIZE)?;
+        measure_at::<H>(rt, alloc, values, CALLS, SIZE)?;
     }
-    measure_at(rt, alloc, 1, LARGE_CALLS, DATA_LIMIT)?;
+    measure_at::<H>(rt, alloc, 1, LARGE_CALLS, DATA_LIMIT)?;
     measure_copy(rt, alloc)
 }
 
-fn measure_at(
+fn measure_at<H: Registry>(
     rt: &(impl Print + Clock),
     alloc: Global,
     values: u32,
@@ -123,14 +124,14 @@ fn measure_at(
     size: usize,
 ) -> Result<()> {
     println!(rt; "values, {values} of {size} bytes:")?;
-    let mut hive = new_hive(alloc)?;
+    let mut hive = new_hive::<H>(alloc)?;
     measure_in(rt, alloc, &mut hive, values, calls, size)
 }
 
-fn measure_in(
+fn measure_in<H: Registry>(
     rt: &(impl Print + Clock),
     alloc: Global,
-    hive: &mut PlainHive,
+    hive: &mut H,
     values: u32,
     calls: u32,
     size: usize,
@@ -140,7 +141,11 @@ fn measure_in(
     time_queries(rt, hive, queries(alloc, calls, values)?.as_slice())
 }
 
-fn time_sets(rt: &(impl Print + Clock), hive: &mut PlainHive, changes: Vec<Change>) -> Result<()> {
+fn time_sets<H: Registry>(
+    rt: &(impl Print + Clock),
+    hive: &mut H,
+    changes: Vec<Change>,
+) -> Result<()> {
     let calls = changes.len();
     let start = Instant::now(rt)?;
     set_all(hive, changes)?;
@@ -149,7 +154,7 @@ fn time_sets(rt: &(impl Print + Clock), hive: &mut PlainHive, changes: Vec<Chang
     Ok(())
 }
 
-fn time_queries(rt: &(impl Print + Clock), hive: &PlainHive, queries: &[Query]) -> Result<()> {
+fn time_queries<H: Registry>(rt: &(impl Print + Clock), hive: &H, queries: &[Query]) -> Result<()> {
     let start = Instant::now(rt)?;
     let _told = ask_all(hive, queries)?;
     let asked = PerCall::new(start.elapsed(rt)?, queries.len());
