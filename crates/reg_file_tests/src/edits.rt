@@ -73,10 +73,15 @@ fn saves_elsewhere(rt: HostRuntime) -> Result<(), Fail> {
         Block("b"),
         Names,
         Edit("regtool edit @/a --output @/no/b", B),
+        Keep("b"),
+        Edit("regtool edit @/a --output @/b --at 4", B),
+        Same("b"),
     ];
     let wanted = "0;;|0;;0 handle 0\n0 handle 1 disposition 1\n|same true|2 2 3|a b |\
         1;error create @/no/b: No such file or directory (os error 2)\n;\
-        0 handle 0\n0 handle 1 disposition 1\n|";
+        0 handle 0\n0 handle 1 disposition 1\n|\
+        1;error create @/b: File exists (os error 17)\n;\
+        0 handle 0\n0 handle 1 disposition 1\n|same true|";
     assert_told(&rt, tale(&rt, &rt, &deeds), wanted)
 }
 
@@ -95,7 +100,8 @@ fn counts_from_the_greatest_sequence_number_to_0(rt: HostRuntime) -> Result<(), 
     )
 }
 
-/// A link stays, and what it leads to is saved; a name that is taken is no temporary file's.
+/// A link stays, and what it leads to is saved; a name that is taken is no temporary file's, nor another one's to save in; and a device
+/// is no hive's.
 #[test]
 fn edits_the_file_at_the_end_of_a_link(rt: HostRuntime) -> Result<(), Fail> {
     let deeds = [
@@ -110,10 +116,13 @@ fn edits_the_file_at_the_end_of_a_link(rt: HostRuntime) -> Result<(), Fail> {
         Edit("regtool edit @/a --output @/link", SCRIPT),
         IsLink("link"),
         Block("a"),
+        Edit("regtool edit /dev/null", SCRIPT),
         Names,
     ];
     let wanted = "0;;|0;;0 handle 0\n0 handle 1 disposition 1\n|link true|2 2 0|same true|\
-        0;;0 handle 0\n0 handle 1 disposition 1\n0\n|link true|3 3 0|a a.regtool-0 link |";
+        1;error create @/link: File exists (os error 17)\n;\
+        0 handle 0\n0 handle 1 disposition 1\n0\n|link true|2 2 0|\
+        1;error file /dev/null: it is no regular file\n;|a a.regtool-0 link |";
     assert_told(&rt, tale(&rt, &rt, &deeds), wanted)
 }
 

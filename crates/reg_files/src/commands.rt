@@ -10,7 +10,7 @@ ghost use Rattle.reg_files.specs.declared.words.Request.{Request};
 use crate::edits::{edit, fresh_image};
 use crate::fault::{Fault, Step, taken};
 use crate::input::PutBack;
-use crate::locks::{Lockable, open_locked, read_image, real_path, target_path};
+use crate::locks::{Lockable, open_locked, read_image, real_path};
 use crate::lookups::{get, list};
 use crate::moments::moment_at;
 use crate::saving::{create, replace};
@@ -19,8 +19,8 @@ use reg_command::tool;
 use reg_text::{Sink, write_counted};
 use std::alloc::{AllocError, Global};
 use std::fs;
-use std::fs::{File, Permissions};
-use std::io::{ErrorKind, Read, Write};
+use std::fs::File;
+use std::io::{Read, Write};
 use std::rt::{Clock, Files};
 
 /// What of `tool`'s commands is done with a file.
@@ -168,23 +168,14 @@ fn begin_at<H: Clock>(host: &H, begin: Begin) -> Result<Option<u64>, Fault>
     }
 }
 
-/// The permissions of the file at a path; `None` where there is no file yet.
-fn permissions_at<H: Files>(host: &H, path: &str) -> Result<Option<Permissions>, Fault> {
-    match fs::metadata(host, path) {
-        Ok(metadata) => Ok(Some(metadata.permissions())),
-        Err(error) if error.kind() == ErrorKind::NotFound => Ok(None),
-        Err(error) => taken(Step::Permit, Err(error)),
-    }
+/// Saves what an edit made in the place of a file, with that one's permissions.
+fn save<H: Files>(alloc: Global, host: &H, path: &str, bytes: &[u8]) -> Result<(), Fault> {
+    let standing = taken(Step::Permit, fs::metadata(host, path))?;
+    replace(alloc, host, path, standing.permissions(), bytes)
 }
 
-/// Saves what an edit made in the place of a file.
-fn save<H: Files>(alloc: Global, host: &H, file: &str, bytes: &[u8]) -> Result<(), Fault> {
-    let path = target_path(alloc, host, file)?;
-    let permissions = permissions_at(host, path.as_str())?;
-    replace(alloc, host, path.as_str(), permissions, bytes)
-}
-
-/// Runs a script on the hive of a file and saves what it changed. The file's lock is held until then.
+/// Runs a script on the hive of a file and saves what it changed: in its place, or in another file, which is made anew. The file's lock is
+/// held until then.
 pub fn edit_file<H: Files + Clock, R: PutBack, W: Write>(
     alloc: Global,
     host: &H,
@@ -207,10 +198,10 @@ where
         Err(fault) => return Err(Fault::Edit(fault)),
     };
     match edited {
-        Some(new) if !request.dry_run => {
-            let target = request.output.unwrap_or(path.as_str());
-            save(alloc, host, target, new.as_slice())
-        }
+        Some(new) if !request.dry_run => match request.output {
+            Some(target) => create(host, target, new.as_slice()),
+            None => save(alloc, host, path.as_str(), new.as_slice()),
+        },
         _ => Ok(()),
     }
 }

@@ -70,6 +70,9 @@ pub enum Fault {
     /// The system refused a step.
     #[error("{step}: {error}")]
     Step { step: Step, error: io::Error },
+    /// What is to be edited is a device, a pipe or a folder.
+    #[error("it is no regular file")]
+    NoFile,
     /// Another one holds the file's lock, or took its place since it was opened.
     #[error("the file is locked")]
     Busy,

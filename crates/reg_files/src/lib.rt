@@ -40,6 +40,7 @@ use std::rt::{Clock, Files};
 fn fault_text(alloc: Global, file: &str, fault: Fault) -> Result<String, AllocError> {
     match fault {
         Fault::Busy => format!(in alloc; "error busy {file}\n"),
+        Fault::NoFile => format!(in alloc; "error file {file}: {fault}\n"),
         Fault::Name => format!(in alloc; "error name {file}: {fault}\n"),
         Fault::Step { step, error } => format!(in alloc; "error {step} {file}: {error}\n"),
         Fault::Edit(EditFault::Load(fault)) | Fault::Lookup(LookupFault::Load(fault)) => {

@@ -5,7 +5,7 @@ use reg_heap::limits::BINS_LIMIT;
 use std::alloc::Global;
 use std::fs;
 use std::fs::{File, Metadata, OpenFile, OpenOptions, TryLockError};
-use std::io::{ErrorKind, Read};
+use std::io::Read;
 use std::os::unix::fs::MetadataExt;
 use std::rt::Files;
 
@@ -30,21 +30,13 @@ pub fn real_path<H: Files>(alloc: Global, host: &H, file: &str) -> Result<String
     Ok(path.into_string())
 }
 
-/// The same of a file that may not be there yet: then its path is as it was given.
-pub fn target_path<H: Files>(alloc: Global, host: &H, file: &str) -> Result<String, Fault> {
-    match host.canonicalize(alloc, file) {
-        Ok(path) => Ok(path.into_string()),
-        Err(error) if error.kind() == ErrorKind::NotFound => Ok(file.to_string(alloc)?),
-        Err(error) => taken(Step::Create, Err(error)),
-    }
-}
-
 /// Whether two are of one file.
 fn is_same(one: &Metadata, other: &Metadata) -> bool {
     one.dev() == other.dev() && one.ino() == other.ino()
 }
 
-/// Takes a file's lock. `Busy` where another one has it, or where a file that was saved since took this one's place.
+/// Takes a file's lock. `NoFile` where it is a device, a pipe or a folder; `Busy` where another one has the lock, or where a file that
+/// was saved since took this one's place.
 fn lock<H: Files>(host: &H, path: &str, file: &H::File) -> Result<(), Fault>
 where
     H::File: Lockable,
@@ -55,6 +47,9 @@ where
         Err(TryLockError::Error(error)) => return taken(Step::Lock, Err(error)),
     }
     let locked = taken(Step::Lock, file.metadata())?;
+    if !locked.is_file() {
+        return Err(Fault::NoFile);
+    }
     let standing = taken(Step::Lock, fs::metadata(host, path))?;
     if is_same(&locked, &standing) {
         Ok(())

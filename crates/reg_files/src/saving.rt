@@ -63,11 +63,11 @@ pub fn replace<H: Files>(
     alloc: Global,
     host: &H,
     path: &str,
-    permissions: Option<Permissions>,
+    permissions: Permissions,
     bytes: &[u8],
 ) -> Result<(), Fault> {
     let (mut file, name) = create_beside(alloc, host, path)?;
-    if let Err(fault) = fill(&mut file, permissions, bytes) {
+    if let Err(fault) = fill(&mut file, Some(permissions), bytes) {
         return Err(undo(host, name.as_str(), fault));
     }
     if let Err(fault) = taken(Step::Rename, fs::rename(host, name.as_str(), path)) {

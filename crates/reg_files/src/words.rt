@@ -30,7 +30,7 @@ pub enum Begin {
 #[derive(Clone, Copy, Debug, PartialEq, Eq)]
 pub struct EditRequest<'a> {
     pub file: &'a str,
-    /// Where to save in place of the file.
+    /// A file to be made, in which to save in place of that one.
     pub output: Option<&'a str>,
     pub begin: Begin,
     /// Whether nothing is to be saved.
@@ -239,7 +239,7 @@ fn edit_command<'a>(alloc: Global) -> Result<Command<'a>, AllocError>
     ensures { IfOk result (λ command. IsCommand edit_shape command) }
 {
     let file = file_arg(alloc, true, "The hive, which is saved in place");
-    let output = option_arg(alloc, "output", "FILE", "Save here instead");
+    let output = option_arg(alloc, "output", "FILE", "Save in this new file instead");
     let now = flag_arg(alloc, "now", "Begin at the moment of the clock");
     let dry_run = flag_arg(alloc, "dry-run", "Save nothing");
     bare_command(

@@ -45,7 +45,7 @@ string-link : value_told 6 (92 ∷ 0 ∷ []) ≡ codes "\\"
 unfolding form_text utf16_chars lib.Utf8.encode
 string-link = refl
 
--- the controls U+001F and U+007F, and their neighbours U+0020, U+007E and U+0080
+-- the controls U+001F, U+007F, U+0080 and U+009F, and their neighbours U+0020, U+007E and U+00A0
 string-low_control : value_told 1 (31 ∷ 0 ∷ []) ≡ codes "hex:1f00"
 unfolding form_text utf16_chars lib.Utf8.encode hex_on_literals
 string-low_control = refl
@@ -58,9 +58,13 @@ string-delete : value_told 1 (127 ∷ 0 ∷ []) ≡ codes "hex:7f00"
 unfolding form_text utf16_chars lib.Utf8.encode hex_on_literals
 string-delete = refl
 
-string-behind_delete : value_told 1 (128 ∷ 0 ∷ []) ≡ 194 ∷ 128 ∷ []
+string-high_controls : value_told 1 (128 ∷ 0 ∷ 159 ∷ 0 ∷ []) ≡ codes "hex:80009f00"
+unfolding form_text utf16_chars lib.Utf8.encode hex_on_literals
+string-high_controls = refl
+
+string-behind_controls : value_told 1 (160 ∷ 0 ∷ []) ≡ 194 ∷ 160 ∷ []
 unfolding form_text utf16_chars lib.Utf8.encode
-string-behind_delete = refl
+string-behind_controls = refl
 
 -- U+00E9, U+20AC, and U+1F600 as a pair of surrogates
 string-two_bytes : value_told 1 (233 ∷ 0 ∷ []) ≡ 195 ∷ 169 ∷ []

@@ -1,5 +1,5 @@
 -- The data of a value told as a line (this project's own; Win32 registry reference, "Registry Value Types").
-use Rattle.std.specs.Prelude.{ℕ, ◌+◌, ◌*◌, ◌==◌, ◌&&◌, ◌||◌, not, nat_lt, Bool, if◌then◌else◌, List, [], ◌∷◌, ◌++◌, length, map, codes, Option, Some, None, encode_utf8_all}
+use Rattle.std.specs.Prelude.{ℕ, ◌+◌, ◌*◌, ◌==◌, ◌&&◌, ◌||◌, not, nat_lt, nat_le, Bool, if◌then◌else◌, List, [], ◌∷◌, ◌++◌, length, map, codes, Option, Some, None, encode_utf8_all}
 use Rattle.std.specs.Fmt.{decimal}
 use Rattle.std.specs.List.{list_any}
 use Rattle.std.specs.Option.{option_map, option_and_then, unwrap_or}
@@ -20,9 +20,9 @@ unended [] = []
 unended (unit ∷ []) = if unit == 0 then [] else unit ∷ []
 unended (unit ∷ next ∷ units) = unit ∷ unended (next ∷ units)
 
--- a control character: below U+0020, or U+007F
+-- a control character (Unicode, category Cc): below U+0020, or from U+007F to U+009F
 abbrev pub is_control : ℕ → Bool
-is_control unit = nat_lt unit 32 || unit == 127
+is_control unit = nat_lt unit 32 || (nat_le 127 unit && nat_le unit 159)
 
 -- the text that units spell in UTF-8, where each surrogate has its partner
 abbrev pub spelt : List ℕ → Option (List ℕ)

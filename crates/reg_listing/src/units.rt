@@ -35,11 +35,11 @@ pub fn unended(units: &[u16]) -> &[u16]
     units
 }
 
-/// Whether a unit is a control character: below U+0020, or U+007F.
+/// Whether a unit is a control character: below U+0020, or from U+007F to U+009F.
 fn is_control(unit: u16) -> bool
     ensures { result ≡ is_control unit }
 {
-    unit < 0x20 || unit == 0x7F
+    unit < 0x20 || (unit >= 0x7F && unit <= 0x9F)
 }
 
 /// Whether one of some units is a control character.
