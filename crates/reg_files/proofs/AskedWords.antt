@@ -119,8 +119,8 @@ module _ (rows : List Row) where
   no_get e (Listing file path is_whole) h = let bad : codes "get" ≡ codes "ls" = h.0 in cc
   no_get (inl e) (Get file path value is_raw) h = let bad : None ≡ Some file.now = sym e ∙ h.1 in cc
   no_get (inr e) (Get file path value is_raw) h = let bad : None ≡ Some path.now = sym e ∙ h.2 in cc
-  no_get e (New file name) h = let bad : codes "get" ≡ codes "new" = h.0 in cc
-  no_get e (Edit edit) h = let bad : codes "get" ≡ codes "edit" = h.0 in cc
+  no_get e (New file name) h = let bad : 103 ≡ 110 = ap (λ letters. get_or letters 0 0) h.0 in absurd (omega (arith, bad))
+  no_get e (Edit edit) h = let bad : 103 ≡ 101 = ap (λ letters. get_or letters 0 0) h.0 in absurd (omega (arith, bad))
 
   pub no_edit : ((first_of (codes "file") rows ≡ None) ⊎ ((begin : Begin) → AsksToBegin rows begin → ⊥)) → (request : Request) →
       Asks (codes "edit", rows) request → ⊥
