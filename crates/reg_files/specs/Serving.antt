@@ -1,5 +1,5 @@
 -- What the tool on files did (this project's own).
-use Rattle.std.specs.Prelude.{◌≡◌, ℕ, List, Option, Some, None}
+use Rattle.std.specs.Prelude.{◌≡◌, ℕ, List, [], ◌∷◌, codes, Option, Some, None}
 use Rattle.reg_command.specs.CommandLines.{AsksNothing as AsksNothingOfTool}
 use Rattle.reg_command.specs.Failures.{IsDone, IsStopped, IsRefused as IsRefusedByTool}
 use Rattle.reg_files.specs.CommandLines.{AsksNothing, IsCommandLine}
@@ -16,10 +16,16 @@ IsGiven Kept given = given ≡ None
 IsGiven Now given = (moment : ℕ) × (given ≡ Some moment)
 IsGiven (At moment) given = given ≡ Some moment
 
+-- `tool`'s `dump` was done with some input: the text of the tree that it loads as was written, and nothing was told beside it
+abbrev pub Dumps : (before after : Option (List ℕ)) → Type 0
+Dumps before after =
+    (given : Option (List ℕ)) × (left : Option (List ℕ)) × (told : Option (List ℕ)) × (told_after : Option (List ℕ))
+    × IsDone (codes "regtool" ∷ codes "dump" ∷ []) given left before after told told_after
+
 -- what a request did with the input and the output, where the status is 0: an edit ran the script on the hive in some bytes, those of the
 -- file; a key or a value of the hive in some bytes was told; and the others, too, read nothing
 abbrev pub Serves : Request → (unread left before after : Option (List ℕ)) → Type 0
-Serves (Dump file) unread left before after = left ≡ unread
+Serves (Dump file) unread left before after = (left ≡ unread) × Dumps before after
 Serves (Check files) unread left before after = left ≡ unread
 Serves (Listing file path is_whole) unread left before after = (left ≡ unread) × ((bytes : List ℕ) × Lists bytes path.now is_whole before after)
 Serves (Get file path name is_raw) unread left before after =

@@ -3,8 +3,8 @@
 ghost use Rattle.std.specs.Prelude.{◌≡◌, ◌≤◌, ℕ, List, IfOk, OnOk};
 ghost use Rattle.reg_command.specs.CommandLines.{texts};
 ghost use Rattle.reg_files.specs.Lookups.{Lists, Gets};
-ghost use Rattle.reg_files.specs.Serving.{IsGiven, Serves};
-ghost use Rattle.reg_files.specs.Internal.Tellings.{word_of, telling_words};
+ghost use Rattle.reg_files.specs.Serving.{IsGiven, Dumps, Serves};
+ghost use Rattle.reg_files.specs.Internal.Tellings.{word_of, telling_words, Done};
 ghost use Rattle.reg_files.specs.declared.words.Request.{Request};
 
 use crate::edits::{edit, fresh_image};
@@ -59,7 +59,8 @@ fn stream<F: Read, W: Write, E: Sink>(
     output: &mut W,
     errors: &mut E,
 ) -> Result<u8, Fault>
-    ensures { IfOk result (λ status. status ≤ 1) }
+    ensures status { IfOk result (λ status. status ≤ 1) }
+    ensures done { IfOk result (λ status. status ≡ 0 → Done telling (W.contents output.old) (W.contents output.new)) }
 {
     let words = tool_words(alloc, telling)?;
     Ok(tool(alloc, words, input, output, errors))
@@ -73,7 +74,8 @@ pub fn dump_file<H: Files, W: Write, E: Sink>(
     output: &mut W,
     errors: &mut E,
 ) -> Result<u8, Fault>
-    ensures { IfOk result (λ status. status ≤ 1) }
+    ensures status { IfOk result (λ status. status ≤ 1) }
+    ensures done { IfOk result (λ status. status ≡ 0 → Dumps (W.contents output.old) (W.contents output.new)) }
 {
     let mut input = taken(Step::Open, File::open(host, file))?;
     stream(alloc, Telling::Dump, &mut input, output, errors)
