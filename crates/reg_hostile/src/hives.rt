@@ -1,6 +1,6 @@
 //! Hives, made by scripts, and what is told of them.
 //!
-//! Whoever owns a hive hands it on to functions over any [`Subject`]: a function over the hive itself takes ten times as long to check.
+//! Whoever owns a hive hands it on to functions over any [`Subject`], which are checked without all that a hive is made of.
 use anyhow::Result;
 use reg_callbacks::{CallbackFault, Cookie, NoCallback};
 use reg_dump::dump;

@@ -12,7 +12,7 @@ use std::alloc::Global;
 /// On how many keys a step is done at once.
 const BATCH: usize = 1_000;
 
-/// A hive on which no callback is ever registered: a function over one is checked in three quarters of the time.
+/// A hive on which no callback is ever registered.
 pub type PlainHive = Hive<NoCallback>;
 
 /// A hive of one root, in which nothing was changed.

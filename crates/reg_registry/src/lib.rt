@@ -1,6 +1,6 @@
 //! What answers registry calls, as a bound: a hive, for those who only ask it.
 //!
-//! A program or a test that takes a type of this bound is checked without all that a hive is made of, which takes a tenth of the time.
+//! A program or a test that takes a type of this bound is checked without all that a hive is made of.
 //! Its one contract: a change that is answered 0 is an entry more, and what is counted are the entries. What else a call does only
 //! the hive's own contracts say. It stands on reg_calls. Its trait is [`Registry`], and [`PlainHive`] the type that programs choose.
 #![tactic(auto)]

@@ -7,7 +7,7 @@
 //! argument it does the same with a few watches and prints counts alone, which are the same on every run.
 //!
 //! Its one contract: a hive is changed by calls that are all accepted, and each is an entry more. All of it but `main` is for any
-//! [`reg_registry::Registry`], since a function over the hive itself takes ten times as long to check.
+//! [`reg_registry::Registry`], which is checked without all that a hive is made of.
 #![tactic(auto)]
 
 mod hives;
