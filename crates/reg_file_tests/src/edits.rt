@@ -1,5 +1,5 @@
 //! `edit` on files of the system.
-use crate::support::Deed::{Block, Edit, IsLink, Keep, Link, Names, Put, Run, Same};
+use crate::support::Deed::{Block, Edit, IsLink, Keep, Link, Mode, Names, Permit, Put, Run, Same};
 use crate::support::{assert_told, is_refused_while_held, made_at_now, tale};
 use std::alloc::{AllocError, Global};
 use std::test::Fail;
@@ -123,6 +123,23 @@ fn edits_the_file_at_the_end_of_a_link(rt: HostRuntime) -> Result<(), Fail> {
         1;error create @/link: File exists (os error 17)\n;\
         0 handle 0\n0 handle 1 disposition 1\n0\n|link true|2 2 0|\
         1;error file /dev/null: it is no regular file\n;|a a.regtool-0 link |";
+    assert_told(&rt, tale(&rt, &rt, &deeds), wanted)
+}
+
+/// The saved file has the permissions of the one before.
+#[test]
+fn keeps_the_permissions(rt: HostRuntime) -> Result<(), Fail> {
+    let deeds = [
+        Run("regtool new @/a"),
+        Permit("a", 0o640),
+        Edit("regtool edit @/a", B),
+        Mode("a"),
+        Permit("a", 0o600),
+        Edit("regtool edit @/a", SCRIPT),
+        Mode("a"),
+    ];
+    let wanted = "0;;|0;;0 handle 0\n0 handle 1 disposition 1\n|mode 640|\
+        0;;0 handle 0\n0 handle 1 disposition 1\n0\n|mode 600|";
     assert_told(&rt, tale(&rt, &rt, &deeds), wanted)
 }
 

@@ -13,4 +13,8 @@ mod looks;
 #[cfg(test)]
 mod refusals;
 #[cfg(test)]
+mod searches;
+#[cfg(test)]
 mod support;
+#[cfg(test)]
+mod texts;

@@ -24,6 +24,8 @@ enum Refused {
     Write(usize),
     Sync,
     Rename,
+    /// To rename over a file whose lock nobody has.
+    Unlocked,
     /// To open a folder.
     Folder,
     /// Reads past so many bytes.
@@ -191,6 +193,9 @@ impl Files for Refusing<'_> {
         if self.refused == Refused::Rename {
             return Err(refusal());
         }
+        if self.refused == Refused::Unlocked && File::open(self.rt, to)?.try_lock().is_ok() {
+            return Err(refusal());
+        }
         self.rt.rename(from, to)
     }
 
@@ -278,6 +283,13 @@ fn leaves_the_file_whatever_is_refused(rt: HostRuntime) -> Result<(), Fail> {
         assert_told(&rt, edited(&rt, refused), wanted.as_str())?;
     }
     Ok(())
+}
+
+/// Where the new file takes its place, the old one's lock is still held.
+#[test]
+fn holds_the_lock_until_the_rename(rt: HostRuntime) -> Result<(), Fail> {
+    let wanted = "0;;0 handle 0\n0 handle 1 disposition 1\n|same false|a |";
+    assert_told(&rt, edited(&rt, Refused::Unlocked), wanted)
 }
 
 /// The new file took its place, and may be lost where the machine stops.

@@ -4,8 +4,8 @@ use reg_files::{Input, Lockable, file_tool};
 use reg_fixtures::wide;
 use std::alloc::Global;
 use std::fs;
-use std::fs::File;
-use std::os::unix::fs::symlink;
+use std::fs::{File, Permissions};
+use std::os::unix::fs::{PermissionsExt, symlink};
 use std::process::Abort;
 use std::rt::{Clock, Files};
 use std::test::Fail;
@@ -29,6 +29,10 @@ pub enum Deed<'a> {
     Block(&'a str),
     /// Whether a name is a link.
     IsLink(&'a str),
+    /// A file's permissions are set.
+    Permit(&'a str, u32),
+    /// A file's permissions.
+    Mode(&'a str),
     /// The names in the folder, in order.
     Names,
 }
@@ -132,6 +136,18 @@ fn is_link(rt: &HostRuntime, folder: &str, name: &str) -> Result<bool, Fail> {
     Ok(fs::symlink_metadata(rt, path.as_str())?.is_symlink())
 }
 
+fn permit(rt: &HostRuntime, folder: &str, name: &str, mode: u32) -> Result<(), Fail> {
+    let path = format!(in rt.alloc(); "{folder}/{name}")?;
+    fs::set_permissions(rt, path.as_str(), Permissions::from_mode(mode))?;
+    Ok(())
+}
+
+fn mode_text(rt: &HostRuntime, folder: &str, name: &str) -> Result<String, Fail> {
+    let path = format!(in rt.alloc(); "{folder}/{name}")?;
+    let mode = fs::metadata(rt, path.as_str())?.permissions().mode() % 512;
+    Ok(format!(in rt.alloc(); "mode {mode:o}")?)
+}
+
 fn block_text(rt: &HostRuntime, folder: &str, name: &str) -> Result<String, Fail> {
     let (first, second, moment) = block_of(rt, folder, name)?;
     Ok(format!(in rt.alloc(); "{first} {second} {moment}")?)
@@ -165,6 +181,8 @@ where
             let is = is_link(rt, folder, name)?;
             return Ok(format!(in alloc; "link {is}")?);
         }
+        Deed::Permit(name, mode) => permit(rt, folder, name, mode)?,
+        Deed::Mode(name) => return mode_text(rt, folder, name),
         Deed::Names => return names_in(rt, folder),
     }
     Ok(String::new(alloc))

@@ -1,3 +1,2 @@
--- Words that only private contracts and proofs use: `clap`'s commands as they are put together, and what is read of them.
-pub mod Commands
+-- Words that only private contracts and proofs use: those of the commands of `tool` that are done with files.
 pub mod Tellings

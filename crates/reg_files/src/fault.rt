@@ -1,9 +1,14 @@
 //! What ends a command on a file, and its text.
 
-use crate::edits::{EditFault, FreshFault};
-use crate::lookups::LookupFault;
 use reg_dump::DumpFault;
+use reg_edits::{EditFault, FreshFault, ImportEnd};
+use reg_entries::ExportFault;
+use reg_entry_reader::ReadFault;
+use reg_find::PatternFault;
+use reg_image::LoadFault;
+use reg_import::ImportFault;
 use reg_looks::LookFault;
+use reg_lookups::{DiffFault, ExportEnd, FindFault, LookupFault};
 use std::alloc::AllocError;
 use std::fmt::{Display, Formatter};
 use std::io::ErrorKind;
@@ -65,7 +70,7 @@ impl Display for Step {
 }
 
 /// What ended a command on a file early, with status 1.
-#[derive(Clone, Copy, Debug, Error)]
+#[derive(Debug, Drop, Error)]
 pub enum Fault {
     /// The system refused a step.
     #[error("{step}: {error}")]
@@ -82,6 +87,27 @@ pub enum Fault {
     /// The image wasn't looked into to the end.
     #[error("the lookup ended early")]
     Lookup(LookupFault),
+    /// The pattern is none, or too large.
+    #[error("the pattern can't be searched for")]
+    Pattern(PatternFault),
+    /// An image doesn't load.
+    #[error("the image doesn't load")]
+    Load(LoadFault),
+    /// There is no such key.
+    #[error("there is no such key")]
+    NoKey,
+    /// A name can't be written: of the key to which these names lead, or of one of its values.
+    #[error("a name has a line break")]
+    LineBreak(Vec<u8>),
+    /// Standard input can't be read.
+    #[error("{0}")]
+    Input(io::Error),
+    /// A text isn't read.
+    #[error("{0}")]
+    Text(ReadFault),
+    /// The entry of a line of a text was refused, with this status.
+    #[error("refused with status {status}")]
+    Refused { line: u64, status: u32 },
     /// The root's name is no key name.
     #[error("the root's name is no key name")]
     Name,
@@ -107,6 +133,68 @@ impl From<LookupFault> for Fault {
             }
             LookupFault::Look(LookFault::Stopped(DumpFault::Memory)) => Fault::Memory,
             fault => Fault::Lookup(fault),
+        }
+    }
+}
+
+impl From<DumpFault> for Fault {
+    fn from(fault: DumpFault) -> Fault {
+        match fault {
+            DumpFault::Write { written } => Fault::Cut(written),
+            DumpFault::Memory => Fault::Memory,
+        }
+    }
+}
+
+impl From<FindFault> for Fault {
+    fn from(fault: FindFault) -> Fault {
+        match fault {
+            FindFault::Pattern(PatternFault::Memory) => Fault::Memory,
+            FindFault::Pattern(fault) => Fault::Pattern(fault),
+            FindFault::Load(fault) => Fault::Load(fault),
+            FindFault::Stopped(fault) => Fault::from(fault),
+        }
+    }
+}
+
+impl From<ExportEnd> for Fault {
+    fn from(fault: ExportEnd) -> Fault {
+        match fault {
+            ExportEnd::Load(fault) => Fault::Load(fault),
+            ExportEnd::Export(ExportFault::NoKey) => Fault::NoKey,
+            ExportEnd::Export(ExportFault::Name(key)) => Fault::LineBreak(key),
+            ExportEnd::Export(ExportFault::Stopped(fault)) => Fault::from(fault),
+        }
+    }
+}
+
+impl From<ImportEnd> for Fault {
+    fn from(fault: ImportEnd) -> Fault {
+        match fault {
+            ImportEnd::Load(fault) => Fault::Load(fault),
+            ImportEnd::Text(ReadFault::Memory) => Fault::Memory,
+            ImportEnd::Text(fault) => Fault::Text(fault),
+            ImportEnd::Entry(ImportFault::Refused { line, status }) => {
+                Fault::Refused { line, status }
+            }
+            ImportEnd::Entry(ImportFault::Memory) | ImportEnd::Memory => Fault::Memory,
+        }
+    }
+}
+
+/// What ended the comparison of two files early, by the file that it is about.
+#[derive(Debug, Drop)]
+pub enum DiffEnd {
+    Old(Fault),
+    New(Fault),
+}
+
+impl From<DiffFault> for DiffEnd {
+    fn from(fault: DiffFault) -> DiffEnd {
+        match fault {
+            DiffFault::Old(fault) => DiffEnd::Old(Fault::Load(fault)),
+            DiffFault::New(fault) => DiffEnd::New(Fault::Load(fault)),
+            DiffFault::Stopped(fault) => DiffEnd::Old(Fault::from(fault)),
         }
     }
 }

@@ -1,14 +1,16 @@
 //! The command-line tool: `regtool run` reads a script of registry calls on standard input and writes the replies.
 //!
-//! It stands on reg_command alone and does nothing but pass on what it is started with: its arguments, its input and its outputs go
-//! to [`tool`], whose answer is its exit status. Arguments that can't be read it tells itself. What a program is given and prints no
-//! clause can say; its one contract is that of what it tells of such arguments.
+//! It stands on reg_files and does nothing but pass on what it is started with: its arguments, its input and its outputs go to
+//! [`file_tool`], whose answer is its exit status. Where standard error is a terminal and standard output isn't, it tells there how much
+//! was written, a line a second. Arguments that can't be read it tells itself. What a program is given and prints no clause can say; its
+//! one contract is that of what it tells of such arguments.
 #![tactic(auto)]
 
 ghost use Rattle.std.specs.Prelude.{◌≡◌, ◌≢◌, codes};
 
-pub use reg_files::{Input, file_tool};
-use std::io::ErrorKind;
+use reg_files::{Input, file_tool};
+use reg_progress::Progress;
+use std::io::{ErrorKind, IsTerminal};
 use std::process::ExitCode;
 use std::{env, io};
 
@@ -39,7 +41,8 @@ fn main(rt: HostRuntime) -> ExitCode {
         }
     };
     let mut input = Input::new(alloc, rt.reader());
-    let mut output = io::writer(&rt);
+    let is_shown = rt.stderr().is_terminal() && !rt.stdout().is_terminal();
+    let mut output = Progress::new(io::writer(&rt), rt.stderr(), &rt, is_shown);
     let mut errors = rt.stderr();
     ExitCode::from(file_tool(alloc, &rt, words, &mut input, &mut output, &mut errors))
 }

@@ -1,6 +1,6 @@
 use Rattle.std.proofs.Common.{ap, subst}
 use Rattle.reg_command.specs.CommandLines.{texts}
-use Rattle.reg_files.specs.CommandLines.{AsksNothing}
+use Rattle.reg_words.specs.CommandLines.{AsksNothing}
 use Rattle.reg_files.proofs.UnderstoodWords.{not_nothing, nothing}
 use Rattle.reg_files.proofs.file_tool.Goals as goal
 

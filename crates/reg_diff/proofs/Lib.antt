@@ -1,0 +1,10 @@
+pub mod ToldKeys
+pub mod SameValues
+pub mod SameTrees
+pub mod ReadValues
+pub mod ToldPaths
+pub mod ChangeLines
+pub mod ValueLines
+pub mod ChangeSteps
+pub mod SideSteps
+mod RowsOfDifferences

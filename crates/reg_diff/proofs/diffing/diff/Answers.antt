@@ -1,0 +1,65 @@
+use Rattle.std.proofs.Common.{[]}
+use Rattle.reg_dump.proofs.SentTexts.{so_far_start, so_far_all, err_exits, exits}
+use Rattle.reg_diff.specs.Differences.{diff_text}
+use Rattle.reg_diff.proofs.SideSteps.{same-says}
+use Rattle.reg_diff.proofs.diffing.diff.Goals as goal
+
+pub returns-in_err-put_diff-clause-err : goal.returns-in_err-put_diff-clause-err
+returns-in_err-put_diff-clause-err g c =
+    err_exits _ _ _ c.from_residual.ensures.1
+    (c.in_err-put_diff.ensures (g.S.Sink.contents c.args.writer.now, g.S.Sink.failures c.args.writer.now)
+    (diff_text c.args.old.now.tree c.args.new.now.tree) []
+    (so_far_start _ (diff_text c.args.old.now.tree c.args.new.now.tree) _ _ c.new-output.ensures.text c.new-output.ensures.written)).0
+
+pub returns-in_err-put_diff-clause-failures : goal.returns-in_err-put_diff-clause-failures
+returns-in_err-put_diff-clause-failures g c =
+    exits _ _ _ _ c.from_residual.ensures.1
+    (c.in_err-put_diff.ensures (g.S.Sink.contents c.args.writer.now, g.S.Sink.failures c.args.writer.now)
+    (diff_text c.args.old.now.tree c.args.new.now.tree) []
+    (so_far_start _ (diff_text c.args.old.now.tree c.args.new.now.tree) _ _ c.new-output.ensures.text c.new-output.ensures.written)).1
+
+pub returns-in_err-finish-clause-err : goal.returns-in_err-finish-clause-err
+returns-in_err-finish-clause-err g c =
+    err_exits _ _ _ c.from_residual-in_err-finish.ensures.1
+    (c.in_err-finish.ensures.puts (g.S.Sink.contents c.args.writer.now, g.S.Sink.failures c.args.writer.now)
+    (diff_text c.args.old.now.tree c.args.new.now.tree) []
+    (c.in_ok-put_diff.ensures (g.S.Sink.contents c.args.writer.now, g.S.Sink.failures c.args.writer.now)
+    (diff_text c.args.old.now.tree c.args.new.now.tree) []
+    (so_far_start _ (diff_text c.args.old.now.tree c.args.new.now.tree) _ _ c.new-output.ensures.text c.new-output.ensures.written))).0
+
+pub returns-in_err-finish-clause-failures : goal.returns-in_err-finish-clause-failures
+returns-in_err-finish-clause-failures g c =
+    exits _ _ _ _ c.from_residual-in_err-finish.ensures.1
+    (c.in_err-finish.ensures.puts (g.S.Sink.contents c.args.writer.now, g.S.Sink.failures c.args.writer.now)
+    (diff_text c.args.old.now.tree c.args.new.now.tree) []
+    (c.in_ok-put_diff.ensures (g.S.Sink.contents c.args.writer.now, g.S.Sink.failures c.args.writer.now)
+    (diff_text c.args.old.now.tree c.args.new.now.tree) []
+    (so_far_start _ (diff_text c.args.old.now.tree c.args.new.now.tree) _ _ c.new-output.ensures.text c.new-output.ensures.written))).1
+
+pub returns-clause-ok : goal.returns-clause-ok
+returns-clause-ok g c =
+    so_far_all (g.S.Sink.contents c.args.writer.now, g.S.Sink.failures c.args.writer.now) _ (diff_text c.args.old.now.tree c.args.new.now.tree) _ _
+    (c.in_ok-finish.ensures.puts (g.S.Sink.contents c.args.writer.now, g.S.Sink.failures c.args.writer.now)
+    (diff_text c.args.old.now.tree c.args.new.now.tree) []
+    (c.in_ok-put_diff.ensures (g.S.Sink.contents c.args.writer.now, g.S.Sink.failures c.args.writer.now)
+    (diff_text c.args.old.now.tree c.args.new.now.tree) []
+    (so_far_start _ (diff_text c.args.old.now.tree c.args.new.now.tree) _ _ c.new-output.ensures.text c.new-output.ensures.written)))
+    c.in_ok-finish.ensures.empty
+
+pub returns-clause-same : goal.returns-clause-same
+returns-clause-same g c =
+    same-says c.args.old.now.tree c.args.new.now.tree c.root-old_root.ensures.tree c.root-old_root.ensures.limits
+    c.root-new_root.ensures.tree c.root-new_root.ensures.limits
+    (g.S.Sink.contents c.args.writer.now, g.S.Sink.failures c.args.writer.now) _ _ _
+    (c.in_ok-put_diff.ensures (g.S.Sink.contents c.args.writer.now, g.S.Sink.failures c.args.writer.now)
+    (diff_text c.args.old.now.tree c.args.new.now.tree) []
+    (so_far_start _ (diff_text c.args.old.now.tree c.args.new.now.tree) _ _ c.new-output.ensures.text c.new-output.ensures.written))
+    c.is_untold-is_same.ensures
+
+pub returns-clause-failures : goal.returns-clause-failures
+returns-clause-failures g c =
+    (c.in_ok-finish.ensures.puts (g.S.Sink.contents c.args.writer.now, g.S.Sink.failures c.args.writer.now)
+    (diff_text c.args.old.now.tree c.args.new.now.tree) []
+    (c.in_ok-put_diff.ensures (g.S.Sink.contents c.args.writer.now, g.S.Sink.failures c.args.writer.now)
+    (diff_text c.args.old.now.tree c.args.new.now.tree) []
+    (so_far_start _ (diff_text c.args.old.now.tree c.args.new.now.tree) _ _ c.new-output.ensures.text c.new-output.ensures.written))).stays

@@ -1,0 +1,153 @@
+//! The lines of what a key holds beside its values.
+ghost use Rattle.std.specs.Prelude.{◌≡◌, Some};
+ghost use Rattle.std.specs.FinMap.{get};
+ghost use Rattle.reg_heap.specs.Paths.{Path, Rec};
+ghost use Rattle.reg_tree.specs.TreeKeys.{IsAt, IsThere};
+ghost use Rattle.reg_dump.specs.Internal.Gathered.{Puts};
+ghost use Rattle.reg_diff.specs.Differences.{name_change, number_change, bytes_change, field_changes};
+
+use crate::line::{Part, put_line};
+use reg_dump::{DumpFault, Output};
+use reg_text::Sink;
+use reg_tree::{Node, Tree};
+
+/// Tells a key's name that was spelt otherwise.
+fn put_name_change<'a, W: Sink>(
+    output: &mut Output,
+    writer: &mut W,
+    path: &'a [u8],
+    was: &'a [u8],
+    is: &'a [u8],
+) -> Result<(), DumpFault>
+    ensures { Puts output.old (W.contents writer.old, W.failures writer.old) output.new (W.contents writer.new, W.failures writer.new)
+        (name_change path.now was.now is.now) result }
+{
+    if was == is {
+        return Ok(());
+    }
+    put_line(
+        output,
+        writer,
+        &[
+            Part::Word("changed name ="),
+            Part::Name(path),
+            Part::Word(" from ="),
+            Part::Name(was),
+            Part::Word(" to ="),
+            Part::Name(is),
+            Part::Word("\n"),
+        ],
+    )
+}
+
+/// Tells a number of a key that was another.
+fn put_number_change<'a, W: Sink>(
+    output: &mut Output,
+    writer: &mut W,
+    what: &'a str,
+    path: &'a [u8],
+    was: u64,
+    is: u64,
+) -> Result<(), DumpFault>
+    ensures { Puts output.old (W.contents writer.old, W.failures writer.old) output.new (W.contents writer.new, W.failures writer.new)
+        (number_change what.now path.now was is) result }
+{
+    if was == is {
+        return Ok(());
+    }
+    put_line(
+        output,
+        writer,
+        &[
+            Part::Word("changed "),
+            Part::Word(what),
+            Part::Word(" ="),
+            Part::Name(path),
+            Part::Word(" from "),
+            Part::Number(was),
+            Part::Word(" to "),
+            Part::Number(is),
+            Part::Word("\n"),
+        ],
+    )
+}
+
+/// Tells bytes of a key that were others.
+fn put_bytes_change<'a, W: Sink>(
+    output: &mut Output,
+    writer: &mut W,
+    what: &'a str,
+    path: &'a [u8],
+    was: &'a [u8],
+    is: &'a [u8],
+) -> Result<(), DumpFault>
+    ensures { Puts output.old (W.contents writer.old, W.failures writer.old) output.new (W.contents writer.new, W.failures writer.new)
+        (bytes_change what.now path.now was.now is.now) result }
+{
+    if was == is {
+        return Ok(());
+    }
+    put_line(
+        output,
+        writer,
+        &[
+            Part::Word("changed "),
+            Part::Word(what),
+            Part::Word(" ="),
+            Part::Name(path),
+            Part::Word(" from x"),
+            Part::Digits(was),
+            Part::Word(" to x"),
+            Part::Digits(is),
+            Part::Word("\n"),
+        ],
+    )
+}
+
+/// Tells what differs of a key's own fields.
+pub fn put_field_changes<W: Sink>(
+    output: &mut Output,
+    writer: &mut W,
+    old: &Tree,
+    node: Node,
+    new: &Tree,
+    found: Node,
+    path: &[u8],
+) -> Result<(), DumpFault>
+    requires node { IsThere old.now node }
+    requires found { IsThere new.now found }
+    ensures { (p q : Path) → IsAt old.now p node → IsAt new.now q found → (was is : Rec) → get old.now.tree p ≡ Some was → get new.now.tree q ≡ Some is →
+        Puts output.old (W.contents writer.old, W.failures writer.old) output.new (W.contents writer.new, W.failures writer.new)
+        (field_changes path.now was is) result }
+{
+    put_name_change(output, writer, path, old.name(node), new.name(found))?;
+    let old_marks = u64::from(old.marks(node));
+    let new_marks = u64::from(new.marks(found));
+    put_number_change(output, writer, "marks", path, old_marks, new_marks)?;
+    put_bytes_change(
+        output,
+        writer,
+        "class",
+        path,
+        old.class(node),
+        new.class(found),
+    )?;
+    let old_descriptor = old.descriptor(node);
+    let new_descriptor = new.descriptor(found);
+    put_bytes_change(
+        output,
+        writer,
+        "security",
+        path,
+        old_descriptor,
+        new_descriptor,
+    )?;
+    put_number_change(
+        output,
+        writer,
+        "time",
+        path,
+        old.time(node),
+        new.time(found),
+    )
+}

@@ -1,0 +1,4 @@
+pub mod EditSteps
+pub mod ImageBins
+pub mod OtherBins
+pub mod ImportSteps

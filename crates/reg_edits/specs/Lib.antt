@@ -1,0 +1,3 @@
+pub mod Edits
+pub mod Inputs
+pub mod TextImports

@@ -1,0 +1,4 @@
+pub mod EntryTexts
+pub mod Entries
+pub mod Exports
+pub mod Internal

@@ -1,0 +1,16 @@
+pub mod LineEnds
+pub mod QuotesBack
+pub mod DigitsBack
+pub mod ListsBack
+pub mod RowsBack
+pub mod DataBack
+pub mod ReadingOn
+pub mod ValuesBack
+pub mod EntriesBack
+pub mod KeysBack
+pub mod BlocksBack
+pub mod ToldBack
+pub mod FileUnitsBack
+pub mod ShortTexts
+pub mod ReadTrees
+pub mod MadeOfFile

@@ -1,0 +1,50 @@
+-- What is written of a tree, read: the same units, and the same keys and values (this project's own).
+use Rattle.std.specs.Prelude.{◌≡◌, ℕ, ◌<◌, List, [], ◌++◌, Bool, true, Some, Ok}
+use Rattle.std.specs.FinMap.{get}
+use Rattle.std.specs.List.{AllByRecursion}
+use Rattle.reg_names.specs.Names.{is_value_name}
+use Rattle.reg_heap.specs.Paths.{Path, Tree, Rec, Member}
+use Rattle.reg_entries.specs.Entries.{is_line_name, entries_text}
+use Rattle.reg_entry_reader.specs.declared.entry.Entry.{Entry}
+use Rattle.reg_entry_reader.specs.declared.entry.Numbered.{Numbered}
+use Rattle.reg_entry_reader.specs.EntryLines.{lines_of, whole_lines}
+use Rattle.reg_entry_reader.specs.EntryMeanings.{Reading, with_entries, entries_from, entries_in}
+use Rattle.reg_import.specs.Imports.{entries_of}
+use Rattle.reg_entry_making.specs.EntriesDue.{entries_due}
+
+-- ---- pieces of a text
+
+-- what is read of a text whose first line has this number, where values may stand or not
+abbrev pub reading : (root : List ℕ) (is_open : Bool) (number : ℕ) (text : List ℕ) → Reading
+reading root is_open number text = entries_from root is_open (whole_lines 0 number (lines_of text))
+
+-- some entries are read of it, and then what is read of a rest
+pub record Goes (root : List ℕ) (is_open : Bool) (number : ℕ) (text : List ℕ) (entries : List Entry) (then : Bool) (rest : List ℕ) : Type 0 where
+  pub later : ℕ
+  pub read : List Numbered
+  pub same : entries_of read ≡ entries
+  pub is : reading root is_open number text ≡ with_entries read (reading root then later rest)
+
+-- a text says some entries, whatever stands behind it
+abbrev pub Says : (root : List ℕ) (is_open : Bool) (text : List ℕ) (entries : List Entry) (then : Bool) → Type 0
+Says root is_open text entries then = (number : ℕ) (rest : List ℕ) → Goes root is_open number (text ++ rest) entries then rest
+
+-- ---- values
+
+-- a value whose name is one and stands on one line, whose type has 32 bits, and whose data are bytes
+pub record IsKept (value : Member) : Type 0 where
+  pub name : is_value_name value.name ≡ true
+  pub line : is_line_name value.name ≡ true
+  pub kind : value.kind < 4294967296
+  pub bytes : AllByRecursion (λ (b : ℕ). b < 256) value.bytes
+
+-- a tree whose values have types of 32 bits, and data of bytes
+pub record IsOfBytes (tree : Tree) : Type 0 where
+  pub values : (path : Path) (key : Rec) → get tree path ≡ Some key →
+      AllByRecursion (λ (value : Member). (value.kind < 4294967296) × AllByRecursion (λ (b : ℕ). b < 256) value.bytes) key.values
+
+-- ---- texts
+
+-- the text of a tree is read, of keys below a root of that name, as the entries that the tree stands for
+abbrev pub IsReadBack : (name : List ℕ) → Tree → Type 0
+IsReadBack name tree = (entries : List Numbered) × (entries_in name (entries_text tree []) ≡ Ok entries) × (entries_of entries ≡ entries_due tree)

@@ -1,0 +1,20 @@
+-- The entries that the keys of a tree stand for (this project's own).
+use Rattle.std.specs.Prelude.{List, [], ◌∷◌, map, drop, flat_map}
+use Rattle.reg_names.specs.Names.{text_of}
+use Rattle.reg_heap.specs.Paths.{Tree, Member}
+use Rattle.reg_dump.specs.DumpTexts.{Told}
+use Rattle.reg_entries.specs.Entries.{keys_from}
+use Rattle.reg_entry_reader.specs.declared.entry.Entry.{Entry}
+use Rattle.reg_entry_reader.specs.declared.entry.Entry.TheVariants.{Key, Value}
+
+-- the entry that sets a value
+abbrev pub entry_of_value : Member → Entry
+entry_of_value value = Value value.name value.kind value.bytes
+
+-- the entries that a key's block stands for: the key, by the names that lead to it from the root, and its values
+abbrev pub entries_of_key : Told → List Entry
+entries_of_key told = Key (text_of (drop 1 told.names)) ∷ map entry_of_value told.key.values
+
+-- those of a tree's keys in the order of a dump
+abbrev pub entries_due : Tree → List Entry
+entries_due tree = flat_map entries_of_key (keys_from tree [])

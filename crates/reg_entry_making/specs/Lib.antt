@@ -1,0 +1,2 @@
+pub mod EntriesDue
+pub mod MadeAgain

@@ -1,0 +1,19 @@
+-- A tree made again below the root of another (this project's own).
+use Rattle.std.specs.Prelude.{◌≡◌, ℕ, List, [], ◌∷◌, is_some, IsSome, None}
+use Rattle.std.specs.FinMap.{get}
+use Rattle.reg_heap.specs.Paths.{Path, Tree}
+use Rattle.reg_heap.specs.Edits.{values_at}
+use Rattle.reg_dump.specs.DumpTexts.{name_of}
+
+-- the root alone, without values, under any name
+pub record IsBare (tree : Tree) : Type 0 where
+  pub root : IsSome (get tree [])
+  pub values : values_at tree [] ≡ []
+  pub alone : (name : List ℕ) (rest : Path) → get tree (name ∷ rest) ≡ None
+
+-- a tree has keys at just the paths where another has one, each with the same values, in their order, and below the root with the
+-- same name, as it is spelt
+pub record HasSame (new tree : Tree) : Type 0 where
+  pub keys : (path : Path) → is_some (get new path) ≡ is_some (get tree path)
+  pub values : (path : Path) → values_at new path ≡ values_at tree path
+  pub names : (name : List ℕ) (rest : Path) → name_of (get new (name ∷ rest)) ≡ name_of (get tree (name ∷ rest))

@@ -1,0 +1,11 @@
+pub mod WordEnds
+pub mod DigitLists
+pub mod QuotedUnits
+pub mod TextLines
+pub mod CharacterUnits
+pub mod EntryReadings
+pub mod EntrySteps
+pub mod EntriesOnLiterals
+mod RowsOfEntryLines
+mod RowsOfEntryBytes
+mod RowsOfEntryReading

@@ -1,0 +1,5 @@
+pub mod FileUnits
+pub mod EntryLines
+pub mod EntryWords
+pub mod EntryMeanings
+pub mod Internal

@@ -1,0 +1,5 @@
+//! Tests of what .reg texts say, by public calls. There is nothing here but tests, and so no contract.
+#![tactic(auto)]
+
+#[cfg(test)]
+mod entries;

@@ -1,0 +1,101 @@
+//! `export` and `import` on files of the system.
+use crate::support::Deed::{Block, Edit, Keep, Names, Put, Run, Same};
+use crate::support::{assert_told, tale};
+use std::test::Fail;
+
+/// Makes `A` with a number, a default string and bytes, and `A\b`.
+const SCRIPT: &str = "\
+root 983103
+create 0 =A 983103
+create 0 =A\\b 983103
+set 1 =V 4 x01000000
+set 1 = 1 x61000000
+set 1 =x\"\\y 3 x0102
+";
+
+/// Its replies, as they are told of an edit.
+const MADE: &str =
+    "0;;|0;;0 handle 0\n0 handle 1 disposition 1\n0 handle 2 disposition 1\n0\n0\n0\n|";
+
+/// What that is as a .reg text.
+const TEXT: &str = "\
+Windows Registry Editor Version 5.00\r\n\r\n[ROOT]\r\n\r\n[ROOT\\A]\r\n\"V\"=dword:00000001\r\n\
+@=\"a\"\r\n\"x\\\"\\\\y\"=hex:01,02\r\n\r\n[ROOT\\A\\b]\r\n\r\n";
+
+#[test]
+fn writes_a_text(rt: HostRuntime) -> Result<(), Fail> {
+    let deeds = [
+        Run("regtool new @/a"),
+        Edit("regtool edit @/a", SCRIPT),
+        Run("regtool export @/a --as reg --utf8"),
+        Run("regtool export @/a a\\B --as reg --utf8"),
+        Run("regtool export @/a c --as reg"),
+    ];
+    let wanted = format!(in rt.alloc();
+        "{MADE}0;;{TEXT}|0;;Windows Registry Editor Version 5.00\r\n\r\n[ROOT\\A\\b]\r\n\r\n|\
+         1;error missing @/a: there is no such key\n;|"
+    )?;
+    assert_told(&rt, tale(&rt, &rt, &deeds), wanted.as_str())
+}
+
+/// What was written is read again: the same text comes of it.
+#[test]
+fn reads_what_it_wrote(rt: HostRuntime) -> Result<(), Fail> {
+    let deeds = [
+        Run("regtool new @/a"),
+        Edit("regtool import @/a --at 7", TEXT),
+        Block("a"),
+        Run("regtool export @/a --as reg --utf8"),
+        Keep("a"),
+        Edit("regtool import @/a --dry-run", TEXT),
+        Same("a"),
+    ];
+    let wanted = format!(in rt.alloc(); "0;;|0;;|2 2 7|0;;{TEXT}|0;;|same true|")?;
+    assert_told(&rt, tale(&rt, &rt, &deeds), wanted.as_str())
+}
+
+#[test]
+fn makes_and_takes_away(rt: HostRuntime) -> Result<(), Fail> {
+    let deeds = [
+        Run("regtool new @/a"),
+        Edit("regtool import @/a", TEXT),
+        Edit(
+            "regtool import @/a",
+            "Windows Registry Editor Version 5.00\n; a comment\n[-root\\A\\b]\n[ROOT\\a]\n\"V\"=-\n\"none\"=-\n\"w\"=hex(7):61,\\\n  00,00,0\n",
+        ),
+        Run("regtool ls @/a --tree"),
+        Run("regtool get @/a A w --raw"),
+    ];
+    let wanted = "0;;|0;;|0;;|\
+        0;;key =A\nvalue = type 1 size 4\nvalue =x\"\\y type 3 size 2\nvalue =w type 7 size 4\n|0;;a\0\0\0|";
+    assert_told(&rt, tale(&rt, &rt, &deeds), wanted)
+}
+
+/// A key at the end of 33 names of which none is there, one more than a call makes.
+const DEEP: &str = "\
+Windows Registry Editor Version 5.00\n[ROOT\\A]\n[ROOT\\1\\2\\3\\4\\5\\6\\7\\8\\9\\10\\11\\12\\13\\14\\15\\16\\17\\18\\\
+19\\20\\21\\22\\23\\24\\25\\26\\27\\28\\29\\30\\31\\32\\33]\n";
+
+/// A line that isn't understood, or is refused, is told with its number, and nothing is saved.
+#[test]
+fn saves_nothing_of_a_bad_text(rt: HostRuntime) -> Result<(), Fail> {
+    let deeds = [
+        Put("bad", "regf"),
+        Run("regtool new @/a"),
+        Keep("a"),
+        Edit(
+            "regtool import @/a",
+            "Windows Registry Editor Version 5.00\n\n[ROOT\\A]\n\"V\"=dword:1g\n",
+        ),
+        Edit("regtool import @/a", DEEP),
+        Edit("regtool import @/a", "REGEDIT4\n"),
+        Edit("regtool import @/bad", TEXT),
+        Same("a"),
+        Names,
+    ];
+    let wanted = "0;;|1;error line 4 of standard input: it isn't understood\n;|\
+        1;error line 3 of standard input: refused with status 1450\n;|\
+        1;error line 1 of standard input: it isn't understood\n;|\
+        1;error 1009 load 2 @/bad: the image ends too early\n;|same true|a bad |";
+    assert_told(&rt, tale(&rt, &rt, &deeds), wanted)
+}

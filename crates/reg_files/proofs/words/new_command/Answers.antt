@@ -1,8 +1,0 @@
-use Rattle.std.proofs.lemmas.Result.{IfOk-weaker}
-use Rattle.reg_files.proofs.CommandShapes.{with_arg}
-use Rattle.reg_files.proofs.words.new_command.Goals as goal
-
-pub returns : goal.returns
-returns c =
-    let filed = with_arg _ _ _ _ _ c.bare_command.ensures c.file_arg-file.ensures c.in_ok-arg.ensures in
-    IfOk-weaker c.arg-2.result _ _ (λ r adds. with_arg _ r _ _ _ filed c.option_arg-name.ensures adds) c.arg-2.ensures

@@ -1,0 +1,4 @@
+mod FoundLines
+mod FoundKeys
+mod PatternFaults
+mod RowsOfFindings

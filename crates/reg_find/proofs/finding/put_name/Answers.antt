@@ -1,0 +1,18 @@
+use Rattle.std.proofs.Common.{◌∙◌}
+use Rattle.reg_dump.proofs.SentTexts.{swapped, ends}
+use Rattle.reg_find.proofs.FoundLines.{key_none, key_some}
+use Rattle.reg_find.proofs.finding.put_name.Goals as goal
+
+pub returns-then-not-is_match_in-clause-puts : goal.returns-then-not-is_match_in-clause-puts
+returns-then-not-is_match_in-clause-puts g c =
+    λ p at told here path begin whole left s.
+    ends begin _ whole _ left _ _ s
+    (key_none (g.P.Pattern.matches c.args.pattern.now) c.args.scope told _ _ (c.name.ensures.told p at told.key here) c.is_match_in.ensures.answer c.if-not-is_match_in.true)
+
+pub returns-clause-puts : goal.returns-clause-puts
+returns-clause-puts g c =
+    λ p at told here path begin whole left s.
+    c.put_key_line.ensures begin whole left
+    (swapped begin _ whole _ _ left _ _ s
+    (key_some (g.P.Pattern.matches c.args.pattern.now) c.args.scope told _ _ (c.name.ensures.told p at told.key here) c.is_match_in.ensures.answer c.if-not-is_match_in.false
+    _ (c.deref.ensures.value ∙ path)))

@@ -1,0 +1,69 @@
+//! Whether a pattern matches a text of a value.
+ghost use Rattle.std.specs.Prelude.{◌≡◌, ◌&&◌, ◌<◌, length, slice_get, Some, IfOk};
+ghost use Rattle.reg_heap.specs.Paths.{Path, Member};
+ghost use Rattle.reg_heap.specs.Edits.{values_at};
+ghost use Rattle.reg_tree.specs.TreeKeys.{IsAt};
+ghost use Rattle.reg_values.specs.ValueLists.{Tells};
+ghost use Rattle.reg_listing.specs.ValueTexts.{value_told};
+ghost use Rattle.reg_find.specs.Findings.{is_value_found};
+
+use crate::{Pattern, Scope};
+use reg_listing::value_text;
+use reg_tree::{Node, Tree};
+use reg_values::Value;
+use std::alloc::{AllocError, Global};
+
+/// Whether a text is searched, and matches.
+pub fn is_match_in<P: Pattern>(pattern: &mut P, is_searched: bool, text: &[u8]) -> bool
+    ensures answer { result ≡ (is_searched && P.matches pattern.old text.now) }
+    ensures same { P.matches pattern.new ≡ P.matches pattern.old }
+{
+    if !is_searched {
+        return false;
+    }
+    pattern.is_match(text)
+}
+
+/// Whether the data of the value of a key at an index match, told as a line.
+fn is_data_match<P: Pattern>(
+    alloc: Global,
+    tree: &Tree,
+    node: Node,
+    index: u32,
+    kind: u32,
+    pattern: &mut P,
+) -> Result<bool, AllocError>
+    requires { (p : Path) × IsAt tree.now p node × (index < length (values_at tree.now.tree p)) }
+    ensures answer { (p : Path) → IsAt tree.now p node → (member : Member) → slice_get (values_at tree.now.tree p) index ≡ Some member →
+        kind ≡ member.kind → IfOk result (λ found. found ≡ P.matches pattern.old (value_told member.kind member.bytes)) }
+    ensures same { P.matches pattern.new ≡ P.matches pattern.old }
+{
+    let bytes = tree.value_bytes(alloc, node, index)?;
+    let text = value_text(alloc, kind, &bytes)?;
+    Ok(pattern.is_match(text.as_bytes()))
+}
+
+/// Whether a value of a key at an index is found. Its data are read only where they are searched and its name wasn't found.
+pub fn is_value_match<P: Pattern>(
+    alloc: Global,
+    tree: &Tree,
+    node: Node,
+    index: u32,
+    value: Value<'_>,
+    pattern: &mut P,
+    scope: Scope,
+) -> Result<bool, AllocError>
+    requires { (p : Path) × IsAt tree.now p node × (index < length (values_at tree.now.tree p)) }
+    ensures answer { (p : Path) → IsAt tree.now p node → (member : Member) → slice_get (values_at tree.now.tree p) index ≡ Some member →
+        Tells member value.entry.name.now value.entry.kind value.entry.size →
+        IfOk result (λ found. found ≡ is_value_found (P.matches pattern.old) scope member) }
+    ensures same { P.matches pattern.new ≡ P.matches pattern.old }
+{
+    if is_match_in(pattern, scope.names, value.name) {
+        return Ok(true);
+    }
+    if !scope.texts {
+        return Ok(false);
+    }
+    is_data_match(alloc, tree, node, index, value.kind, pattern)
+}

@@ -1,0 +1,34 @@
+use Rattle.std.proofs.Common.{ℕ, Option, None, subst}
+use Rattle.reg_model.specs.declared.call.Change.TheVariants.{CreateKey}
+use Rattle.reg_calls.specs.HiveView.{view_of, callbacks_of, asks_of}
+use Rattle.reg_entry_reader.specs.declared.entry.Entry.TheVariants.{Key}
+use Rattle.reg_import.specs.declared.entries.TheConstants.{ALL_RIGHTS}
+use Rattle.reg_import.specs.Internal.Standing.{IsMade, IsStoppedAt}
+use Rattle.reg_import.proofs.ImportSteps.{key-told}
+use Rattle.reg_import.proofs.EntrySteps.{if_err, stopped-later, asks-key, key-applied}
+use Rattle.reg_import.proofs.entries.Handles.key.Goals as goal
+
+pub returns-in_err-key-clause-err : goal.returns-in_err-key-clause-err
+returns-in_err-key-clause-err g c before s i =
+    let mid = view_of c.leave.new.hive in
+    let now = c.args.self.now in
+    let r = c.leave.ensures.rooted before s i in
+    if_err (λ fault. IsStoppedAt (asks_of g.C.Callback.answers c.args.hive.now) now.moment c.args.line s (Key c.args.path) (view_of c.make.new.hive) fault)
+    c.from_residual-in_err-key.result _ c.from_residual-in_err-key.ensures.1
+    (stopped-later g.C.Callback.answers (callbacks_of c.leave.new.hive) (callbacks_of c.args.hive.now) now.moment c.args.line s (Key c.args.path) mid
+    (view_of c.make.new.hive) (CreateKey now.root c.args.path ALL_RIGHTS None) _ c.leave.ensures.callbacks c.in_err-key.ensures.same r.tree_is
+    (asks-key before now mid s c.args.path r) c.in_err-key.ensures.err)
+
+pub unreachable-requires : goal.unreachable-requires
+unreachable-requires g c =
+    c.in_default.not-Some _
+    (key-told (view_of c.leave.new.hive) (view_of c.make.new.hive) c.args.self.now.moment c.args.self.now.root c.args.path c.in_ok-key.field-0 c.in_ok-key.ensures.ok)
+
+pub returns-clause-ok : goal.returns-clause-ok
+returns-clause-ok g c before s i =
+    let mid = view_of c.leave.new.hive in
+    let now = c.args.self.now in
+    let m = subst (λ (o : Option ℕ). IsMade mid (view_of c.make.new.hive) now.moment (CreateKey now.root c.args.path ALL_RIGHTS None) o) c.in-Some.is
+    c.in_ok-key.ensures.ok in
+    key-applied before now mid s c.args.path (c.leave.ensures.rooted before s i) (view_of c.make.new.hive) c.in-Some.key c.in_ok-copy.copy
+    c.in_ok-copy.ensures m

@@ -1,0 +1,4 @@
+pub mod LookupSteps
+pub mod FindSteps
+pub mod DiffSteps
+pub mod ExportSteps

@@ -1,0 +1,11 @@
+pub mod DatesTold
+pub mod TimesTold
+pub mod UnitParts
+pub mod EntryTexts
+pub mod OneName
+pub mod KeyNames
+pub mod GatheredKeys
+pub mod TableTexts
+pub mod RowsOfTimes
+pub mod RowsOfValueForms
+pub mod RowsOfTables

@@ -1,0 +1,5 @@
+use Rattle.reg_dump.proofs.SentTexts.{stops_full, exits}
+use Rattle.reg_tables.proofs.parts.put_text.Goals as goal
+
+pub returns-in_err-push_str : goal.returns-in_err-push_str
+returns-in_err-push_str g c = λ begin whole left s. exits _ _ _ _ c.from_residual.ensures.1 (stops_full begin _ whole _ _ _ s)

@@ -1,0 +1,2 @@
+-- Words of what is written on its way, which only private contracts and proofs use.
+pub mod Entries

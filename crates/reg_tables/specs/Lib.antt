@@ -1,0 +1,4 @@
+pub mod Times
+pub mod ValueForms
+pub mod Tables
+pub mod Internal

@@ -1,0 +1,50 @@
+//! A key found by its path, from where a walk begins with the names that lead to it as they are spelt.
+ghost use Rattle.std.specs.Prelude.{◌≡◌, length, IfOk, OnOk, Some};
+ghost use Rattle.reg_heap.specs.Paths.{Path};
+ghost use Rattle.reg_looks.specs.Looks.{key_at, IsKeyFound};
+ghost use Rattle.reg_dump.specs.Internal.Walking.{Goes, text_below};
+ghost use Rattle.reg_tables.specs.Tables.{keys_from};
+
+use reg_dump::Walk;
+use reg_names::{check_path, first_name};
+use reg_tree::{Node, Tree};
+use std::alloc::{AllocError, Global};
+
+/// The key that a path leads to from the root, names folded; `None` where there is none, or where the text is no path.
+pub fn find_key(tree: &Tree, path: &[u8]) -> Option<Node>
+    ensures { IsKeyFound tree.now path.now result }
+{
+    if check_path(path).is_err() {
+        return None;
+    }
+    tree.resolve(tree.root(), path)
+}
+
+/// Puts a name behind a path's text. No name is empty, so only the root's text is.
+fn push_name(text: &mut Vec<u8>, name: &[u8]) -> Result<(), AllocError>
+    ensures { OnOk result (text.new.items ≡ text_below (length text.old.items) text.old.items name.now) }
+{
+    if !text.is_empty() {
+        text.push(b'\\')?;
+    }
+    text.extend_from_slice(name)?;
+    Ok(())
+}
+
+/// A walk that begins at the key that a path leads to, with the names that lead there.
+pub fn walk_from(alloc: Global, tree: &Tree, path: &[u8]) -> Result<Walk, AllocError>
+    requires { (p : Path) × (key_at tree.now.tree path.now ≡ Some p) }
+    ensures { (p : Path) → key_at tree.now.tree path.now ≡ Some p → IfOk result (λ walk. Goes tree.now walk (keys_from tree.now.tree p)) }
+{
+    let mut walk = Walk::new(alloc, tree.root());
+    let mut rest = path;
+    while let Some((name, behind)) = first_name(rest) {
+        let Some(node) = tree.resolve(walk.node, name) else {
+            unreachable!()
+        };
+        push_name(&mut walk.path, tree.name(node))?;
+        walk.node = node;
+        rest = behind;
+    }
+    Ok(walk)
+}

@@ -1,0 +1,13 @@
+//! A text on its way to a writer.
+ghost use Rattle.reg_dump.specs.Internal.Gathered.{Puts};
+
+use reg_dump::{DumpFault, Output};
+use reg_text::Sink;
+
+/// Tells a text.
+pub fn put_text<S: Sink>(output: &mut Output, writer: &mut S, text: &str) -> Result<(), DumpFault>
+    ensures { Puts output.old (S.contents writer.old, S.failures writer.old) output.new (S.contents writer.new, S.failures writer.new) text.now result }
+{
+    output.text.push_str(text)?;
+    output.settle(writer)
+}

@@ -1,0 +1,221 @@
+-- What a command line asks for, as `clap`'s matches tell it.
+use Rattle.std.proofs.Common.{◌≡◌, ◌∙◌, List, ℕ, Bool, true, false, codes, sym, refl, ap, subst, inl, inr, map, ◌⊎◌, bytes_eq}
+use Rattle.std.specs.Prelude.{Option, Some, None, Result, Ok, Err, option_map, unwrap_or}
+use Rattle.std.proofs.lemmas.Option.{same_Some}
+use Rattle.std.specs.Str.Parse.{ParsesUnsigned}
+use Rattle.clap.specs.Words.{Row, Text, TriesOne, all_of, first_of, first_value, matched_of, one_of, one_text, raw_values, rows_of}
+use Rattle.clap.specs.declared.parser.matches.Found.{Found}
+use Rattle.clap.proofs.WalkLemmas.{first_value-rows, one_text-rows, raw_values-rows}
+use Rattle.reg_words.specs.CommandLines.{IsMoment, IsSet, Asks, AsksToBegin, AsksToEdit, AsksForForm, AsksForPlaces, places_asked}
+use Rattle.reg_words.specs.Internal.Commands.{IsFound}
+use Rattle.reg_words.specs.declared.request.Request.{Request}
+use Rattle.reg_words.specs.declared.request.Request.TheVariants.{Dump, Check, Listing, Get, Find, Diff, Export, New, Edit, Import}
+use Rattle.reg_words.specs.declared.request.EditRequest.{EditRequest}
+use Rattle.reg_words.specs.declared.request.Form.{Form}
+use Rattle.reg_words.specs.declared.request.Form.TheVariants.{Reg, Json, Csv}
+use Rattle.reg_words.specs.declared.request.Places.{Places}
+use Rattle.reg_words.specs.declared.request.Begin.{Begin}
+use Rattle.reg_words.specs.declared.request.Begin.TheVariants.{Kept, Now, At}
+
+-- the first value, as the rows have it
+pub first_is : (f : Found) (name : Text) (got : Option Text) → got ≡ first_value f name → first_of name (rows_of f) ≡ got
+first_is f name got e = sym (first_value-rows f name) ∙ sym e
+
+-- the flag was given exactly where its text is `true`
+pub set_when : (name : Text) (rows : List Row) (text : Text) (b : Bool) → first_of name rows ≡ Some text → (b ≡ true → text ≡ codes "true")
+    → (text ≡ codes "true" → b ≡ true) → (b ≡ true → IsSet name rows) × (IsSet name rows → b ≡ true)
+set_when name rows text b e f g = (λ t. e ∙ ap Some (f t), λ h. g (same_Some text _ (sym e ∙ h)))
+
+pub unset_when : (name : Text) (rows : List Row) → first_of name rows ≡ None → (false ≡ true → IsSet name rows) × (IsSet name rows → false ≡ true)
+unset_when name rows e = (λ bad. cc, λ h. cc)
+
+-- ---- the moment
+
+-- what the reading of `--at` makes of it
+abbrev pub IsAsked : (E : Type 0) → List Row → Result (Option ℕ) E → Type 0
+IsAsked E rows (Ok None) = one_of (codes "at") rows ≡ None
+IsAsked E rows (Ok (Some moment)) = (text : Text) × (one_of (codes "at") rows ≡ Some text) × IsMoment text moment
+IsAsked E rows (Err e) =
+    (text : Text) × (one_of (codes "at") rows ≡ Some text) × ((moment : ℕ) → IsMoment text moment → ⊥)
+
+without_text : (E : Type 0) (rows : List Row) (r : Result (Option ℕ) E) → one_of (codes "at") rows ≡ None → r ≡ Ok None → IsAsked E rows r
+without_text E rows r none e = subst (IsAsked E rows) (sym e) none
+
+with_text : (E : Type 0) (G : List ℕ → Result ℕ E → Type 0) (rows : List Row) (t : Text) (r : Result (Option ℕ) E) →
+    ((u : List ℕ) (x : Result ℕ E) → G u x → ParsesUnsigned 64 10 u x) → one_of (codes "at") rows ≡ Some t → TriesOne G t r → IsAsked E rows r
+with_text E G rows t (Ok None) only some h = absurd h
+with_text E G rows t (Ok (Some n)) only some h =
+    let p = only t (Ok n) h in (t, some, record { numeral = p.0.0; small = p.0.1; value = p.1 })
+with_text E G rows t (Err e) only some h = (t, some, λ n (is : IsMoment t n). only t (Err e) h (is.numeral, is.small))
+
+pub moment_asked : (E : Type 0) (G : List ℕ → Result ℕ E → Type 0) (f : Found) (r : Result (Option ℕ) E) →
+    ((u : List ℕ) (x : Result ℕ E) → G u x → ParsesUnsigned 64 10 u x) → (one_text f (codes "at") ≡ None → r ≡ Ok None)
+    → ((t : List ℕ) → one_text f (codes "at") ≡ Some t → TriesOne G t r) → IsAsked E (rows_of f) r
+moment_asked E G f r only none some = go (one_text f (codes "at")) refl
+  where
+    go : (o : Option Text) → one_text f (codes "at") ≡ o → IsAsked E (rows_of f) r
+    go None e = without_text E (rows_of f) r (sym (one_text-rows f (codes "at")) ∙ e) (none e)
+    go (Some t) e = with_text E G (rows_of f) t r only (sym (one_text-rows f (codes "at")) ∙ e) (some t e)
+
+-- a match has told the variant
+pub asked_at : (E : Type 0) (rows : List Row) (r x : Result (Option ℕ) E) → r ≡ x → IsAsked E rows r → IsAsked E rows x
+asked_at E rows r x e h = subst (IsAsked E rows) e h
+
+-- ---- none of the beginnings
+
+same_text : (rows : List Row) (t u : Text) → one_of (codes "at") rows ≡ Some t → one_of (codes "at") rows ≡ Some u → u ≡ t
+same_text rows t u a b = same_Some u t (sym b ∙ a)
+
+-- the flag and a moment
+pub two_moments : (rows : List Row) (text : Text) → IsSet (codes "now") rows → one_of (codes "at") rows ≡ Some text → (begin : Begin) →
+    AsksToBegin rows begin → ⊥
+two_moments rows text set some Kept h = h.0 set
+two_moments rows text set some Now h = let bad : None ≡ Some text = sym h.1 ∙ some in cc
+two_moments rows text set some (At moment) h = h.0 set
+
+-- a text that is no moment
+pub no_moment : (rows : List Row) (text : Text) → one_of (codes "at") rows ≡ Some text → ((moment : ℕ) → IsMoment text moment → ⊥) →
+    (begin : Begin) → AsksToBegin rows begin → ⊥
+no_moment rows text some never Kept h = let bad : None ≡ Some text = sym h.1 ∙ some in cc
+no_moment rows text some never Now h = let bad : None ≡ Some text = sym h.1 ∙ some in cc
+no_moment rows text some never (At moment) h =
+    never moment (subst (λ (u : Text). IsMoment u moment) (same_text rows text h.1.0 some h.1.1) h.1.2)
+
+-- ---- nothing asked for
+
+-- the word of the subcommand that asks for something
+abbrev pub word_of : Request → List ℕ
+word_of (Dump file) = codes "dump"
+word_of (Check files) = codes "check"
+word_of (Listing file path is_whole) = codes "ls"
+word_of (Get file path name is_raw) = codes "get"
+word_of (Find file pattern places) = codes "find"
+word_of (Diff old new) = codes "diff"
+word_of (Export file path form) = codes "export"
+word_of (New file name) = codes "new"
+word_of (Edit edit) = codes "edit"
+word_of (Import edit) = codes "import"
+
+pub named : (found : Text × List Row) (request : Request) → Asks found request → found.0 ≡ word_of request
+named found (Dump file) h = h.0
+named found (Check files) h = h.0
+named found (Listing file path is_whole) h = h.0
+named found (Get file path name is_raw) h = h.0
+named found (Find file pattern places) h = h.0
+named found (Diff old new) h = h.0
+named found (Export file path form) h = h.0
+named found (New file name) h = h.0
+named found (Edit edit) h = h.0
+named found (Import edit) h = h.0
+
+-- two words that differ
+pub apart : (a b : List ℕ) → bytes_eq a b ≡ false → bytes_eq a a ≡ true → a ≡ b → ⊥
+apart a b differ same e = let bad : true ≡ false = sym same ∙ (ap (bytes_eq a) e ∙ differ) in cc
+
+-- another subcommand was named
+module _ (word : Text) (rows : List Row) (request : Request) (same : bytes_eq word word ≡ true) where
+  pub other : bytes_eq word (word_of request) ≡ false → Asks (word, rows) request → ⊥
+  other differ h = apart word (word_of request) differ same (named (word, rows) request h)
+
+-- what is there is none
+pub none_there : {X : Type 0} (o : Option X) (x : X) → o ≡ None → o ≡ Some x → ⊥
+none_there o x e h = let bad : None ≡ Some x = sym e ∙ h in cc
+
+module _ (rows : List Row) where
+  pub no_dump : first_of (codes "file") rows ≡ None → (request : Request) → Asks (codes "dump", rows) request → ⊥
+  no_dump e (Dump file) h = none_there _ file.now e h.1
+  no_dump e request h = other (codes "dump") rows request refl refl h
+
+  pub no_check : all_of (codes "files") rows ≡ None → (request : Request) → Asks (codes "check", rows) request → ⊥
+  no_check e (Check files) h = none_there _ (map (λ file. file.now) files.items) e h.1
+  no_check e request h = other (codes "check") rows request refl refl h
+
+  pub no_new : first_of (codes "file") rows ≡ None → (request : Request) → Asks (codes "new", rows) request → ⊥
+  no_new e (New file name) h = none_there _ file.now e h.1
+  no_new e request h = other (codes "new") rows request refl refl h
+
+  pub no_list : first_of (codes "file") rows ≡ None → (request : Request) → Asks (codes "ls", rows) request → ⊥
+  no_list e (Listing file path is_whole) h = none_there _ file.now e h.1
+  no_list e request h = other (codes "ls") rows request refl refl h
+
+  pub no_get : ((first_of (codes "file") rows ≡ None) ⊎ (first_of (codes "path") rows ≡ None)) → (request : Request) →
+      Asks (codes "get", rows) request → ⊥
+  no_get (inl e) (Get file path value is_raw) h = none_there _ file.now e h.1
+  no_get (inr e) (Get file path value is_raw) h = none_there _ path.now e h.2
+  no_get e request h = other (codes "get") rows request refl refl h
+
+  pub no_find : ((first_of (codes "file") rows ≡ None) ⊎ ((first_of (codes "pattern") rows ≡ None)
+      ⊎ ((places : Places) → AsksForPlaces rows places → ⊥))) → (request : Request) → Asks (codes "find", rows) request → ⊥
+  no_find (inl e) (Find file pattern places) h = none_there _ file.now e h.1
+  no_find (inr (inl e)) (Find file pattern places) h = none_there _ pattern.now e h.2
+  no_find (inr (inr never)) (Find file pattern places) h = never places h.3
+  no_find e request h = other (codes "find") rows request refl refl h
+
+  pub no_diff : ((first_of (codes "old") rows ≡ None) ⊎ (first_of (codes "new") rows ≡ None)) → (request : Request) →
+      Asks (codes "diff", rows) request → ⊥
+  no_diff (inl e) (Diff old new) h = none_there _ old.now e h.1
+  no_diff (inr e) (Diff old new) h = none_there _ new.now e h.2
+  no_diff e request h = other (codes "diff") rows request refl refl h
+
+  pub no_export : ((first_of (codes "file") rows ≡ None) ⊎ ((form : Form) → AsksForForm rows form → ⊥)) → (request : Request) →
+      Asks (codes "export", rows) request → ⊥
+  no_export (inl e) (Export file path form) h = none_there _ file.now e h.1
+  no_export (inr never) (Export file path form) h = never form h.3
+  no_export e request h = other (codes "export") rows request refl refl h
+
+  pub no_edit : ((edit : EditRequest) → AsksToEdit rows edit → ⊥) → (request : Request) → Asks (codes "edit", rows) request → ⊥
+  no_edit never (Edit edit) h = never edit h.1
+  no_edit never request h = other (codes "edit") rows request refl refl h
+
+  pub no_import : ((edit : EditRequest) → AsksToEdit rows edit → ⊥) → (request : Request) → Asks (codes "import", rows) request → ⊥
+  no_import never (Import edit) h = never edit h.1
+  no_import never request h = other (codes "import") rows request refl refl h
+
+-- no file is saved
+pub no_saving : (rows : List Row) → ((first_of (codes "file") rows ≡ None) ⊎ ((begin : Begin) → AsksToBegin rows begin → ⊥)) →
+    (edit : EditRequest) → AsksToEdit rows edit → ⊥
+no_saving rows (inl e) edit h = none_there _ edit.file.now e h.file
+no_saving rows (inr never) edit h = never edit.begin h.begin
+
+-- the places that were read are those that are asked for
+exactly : (rows : List Row) (asked result : Option Places) → asked ≡ result → IsFound (λ places. asked ≡ Some places) result
+exactly rows asked None e = λ places h. none_there _ places e h
+exactly rows asked (Some places) e = e
+
+pub places_found : (rows : List Row) (given : Option Text) (result : Option Places) → first_of (codes "in") rows ≡ given →
+    result ≡ places_asked given → IsFound (AsksForPlaces rows) result
+places_found rows given result is read = exactly rows (places_asked (first_of (codes "in") rows)) result (ap places_asked is ∙ sym read)
+
+-- no form is named, or one of none
+pub no_form : (rows : List Row) → first_of (codes "as") rows ≡ None → (form : Form) → AsksForForm rows form → ⊥
+no_form rows e (Reg is_utf8) h = none_there _ (codes "reg") e h.0
+no_form rows e Json h = none_there _ (codes "json") e h
+no_form rows e Csv h = none_there _ (codes "csv") e h
+
+pub other_form : (rows : List Row) (name : Text) → first_of (codes "as") rows ≡ Some name → (name ≡ codes "reg" → ⊥) → (name ≡ codes "json" → ⊥) →
+    (name ≡ codes "csv" → ⊥) → (form : Form) → AsksForForm rows form → ⊥
+other_form rows name e reg json csv (Reg is_utf8) h = reg (same_Some name (codes "reg") (sym e ∙ h.0))
+other_form rows name e reg json csv Json h = json (same_Some name (codes "json") (sym e ∙ h))
+other_form rows name e reg json csv Csv h = csv (same_Some name (codes "csv") (sym e ∙ h))
+
+-- something was found, or nothing
+pub found_there : {A : Type 0} (P : A → Type 0) (r : Option A) (a : A) → r ≡ Some a → IsFound P r → P a
+found_there P r a e h = subst (IsFound P) e h
+
+pub never_found : {A : Type 0} (P : A → Type 0) (r : Option A) → r ≡ None → IsFound P r → (a : A) → P a → ⊥
+never_found P r e h = subst (IsFound P) e h
+
+-- the text that is given, or the one in its place
+pub given_or : {N : Type 0} (f : Found) (word instead : Text) (got : Option N) (now : N → Text) (given other : N) →
+    option_map now got ≡ first_value f word →
+    given ≡ unwrap_or got other → now other ≡ instead → now given ≡ unwrap_or (first_of word (rows_of f)) instead
+given_or {N = N} f word instead got now given other e is o =
+    ap now is ∙ (mapped got ∙ ap (λ (t : Option Text). unwrap_or t instead) (sym (first_is f word _ e)))
+  where
+    mapped : (g : Option N) → now (unwrap_or g other) ≡ unwrap_or (option_map now g) instead
+    mapped None = o
+    mapped (Some n) = refl
+
+-- the values, as the rows have them
+pub all_is : (f : Found) (name : Text) (got : Option (List Text)) → got ≡ option_map raw_values (matched_of f name) → all_of name (rows_of f) ≡ got
+all_is f name got e = sym (raw_values-rows f name) ∙ sym e

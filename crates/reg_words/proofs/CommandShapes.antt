@@ -1,0 +1,79 @@
+-- `clap`'s command is put together of its arguments and subcommands, and what it takes is the definition's.
+use Rattle.std.proofs.Common.{◌≡◌, ◌∙◌, ◌||◌, List, [], ℕ, Bool, ap, ap₂, subst, sym, refl, true, false, inl, inr}
+use Rattle.std.specs.Prelude.{Option, Some, None, Result, Ok, Err, IfErr, ◌≢◌}
+use Rattle.std.specs.Result.{IsErrAnd}
+use Rattle.clap.specs.Values.{kind_of}
+use Rattle.clap.specs.declared.error.kind.ErrorKind.TheVariants.{OutOfMemory}
+use Rattle.clap.specs.Words.{AddsArg, AddsSubcommand, App, FailsBy, HasKind, HasMatchesOf, IsAmong, Row, Rule, Text, app_of, fault_of, is_simple, is_simple_and_free, rule_of, subcommand_of, subcommand_rows_of, with_rule, with_subcommand}
+use Rattle.clap.specs.declared.builder.arg.Arg.{Arg}
+use Rattle.clap.specs.declared.builder.command.Command.{Command}
+use Rattle.clap.specs.declared.error.Error.{Error}
+use Rattle.clap.specs.declared.parser.matches.ArgMatches.{ArgMatches}
+use Rattle.clap.proofs.OnLiterals.{clap_on_literals}
+use Rattle.reg_words.specs.CommandLines.{regtool, faults_in, found_in, AsksIn, AsksNothing, IsCommandLine}
+use Rattle.reg_words.specs.Internal.Commands.{IsRule, IsCommand, IsFound}
+use Rattle.reg_words.specs.declared.request.Request.{Request}
+
+pub with_arg : (old new : Command) (a : Arg) (app : App) (rule : Rule) → IsCommand app old → IsRule rule a → AddsArg old a new →
+    IsCommand (with_rule app rule) new
+with_arg old new a app rule c r adds = record {
+  app_is = adds.shape r.local ∙ ap₂ with_rule c.app_is r.rule_is;
+  local = adds.globals ∙ ap₂ (λ (x y : Bool). x || y) c.local r.local;
+}
+
+pub with_command : (old sub new : Command) (app sub_app : App) → IsCommand app old → IsCommand sub_app sub → AddsSubcommand old sub new →
+    IsCommand (with_subcommand app sub_app.top) new
+with_command old sub new app sub_app c s adds = record {
+  app_is = adds.shape s.local ∙ ap₂ with_subcommand c.app_is (ap (λ (a : App). a.top) s.app_is);
+  local = adds.globals ∙ ap₂ (λ (x y : Bool). x || y) c.local s.local;
+}
+
+simple : is_simple_and_free regtool ≡ true
+unfolding regtool clap_on_literals
+simple = refl
+
+plain : is_simple regtool ≡ true
+unfolding regtool clap_on_literals
+plain = refl
+
+pub taken : (app : App) (words : List (List ℕ)) → app ≡ regtool → (is_simple_and_free app ≡ true → fault_of app words ≡ []) →
+    faults_in words ≡ []
+unfolding faults_in
+taken app words is given = sym (ap (λ (a : App). fault_of a words) is) ∙ given (ap is_simple_and_free is ∙ simple)
+
+pub refused : (app : App) (words : List (List ℕ)) (e : Error) → app ≡ regtool →
+    (is_simple_and_free app ≡ true → HasKind (fault_of app words) e) → HasKind (faults_in words) e
+unfolding faults_in
+refused app words e is given = subst (λ (a : App). HasKind (fault_of a words) e) is (given (ap is_simple_and_free is ∙ simple))
+
+-- the subcommand that a parse entered is the one that the words name
+pub found : (app : App) (words : List (List ℕ)) (m : ArgMatches) → app ≡ regtool → HasMatchesOf app words m →
+    subcommand_rows_of m ≡ found_in words
+unfolding found_in
+found app words m is has = (has (ap is_simple is ∙ plain)).1 ∙ ap (λ (a : App). subcommand_of a words) is
+
+-- an error that isn't want of memory tells that the words ask for nothing
+abbrev pub IsUnread : List (List ℕ) → Error → Type 0
+IsUnread words error = kind_of error ≢ OutOfMemory → AsksNothing words
+
+pub unread : {T : Type 0} (words : List (List ℕ)) (r : Result T Error) → FailsBy (faults_in words) r → IfErr r (λ e. IsUnread words e)
+unread words (Ok v) h = record {}
+unread words (Err e) (inl memory) = λ other request is. other memory
+unread words (Err e) (inr among) = λ other request is. subst (IsAmong (kind_of e)) is.taken among
+
+-- want of memory on the way
+pub memory_unread : {T : Type 0} (words : List (List ℕ)) (r : Result T Error) → IsErrAnd r (λ e. kind_of e ≡ OutOfMemory)
+    → IfErr r (λ e. IsUnread words e)
+memory_unread words (Ok v) h = record {}
+memory_unread words (Err e) h = λ other request is. other h
+
+-- what the matches ask for is what the words ask for
+pub asked_for : (words : List (List ℕ)) (found : Option (Text × List Row)) (asked : Option Request) (request : Request) →
+    faults_in words ≡ [] → found ≡ found_in words → IsFound (AsksIn found) asked → asked ≡ Some request → IsCommandLine words request
+asked_for words found asked request taken is read e =
+    record { taken = taken; asks = subst (λ (o : Option (Text × List Row)). AsksIn o request) is (subst (IsFound (AsksIn found)) e read) }
+
+pub asked_for_none : (words : List (List ℕ)) (found : Option (Text × List Row)) (asked : Option Request) →
+    found ≡ found_in words → IsFound (AsksIn found) asked → asked ≡ None → AsksNothing words
+asked_for_none words found asked is read e request command =
+    subst (IsFound (AsksIn found)) e read request (subst (λ (o : Option (Text × List Row)). AsksIn o request) (sym is) command.asks)

@@ -1,0 +1,3 @@
+pub mod AskedWords
+pub mod CommandShapes
+pub mod PlaceLemmas

@@ -1,0 +1,14 @@
+use Rattle.std.proofs.Common.{◌∙◌, ap, codes, inl}
+use Rattle.std.specs.Prelude.{option_map}
+use Rattle.clap.specs.Words.{found_of, rows_of}
+use Rattle.reg_words.proofs.AskedWords.{first_is, no_get}
+use Rattle.reg_words.proofs.asked.get_asked.Goals as goal
+
+pub get_of-requires : goal.get_of-requires
+get_of-requires c =
+    first_is (found_of c.args.matches.now) (codes "file") _ c.get_str.ensures ∙ ap (option_map (λ s. s.now)) c.in-Some.is
+
+pub returns-in-None : goal.returns-in-None
+returns-in-None c =
+    no_get (rows_of (found_of c.args.matches.now))
+    (inl (first_is (found_of c.args.matches.now) (codes "file") _ c.get_str.ensures ∙ ap (option_map (λ s. s.now)) c.in-None.is))

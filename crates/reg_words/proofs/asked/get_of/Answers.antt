@@ -1,0 +1,19 @@
+use Rattle.std.proofs.Common.{[], ◌∙◌, ap, codes, refl, inr}
+use Rattle.std.specs.Prelude.{option_map}
+use Rattle.clap.specs.Words.{found_of, rows_of}
+use Rattle.reg_words.proofs.AskedWords.{first_is, no_get, given_or}
+use Rattle.reg_words.proofs.asked.get_of.Goals as goal
+
+pub returns-in-Some : goal.returns-in-Some
+returns-in-Some c = (
+  refl,
+  c.requires,
+  first_is (found_of c.args.matches.now) (codes "path") _ c.get_str.ensures ∙ ap (option_map (λ s. s.now)) c.in-Some.is,
+  given_or (found_of c.args.matches.now) (codes "value") [] c.get_str-in-Some.result (λ s. s.now) _ _ c.get_str-in-Some.ensures c.unwrap_or.ensures refl,
+  c.is_set.ensures,
+)
+
+pub returns-in-None : goal.returns-in-None
+returns-in-None c =
+    no_get (rows_of (found_of c.args.matches.now))
+    (inr (first_is (found_of c.args.matches.now) (codes "path") _ c.get_str.ensures ∙ ap (option_map (λ s. s.now)) c.in-None.is))

@@ -1,0 +1,190 @@
+-- The command line of the tool on files (this project's own).
+use Rattle.std.specs.Prelude.{ℕ, ◌<◌, ◌≡◌, ◌≢◌, ◌↔◌, List, [], ◌∷◌, codes, map, option_map, unwrap_or, Option, Some, None, Bool, true, false}
+use Rattle.std.specs.Str.Parse.{IsNumeral, digits_value, without_leading_plus}
+use Rattle.clap.specs.Words.{App, Kinds, Row, Rule, Text, all_of, fault_of, first_of, new_app, new_rule, one_of, subcommand_of, with_rule, with_subcommand}
+use Rattle.clap.specs.Lexer.{usize_max}
+use Rattle.clap.specs.declared.builder.action.ArgAction.TheVariants as action
+use Rattle.clap.specs.declared.builder.value_parser.ValueParser.TheVariants as parser
+use Rattle.reg_command.specs.CommandLines.{required, run_command}
+use Rattle.reg_words.specs.PlaceLists.{places_in}
+use Rattle.reg_words.specs.declared.request.EditRequest.{EditRequest}
+use Rattle.reg_words.specs.declared.request.Form.{Form}
+use Rattle.reg_words.specs.declared.request.Form.TheVariants.{Reg, Json, Csv}
+use Rattle.reg_words.specs.declared.request.Places.{Places}
+use Rattle.reg_words.specs.declared.request.Begin.{Begin}
+use Rattle.reg_words.specs.declared.request.Begin.TheVariants.{Kept, Now, At}
+use Rattle.reg_words.specs.declared.request.Request.{Request}
+use Rattle.reg_words.specs.declared.request.Request.TheVariants.{Dump, Check, Listing, Get, Find, Diff, Export, New, Edit, Import}
+
+-- `clap`'s command `regtool`, one of whose subcommands must be there: `run`, `dump` and `check` as without files, where `dump` may have a
+-- file and `check` files; `ls` with a file, a path that may be left out, and the flag `--tree`; `get` with a file, a path, a value's name that may
+-- be left out, and the flag `--raw`; `find` with a file, a pattern and the option `--in`; `diff` with two files; `export` with a file, a path that
+-- may be left out, the option `--as`, which must be given, and the flag `--utf8`; `new` with a file and the option `--name`; and `edit` and
+-- `import`, each with a file, the options `--output` and `--at`, which is a number of 64 bits, and the flags `--now` and `--dry-run`
+abbrev pub option_rule : Text → Rule
+option_rule name = record (new_rule name) { long = Some name; value_names = 1 }
+
+abbrev pub required_rule : Text → Rule
+required_rule name = record (option_rule name) { required = true }
+
+abbrev pub flag_rule : Text → Rule
+flag_rule name = record (new_rule name) { long = Some name; action = Some action.SetTrue }
+
+abbrev pub place_rule : Text → Bool → Rule
+place_rule name is_required = record (new_rule name) { value_names = 1; required = is_required }
+
+abbrev pub file_rule : Bool → Rule
+file_rule is_required = place_rule (codes "file") is_required
+
+abbrev pub files_rule : Rule
+files_rule = record (new_rule (codes "files")) {
+  value_names = 1;
+  action = Some action.Append;
+  range = Some (record { start_inclusive = 1; end_inclusive = usize_max });
+}
+
+abbrev pub at_rule : Rule
+at_rule = record (option_rule (codes "at")) { parser = Some (parser.Unsigned 0 18446744073709551615) }
+
+abbrev pub dump_command : App
+dump_command = with_rule (new_app (codes "dump")) (file_rule false)
+
+abbrev pub check_command : App
+check_command = with_rule (new_app (codes "check")) files_rule
+
+abbrev pub list_command : App
+list_command =
+    with_rule (with_rule (with_rule (new_app (codes "ls")) (file_rule true)) (place_rule (codes "path") false)) (flag_rule (codes "tree"))
+
+abbrev pub get_command : App
+get_command =
+    with_rule
+    (with_rule (with_rule (with_rule (new_app (codes "get")) (file_rule true)) (place_rule (codes "path") true)) (place_rule (codes "value") false))
+    (flag_rule (codes "raw"))
+
+abbrev pub find_command : App
+find_command =
+    with_rule (with_rule (with_rule (new_app (codes "find")) (file_rule true)) (place_rule (codes "pattern") true)) (option_rule (codes "in"))
+
+abbrev pub diff_command : App
+diff_command = with_rule (with_rule (new_app (codes "diff")) (place_rule (codes "old") true)) (place_rule (codes "new") true)
+
+abbrev pub export_command : App
+export_command =
+    with_rule
+    (with_rule (with_rule (with_rule (new_app (codes "export")) (file_rule true)) (place_rule (codes "path") false)) (required_rule (codes "as")))
+    (flag_rule (codes "utf8"))
+
+abbrev pub new_command : App
+new_command = with_rule (with_rule (new_app (codes "new")) (file_rule true)) (option_rule (codes "name"))
+
+-- a command of that name that saves a file
+abbrev pub saving_command : Text → App
+saving_command name =
+    with_rule
+    (with_rule (with_rule (with_rule (with_rule (new_app name) (file_rule true)) (option_rule (codes "output"))) (flag_rule (codes "now"))) at_rule)
+    (flag_rule (codes "dry-run"))
+
+abbrev pub tool_commands : App
+tool_commands =
+    with_subcommand
+    (with_subcommand (with_subcommand (required (new_app (codes "regtool"))) run_command.top) dump_command.top)
+    check_command.top
+
+abbrev pub looking_commands : App
+looking_commands =
+    with_subcommand
+    (with_subcommand
+    (with_subcommand (with_subcommand (with_subcommand tool_commands list_command.top) get_command.top) find_command.top)
+    diff_command.top)
+    export_command.top
+
+unfoldable pub regtool : App
+regtool =
+    with_subcommand
+    (with_subcommand (with_subcommand looking_commands new_command.top) (saving_command (codes "edit")).top)
+    (saving_command (codes "import")).top
+
+-- the kinds of fault that `clap` finds in the words of a command line, the program's name first: none where it takes them
+unfoldable pub faults_in : List (List ℕ) → Kinds
+faults_in words = fault_of regtool words
+
+-- the subcommand that `clap` finds in the words, and the matches of its options
+unfoldable pub found_in : List (List ℕ) → Option (Text × List Row)
+found_in words = subcommand_of regtool words
+
+-- a text writes this number of 64 bits in decimal digits
+pub record IsMoment (text : List ℕ) (number : ℕ) : Type 0 where
+  pub numeral : IsNumeral 10 (without_leading_plus text)
+  pub small : digits_value 10 (without_leading_plus text) < 18446744073709551616
+  pub value : number ≡ digits_value 10 (without_leading_plus text)
+
+-- the flag of that name was given
+abbrev pub IsSet : Text → List Row → Type 0
+IsSet name rows = first_of name rows ≡ Some (codes "true")
+
+-- the moment that the matches of a command that saves ask for: that of the file, of the clock, or one that is given
+abbrev pub AsksToBegin : List Row → Begin → Type 0
+AsksToBegin rows Kept = (IsSet (codes "now") rows → ⊥) × (one_of (codes "at") rows ≡ None)
+AsksToBegin rows Now = IsSet (codes "now") rows × (one_of (codes "at") rows ≡ None)
+AsksToBegin rows (At moment) =
+    (IsSet (codes "now") rows → ⊥) × ((text : Text) × (one_of (codes "at") rows ≡ Some text) × IsMoment text moment)
+
+-- what the matches of a command that saves ask for
+pub record AsksToEdit (rows : List Row) (edit : EditRequest) : Type 0 where
+  pub file : first_of (codes "file") rows ≡ Some edit.file.now
+  pub output : option_map (λ output. output.now) edit.output ≡ first_of (codes "output") rows
+  pub begin : AsksToBegin rows edit.begin
+  pub dry_run : (edit.dry_run ≡ true) ↔ IsSet (codes "dry-run") rows
+
+-- the places that the matches of `find` ask for: those that `--in` names, and all where nothing is said
+abbrev pub places_asked : Option Text → Option Places
+places_asked None = Some (record { keys = true; names = true; texts = true })
+places_asked (Some text) = places_in text
+
+abbrev pub AsksForPlaces : List Row → Places → Type 0
+AsksForPlaces rows places = places_asked (first_of (codes "in") rows) ≡ Some places
+
+-- the form that the matches of `export` ask for
+abbrev pub AsksForForm : List Row → Form → Type 0
+AsksForForm rows (Reg is_utf8) = (first_of (codes "as") rows ≡ Some (codes "reg")) × ((is_utf8 ≡ true) ↔ IsSet (codes "utf8") rows)
+AsksForForm rows Json = first_of (codes "as") rows ≡ Some (codes "json")
+AsksForForm rows Csv = first_of (codes "as") rows ≡ Some (codes "csv")
+
+-- what a subcommand with its matches asks for of files
+abbrev pub Asks : Text × List Row → Request → Type 0
+Asks found (Dump file) = (found.0 ≡ codes "dump") × (first_of (codes "file") found.1 ≡ Some file.now)
+Asks found (Check files) = (found.0 ≡ codes "check") × (all_of (codes "files") found.1 ≡ Some (map (λ file. file.now) files.items))
+Asks found (Listing file path is_whole) =
+    (found.0 ≡ codes "ls") × (first_of (codes "file") found.1 ≡ Some file.now) × (path.now ≡ unwrap_or (first_of (codes "path") found.1) [])
+    × ((is_whole ≡ true) ↔ IsSet (codes "tree") found.1)
+Asks found (Get file path name is_raw) =
+    (found.0 ≡ codes "get") × (first_of (codes "file") found.1 ≡ Some file.now) × (first_of (codes "path") found.1 ≡ Some path.now)
+    × (name.now ≡ unwrap_or (first_of (codes "value") found.1) []) × ((is_raw ≡ true) ↔ IsSet (codes "raw") found.1)
+Asks found (Find file pattern places) =
+    (found.0 ≡ codes "find") × (first_of (codes "file") found.1 ≡ Some file.now)
+    × (first_of (codes "pattern") found.1 ≡ Some pattern.now) × AsksForPlaces found.1 places
+Asks found (Diff old new) =
+    (found.0 ≡ codes "diff") × (first_of (codes "old") found.1 ≡ Some old.now) × (first_of (codes "new") found.1 ≡ Some new.now)
+Asks found (Export file path form) =
+    (found.0 ≡ codes "export") × (first_of (codes "file") found.1 ≡ Some file.now)
+    × (path.now ≡ unwrap_or (first_of (codes "path") found.1) []) × AsksForForm found.1 form
+Asks found (New file name) =
+    (found.0 ≡ codes "new") × (first_of (codes "file") found.1 ≡ Some file.now)
+    × (name.now ≡ unwrap_or (first_of (codes "name") found.1) (codes "ROOT"))
+Asks found (Edit edit) = (found.0 ≡ codes "edit") × AsksToEdit found.1 edit
+Asks found (Import edit) = (found.0 ≡ codes "import") × AsksToEdit found.1 edit
+
+-- what a subcommand asks for, if there is one
+abbrev pub AsksIn : Option (Text × List Row) → Request → Type 0
+AsksIn (Some found) request = Asks found request
+AsksIn None request = ⊥
+
+-- these words are a command line of the tool on files, which asks for that: `clap` takes them
+pub record IsCommandLine (words : List (List ℕ)) (request : Request) : Type 0 where
+  pub taken : faults_in words ≡ []
+  pub asks : AsksIn (found_in words) request
+
+-- these words are no command line of it: whatever is asked, they don't ask for it
+abbrev pub AsksNothing : List (List ℕ) → Type 0
+AsksNothing words = (request : Request) → IsCommandLine words request → ⊥

@@ -1,0 +1,21 @@
+-- `clap`'s commands as they are put together, and what is read of their matches (this project's own).
+use Rattle.std.specs.Prelude.{◌≡◌, false, Option, Some, None}
+use Rattle.clap.specs.Words.{App, Rule, app_of, rule_of}
+use Rattle.clap.specs.declared.builder.command.Command.TheViews.{out-Command}
+use Rattle.clap.specs.declared.builder.arg.Arg.{Arg}
+use Rattle.clap.specs.declared.builder.command.Command.{Command}
+
+-- an argument by this rule, of its command alone
+pub record IsRule (rule : Rule) (arg : Arg) : Type 0 where
+  pub rule_is : rule_of arg ≡ rule
+  pub local : arg.global ≡ false
+
+-- a command of that form, whose arguments are its own alone
+pub record IsCommand (app : App) (command : Command) : Type 0 where
+  pub app_is : app_of command ≡ app
+  pub local : (out-Command command).has_globals ≡ false
+
+-- something of which this holds, or none, where it holds of none
+abbrev pub IsFound : {A : Type 0} → (A → Type 0) → Option A → Type 0
+IsFound P (Some a) = P a
+IsFound {A} P None = (a : A) → P a → ⊥

@@ -1,0 +1,3 @@
+pub mod CommandLines
+pub mod PlaceLists
+pub mod Internal

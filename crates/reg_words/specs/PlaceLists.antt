@@ -1,0 +1,35 @@
+-- Where a pattern is searched for, as it is written: words parted by commas (this project's own).
+use Rattle.std.specs.Prelude.{ℕ, ◌==◌, ◌||◌, true, false, Bool, if◌then◌else◌, List, [], ◌∷◌, codes, bytes_eq, Option, Some, None}
+use Rattle.std.specs.Option.{option_map, option_and_then}
+use Rattle.reg_words.specs.declared.request.Places.{Places}
+
+-- a text's first part with a letter before it
+abbrev pub with_letter : ℕ → List (List ℕ) → List (List ℕ)
+with_letter letter [] = []
+with_letter letter (part ∷ parts) = (letter ∷ part) ∷ parts
+
+-- the parts of a text between its commas
+abbrev pub parts_of : List ℕ → List (List ℕ)
+parts_of [] = [] ∷ []
+parts_of (letter ∷ letters) = if letter == 44 then [] ∷ parts_of letters else with_letter letter (parts_of letters)
+
+-- a place by its word
+abbrev pub place_of : List ℕ → Option Places
+place_of word =
+    if bytes_eq word (codes "keys") then Some (record { keys = true; names = false; texts = false })
+    else if bytes_eq word (codes "names") then Some (record { keys = false; names = true; texts = false })
+    else if bytes_eq word (codes "data") then Some (record { keys = false; names = false; texts = true })
+    else None
+
+-- the places of two
+abbrev pub both : Places → Places → Places
+both one other = record { keys = one.keys || other.keys; names = one.names || other.names; texts = one.texts || other.texts }
+
+-- the places of some words together, where each is one; of none no place
+abbrev pub places_of : List (List ℕ) → Option Places
+places_of [] = Some (record { keys = false; names = false; texts = false })
+places_of (word ∷ words) = option_and_then (λ place. option_map (both place) (places_of words)) (place_of word)
+
+-- the places that a text names
+abbrev pub places_in : List ℕ → Option Places
+places_in text = places_of (parts_of text)

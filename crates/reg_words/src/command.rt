@@ -1,0 +1,319 @@
+//! `clap`'s command, of which a command line is read.
+
+ghost use Rattle.std.specs.Prelude.{IfOk, codes};
+ghost use Rattle.clap.specs.Words.{new_app};
+ghost use Rattle.reg_command.specs.CommandLines.{image_option, run_command as run_shape};
+ghost use Rattle.reg_words.specs.CommandLines.{option_rule, required_rule, flag_rule, place_rule, file_rule, files_rule, at_rule};
+ghost use Rattle.reg_words.specs.CommandLines.{dump_command as dump_shape, check_command as check_shape, list_command as list_shape};
+ghost use Rattle.reg_words.specs.CommandLines.{get_command as get_shape, find_command as find_shape, diff_command as diff_shape};
+ghost use Rattle.reg_words.specs.CommandLines.{export_command as export_shape, new_command as new_shape, saving_command as saving_shape};
+ghost use Rattle.reg_words.specs.CommandLines.{tool_commands as tool_shape, looking_commands as looking_shape, regtool as regtool_shape};
+ghost use Rattle.reg_words.specs.Internal.Commands.{IsRule, IsCommand};
+
+use clap::{Arg, ArgAction, Command};
+use std::alloc::{AllocError, Global};
+
+/// An option with one value.
+fn option_arg<'a>(alloc: Global, name: &'a str, value: &'a str, help: &'a str) -> Arg<'a>
+    ensures { IsRule (option_rule name.now) result }
+{
+    Arg::new(alloc, name)
+        .long(name)
+        .value_name(value)
+        .help(help)
+}
+
+/// An option without a value.
+fn flag_arg<'a>(alloc: Global, name: &'a str, help: &'a str) -> Arg<'a>
+    ensures { IsRule (flag_rule name.now) result }
+{
+    Arg::new(alloc, name)
+        .long(name)
+        .action(ArgAction::SetTrue)
+        .help(help)
+}
+
+/// An argument by its place.
+fn place_arg<'a>(
+    alloc: Global,
+    name: &'a str,
+    is_required: bool,
+    value: &'a str,
+    help: &'a str,
+) -> Arg<'a>
+    ensures { IsRule (place_rule name.now is_required) result }
+{
+    Arg::new(alloc, name)
+        .required(is_required)
+        .value_name(value)
+        .help(help)
+}
+
+/// An option with one value, which must be given.
+fn required_arg<'a>(alloc: Global, name: &'a str, value: &'a str, help: &'a str) -> Arg<'a>
+    ensures { IsRule (required_rule name.now) result }
+{
+    option_arg(alloc, name, value, help).required(true)
+}
+
+/// A file, by its place.
+fn file_arg<'a>(alloc: Global, is_required: bool, help: &'a str) -> Arg<'a>
+    ensures { IsRule (file_rule is_required) result }
+{
+    place_arg(alloc, "file", is_required, "FILE", help)
+}
+
+/// Files, by their places.
+fn files_arg<'a>(alloc: Global) -> Arg<'a>
+    ensures { IsRule files_rule result }
+{
+    Arg::new(alloc, "files")
+        .value_name("FILE")
+        .action(ArgAction::Append)
+        .num_args(1..)
+        .help("The hives, in place of standard input")
+}
+
+fn image_arg<'a>(alloc: Global) -> Arg<'a>
+    ensures { IsRule image_option result }
+{
+    option_arg(
+        alloc,
+        "image",
+        "SEQ",
+        "Write the hive's image with this sequence number, and no replies",
+    )
+    .value_parser(clap::value_parser!(u32))
+}
+
+fn at_arg<'a>(alloc: Global) -> Arg<'a>
+    ensures { IsRule at_rule result }
+{
+    option_arg(
+        alloc,
+        "at",
+        "MOMENT",
+        "Begin at this moment, in units of 100 ns since 1601",
+    )
+    .value_parser(clap::value_parser!(u64))
+}
+
+/// A command without arguments.
+fn bare_command<'a>(alloc: Global, name: &'a str, about: &'a str) -> Command<'a>
+    ensures { IsCommand (new_app name.now) result }
+{
+    Command::new(alloc, name).about(about)
+}
+
+/// `run`, which [`reg_command::tool`] serves.
+fn run_command<'a>(alloc: Global) -> Result<Command<'a>, AllocError>
+    ensures { IfOk result (λ command. IsCommand run_shape command) }
+{
+    bare_command(
+        alloc,
+        "run",
+        "Runs a script of registry calls from standard input on a fresh hive",
+    )
+    .arg(image_arg(alloc))
+}
+
+fn dump_command<'a>(alloc: Global) -> Result<Command<'a>, AllocError>
+    ensures { IfOk result (λ command. IsCommand dump_shape command) }
+{
+    let file = file_arg(alloc, false, "The hive, in place of standard input");
+    bare_command(alloc, "dump", "Tells the keys of a hive").arg(file)
+}
+
+fn check_command<'a>(alloc: Global) -> Result<Command<'a>, AllocError>
+    ensures { IfOk result (λ command. IsCommand check_shape command) }
+{
+    bare_command(alloc, "check", "Loads hives and counts their keys").arg(files_arg(alloc))
+}
+
+fn list_command<'a>(alloc: Global) -> Result<Command<'a>, AllocError>
+    ensures { IfOk result (λ command. IsCommand list_shape command) }
+{
+    let file = file_arg(alloc, true, "The hive");
+    let path = place_arg(
+        alloc,
+        "path",
+        false,
+        "PATH",
+        "The key, the root where none is given",
+    );
+    let tree = flag_arg(alloc, "tree", "List all that is below it");
+    bare_command(alloc, "ls", "Lists the values and subkeys of a key")
+        .arg(file)?
+        .arg(path)?
+        .arg(tree)
+}
+
+fn get_command<'a>(alloc: Global) -> Result<Command<'a>, AllocError>
+    ensures { IfOk result (λ command. IsCommand get_shape command) }
+{
+    let file = file_arg(alloc, true, "The hive");
+    let path = place_arg(alloc, "path", true, "PATH", "The key");
+    let value = place_arg(
+        alloc,
+        "value",
+        false,
+        "NAME",
+        "The value, the default one where none is given",
+    );
+    let raw = flag_arg(alloc, "raw", "Write its bytes");
+    bare_command(alloc, "get", "Tells the data of a value")
+        .arg(file)?
+        .arg(path)?
+        .arg(value)?
+        .arg(raw)
+}
+
+fn new_command<'a>(alloc: Global) -> Result<Command<'a>, AllocError>
+    ensures { IfOk result (λ command. IsCommand new_shape command) }
+{
+    let file = file_arg(alloc, true, "The file, which must not be there yet");
+    let name = option_arg(
+        alloc,
+        "name",
+        "NAME",
+        "The root's name, ROOT where none is given",
+    );
+    bare_command(alloc, "new", "Makes a file with a fresh hive")
+        .arg(file)?
+        .arg(name)
+}
+
+/// What is asked beside the file by a command that saves it.
+fn saving_command<'a>(
+    alloc: Global,
+    name: &'a str,
+    about: &'a str,
+) -> Result<Command<'a>, AllocError>
+    ensures { IfOk result (λ command. IsCommand (saving_shape name.now) command) }
+{
+    let file = file_arg(alloc, true, "The hive, which is saved in place");
+    let output = option_arg(alloc, "output", "FILE", "Save in this new file instead");
+    let now = flag_arg(alloc, "now", "Begin at the moment of the clock");
+    let dry_run = flag_arg(alloc, "dry-run", "Save nothing");
+    bare_command(alloc, name, about)
+        .arg(file)?
+        .arg(output)?
+        .arg(now)?
+        .arg(at_arg(alloc))?
+        .arg(dry_run)
+}
+
+fn edit_command<'a>(alloc: Global) -> Result<Command<'a>, AllocError>
+    ensures { IfOk result (λ command. IsCommand (saving_shape (codes "edit")) command) }
+{
+    saving_command(
+        alloc,
+        "edit",
+        "Runs a script from standard input on a hive, and saves what it changed",
+    )
+}
+
+fn import_command<'a>(alloc: Global) -> Result<Command<'a>, AllocError>
+    ensures { IfOk result (λ command. IsCommand (saving_shape (codes "import")) command) }
+{
+    saving_command(
+        alloc,
+        "import",
+        "Makes the entries of a .reg text from standard input in a hive, and saves it",
+    )
+}
+
+fn find_command<'a>(alloc: Global) -> Result<Command<'a>, AllocError>
+    ensures { IfOk result (λ command. IsCommand find_shape command) }
+{
+    let file = file_arg(alloc, true, "The hive");
+    let pattern = place_arg(
+        alloc,
+        "pattern",
+        true,
+        "PATTERN",
+        "A regular expression; (?i) before it passes over case",
+    );
+    let places = option_arg(
+        alloc,
+        "in",
+        "PLACES",
+        "Search in these, parted by commas: keys, names, data",
+    );
+    bare_command(
+        alloc,
+        "find",
+        "Tells the keys and values that a pattern matches",
+    )
+    .arg(file)?
+    .arg(pattern)?
+    .arg(places)
+}
+
+fn diff_command<'a>(alloc: Global) -> Result<Command<'a>, AllocError>
+    ensures { IfOk result (λ command. IsCommand diff_shape command) }
+{
+    let old = place_arg(alloc, "old", true, "OLD", "A hive");
+    let new = place_arg(alloc, "new", true, "NEW", "Another one");
+    bare_command(alloc, "diff", "Tells what differs between two hives")
+        .arg(old)?
+        .arg(new)
+}
+
+fn export_command<'a>(alloc: Global) -> Result<Command<'a>, AllocError>
+    ensures { IfOk result (λ command. IsCommand export_shape command) }
+{
+    let file = file_arg(alloc, true, "The hive");
+    let path = place_arg(
+        alloc,
+        "path",
+        false,
+        "PATH",
+        "The key, the root where none is given",
+    );
+    let form = required_arg(
+        alloc,
+        "as",
+        "FORM",
+        "The form of the text: reg, json or csv",
+    );
+    let utf8 = flag_arg(alloc, "utf8", "Write a .reg text in UTF-8");
+    bare_command(alloc, "export", "Writes a key with all below it as text")
+        .arg(file)?
+        .arg(path)?
+        .arg(form)?
+        .arg(utf8)
+}
+
+/// The commands that `tool` has, too.
+fn tool_commands<'a>(alloc: Global) -> Result<Command<'a>, AllocError>
+    ensures { IfOk result (λ command. IsCommand tool_shape command) }
+{
+    bare_command(alloc, "regtool", "Answers registry calls on hives")
+        .subcommand_required(true)
+        .subcommand(run_command(alloc)?)?
+        .subcommand(dump_command(alloc)?)?
+        .subcommand(check_command(alloc)?)
+}
+
+/// With those that look into a file.
+fn looking_commands<'a>(alloc: Global) -> Result<Command<'a>, AllocError>
+    ensures { IfOk result (λ command. IsCommand looking_shape command) }
+{
+    tool_commands(alloc)?
+        .subcommand(list_command(alloc)?)?
+        .subcommand(get_command(alloc)?)?
+        .subcommand(find_command(alloc)?)?
+        .subcommand(diff_command(alloc)?)?
+        .subcommand(export_command(alloc)?)
+}
+
+/// The whole command.
+pub fn whole_command<'a>(alloc: Global) -> Result<Command<'a>, AllocError>
+    ensures { IfOk result (λ command. IsCommand regtool_shape command) }
+{
+    looking_commands(alloc)?
+        .subcommand(new_command(alloc)?)?
+        .subcommand(edit_command(alloc)?)?
+        .subcommand(import_command(alloc)?)
+}

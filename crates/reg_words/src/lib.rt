@@ -1,0 +1,41 @@
+//! The command line of the tool on files.
+//!
+//! Its one contract: [`read_words`] tells of words exactly what they ask for, as `specs/CommandLines.antt` says it by `clap`'s own
+//! words, or that they ask for nothing. It stands on reg_command, whose `run` it has, and on `clap`. Its types are [`Request`] and
+//! what that holds: [`EditRequest`] with [`Begin`], [`Places`] and [`Form`].
+#![tactic(auto)]
+
+mod asked;
+mod command;
+mod places;
+mod request;
+
+ghost use Rattle.std.specs.Prelude.{◌≢◌, IfOk, IfErr};
+ghost use Rattle.clap.specs.Values.{kind_of};
+ghost use Rattle.clap.specs.declared.error.kind.ErrorKind.TheVariants.{OutOfMemory};
+ghost use Rattle.reg_command.specs.CommandLines.{texts};
+ghost use Rattle.reg_words.specs.CommandLines.{AsksNothing, IsCommandLine};
+
+use crate::asked::asked;
+use crate::command::whole_command;
+use clap::Error;
+use clap::error::ErrorKind;
+pub use request::{Begin, EditRequest, Form, Places, Request};
+use std::alloc::Global;
+
+/// Reads a command line: what it asks for, or `clap`'s error, which is want of memory or tells that the words ask for nothing.
+pub fn read_words<'a>(alloc: Global, words: &'a [String]) -> Result<Request<'a>, Error>
+    ensures asks { IfOk result (λ request. IsCommandLine (texts words.now) request) }
+    ensures refuses { IfErr result (λ error. kind_of error ≢ OutOfMemory → AsksNothing (texts words.now)) }
+{
+    let mut command = whole_command(alloc)?;
+    let matches = command.try_get_matches_from_mut(words)?;
+    match asked(alloc, &matches)? {
+        Some(request) => Ok(request),
+        // Words that `clap` takes though they ask for nothing, as those that give two moments, are told in its own manner.
+        None => Err(command.error(
+            ErrorKind::ArgumentConflict,
+            "the words ask for two moments, no file, or a form or place that there is none of",
+        )?),
+    }
+}

@@ -1,0 +1,101 @@
+//! What a command line asks for.
+
+/// The moment at which an edit begins.
+#[derive(Clone, Copy, Debug, PartialEq, Eq)]
+pub enum Begin {
+    /// That of the file's base block.
+    Kept,
+    /// That of the host's clock.
+    Now,
+    /// This one, in units of 100 ns since 1601.
+    At(u64),
+}
+
+/// Where a pattern is searched for.
+#[derive(Clone, Copy, Debug, PartialEq, Eq)]
+pub struct Places {
+    /// In the names of keys.
+    pub keys: bool,
+    /// In the names of values.
+    pub names: bool,
+    /// In the data of values.
+    pub texts: bool,
+}
+
+/// A form of text in which keys and values are written.
+#[derive(Clone, Copy, Debug, PartialEq, Eq)]
+pub enum Form {
+    /// A .reg text, in UTF-16LE or in UTF-8.
+    Reg { is_utf8: bool },
+    /// JSON: an array with an object for each key.
+    Json,
+    /// CSV: a row for each key and each value.
+    Csv,
+}
+
+/// What `edit` or `import` is asked for.
+#[derive(Clone, Copy, Debug, PartialEq, Eq)]
+pub struct EditRequest<'a> {
+    pub file: &'a str,
+    /// A file to be made, in which to save in place of that one.
+    pub output: Option<&'a str>,
+    pub begin: Begin,
+    /// Whether nothing is to be saved.
+    pub dry_run: bool,
+}
+
+/// What a command line asks for.
+#[derive(Debug, Drop)]
+pub enum Request<'a> {
+    /// The text of a file's tree.
+    Dump(&'a str),
+    /// How many keys and values each of some files has.
+    Check(Vec<&'a str>),
+    /// What is below a key of a file.
+    Listing {
+        file: &'a str,
+        /// The key's path; the empty one is the root's.
+        path: &'a str,
+        /// Whether all that is below it is listed, and not only what is right below.
+        is_whole: bool,
+    },
+    /// A value of a file.
+    Get {
+        file: &'a str,
+        /// Its key's path; the empty one is the root's.
+        path: &'a str,
+        /// Its name; the empty one is that of the default value.
+        name: &'a str,
+        /// Whether its bytes are written as they are.
+        is_raw: bool,
+    },
+    /// The keys and values of a file that a pattern matches.
+    Find {
+        file: &'a str,
+        /// A regular expression.
+        pattern: &'a str,
+        places: Places,
+    },
+    /// What differs between the trees of two files.
+    Diff {
+        old: &'a str,
+        new: &'a str,
+    },
+    /// A key of a file with all that is below it, in another form of text.
+    Export {
+        file: &'a str,
+        /// The key's path; the empty one is the root's.
+        path: &'a str,
+        form: Form,
+    },
+    /// A fresh hive in a new file.
+    New {
+        file: &'a str,
+        /// The root's name.
+        name: &'a str,
+    },
+    /// A script on the hive of a file.
+    Edit(EditRequest<'a>),
+    /// The entries of a .reg text made in the hive of a file.
+    Import(EditRequest<'a>),
+}
