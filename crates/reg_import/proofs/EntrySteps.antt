@@ -1,6 +1,8 @@
 -- One entry, applied or refused.
-use Rattle.std.proofs.Common.{◌≡◌, ◌≢◌, ℕ, Bool, true, false, not, ◌==◌, List, [], length, Option, Some, None, refl, sym, ap, ◌∙◌, subst, is_some}
+use Rattle.std.proofs.Common.{◌≡◌, ◌≢◌, ℕ, Bool, true, false, not, ◌==◌, List, [], ◌∷◌, ◌++◌, length, Option, Some, None, refl, sym, ap, ◌∙◌, subst, is_some, ◌&&◌, inl, inr, ◌⊎◌, arith}
 use Rattle.std.specs.Prelude.{Result, Ok, Err, IfErr, IsErrAnd}
+use Rattle.std.proofs.lemmas.Bool.Decides.{nat_tests}
+use Rattle.std.specs.FinMap.{get}
 use Rattle.std.specs.declared.alloc.Global.{Global}
 use Rattle.reg_names.specs.Names.{is_path, are_key_names}
 use Rattle.reg_heap.specs.Paths.{Path, Tree}
@@ -21,25 +23,35 @@ use Rattle.reg_import.specs.declared.entries.Handles.{Handles}
 use Rattle.reg_import.specs.declared.fault.ImportFault.{ImportFault}
 use Rattle.reg_import.specs.declared.fault.ImportFault.TheVariants.{Refused, Memory}
 use Rattle.reg_import.specs.Imports.{Stand, after_entry, begun}
-use Rattle.reg_import.specs.ImportStops.{IsOpenAt, IsAskedFor}
-use Rattle.reg_import.specs.Internal.Standing.{IsMade, IsFaultOf, IsRooted, IsImporting, IsStoppedAt}
+use Rattle.reg_import.specs.ImportCalls.{Accepts, Hands, calls_of_entry, is_absent}
+use Rattle.reg_import.specs.ImportStops.{IsOpenAt, IsAskedFor, IsEntryLeft, IsStoppedAt}
+use Rattle.reg_import.specs.Internal.Standing.{IsMade, IsFaultOf, IsRooted, IsImporting}
 use Rattle.reg_import.proofs.ImportSteps.{Leaves, key-made, value-set, value-gone, contents-gone, branch-gone, closed-other}
 
 -- ---- refused
 
-pub stopped : (asked : Callbacks) (moment line : ℕ) (s : Stand) (e : Entry) (v : View) (change : Change) (fault : ImportFault) → v.keys.tree ≡ s.tree →
-    IsAskedFor v s.here e change → IsFaultOf asked v moment line change fault → IsStoppedAt asked moment line s e v fault
-stopped asked moment line s e v change (Refused n status) tree asks f = (f.0, record { tree = tree; change = change; asks = asks; refused = f.1 })
-stopped asked moment line s e v change Memory tree asks f = tree
+-- by a call of which those of its entry that come before it were accepted
+pub stopped : (asked : Callbacks) (moment line : ℕ) (h : Hands) (e : Entry) (old v : View) (before : List Change) (change : Change) (fault : ImportFault) →
+    calls_of_entry h e ≡ before ++ change ∷ [] → Accepts moment old before v → v.keys.tree ≡ h.stand.tree → IsAskedFor v h.stand.here e change →
+    IsFaultOf asked v moment line change fault → IsStoppedAt asked moment line h e old v fault
+stopped asked moment line h e old v before change (Refused n status) calls led tree asks f =
+    (f.0, record { tree = tree; change = change; asks = asks; before = before; calls = calls; led = led; refused = f.1 })
+stopped asked moment line h e old v before change Memory calls led tree asks f =
+    record { tree = tree; before = before; others = change ∷ []; calls = calls; led = led }
 
 -- the same of a later hive with the same callbacks, which a refusal left as it was
-pub stopped-later : {C : Type 0} (answers : C → Answers) (a b : TheCallbacks C) (moment line : ℕ) (s : Stand) (e : Entry) (mid new : View) (change : Change)
-    (fault : ImportFault) → a ≡ b → new ≡ mid → mid.keys.tree ≡ s.tree → IsAskedFor mid s.here e change →
-    IsFaultOf (asks (answers_of answers a)) mid moment line change fault → IsStoppedAt (asks (answers_of answers b)) moment line s e new fault
-stopped-later answers a b moment line s e mid new change fault callbacks same tree asked f =
-    subst (λ (v : View). IsStoppedAt (asks (answers_of answers b)) moment line s e v fault) (sym same)
-    (subst (λ k. IsStoppedAt (asks (answers_of answers k)) moment line s e mid fault) callbacks
-    (stopped (asks (answers_of answers a)) moment line s e mid change fault tree asked f))
+pub stopped-later : {C : Type 0} (answers : C → Answers) (a b : TheCallbacks C) (moment line : ℕ) (h : Hands) (e : Entry) (old mid new : View)
+    (before : List Change) (change : Change) (fault : ImportFault) → a ≡ b → new ≡ mid → calls_of_entry h e ≡ before ++ change ∷ [] →
+    Accepts moment old before mid → mid.keys.tree ≡ h.stand.tree → IsAskedFor mid h.stand.here e change →
+    IsFaultOf (asks (answers_of answers a)) mid moment line change fault → IsStoppedAt (asks (answers_of answers b)) moment line h e old new fault
+stopped-later answers a b moment line h e old mid new before change fault callbacks same calls led tree asked f =
+    subst (λ (v : View). IsStoppedAt (asks (answers_of answers b)) moment line h e old v fault) (sym same)
+    (subst (λ k. IsStoppedAt (asks (answers_of answers k)) moment line h e old mid fault) callbacks
+    (stopped (asks (answers_of answers a)) moment line h e old mid before change fault calls led tree asked f))
+
+-- memory was refused before any call of the entry
+pub stopped-before : (moment : ℕ) (h : Hands) (e : Entry) (v : View) → v.keys.tree ≡ h.stand.tree → IsEntryLeft moment h e v v
+stopped-before moment h e v tree = record { tree = tree; before = []; others = calls_of_entry h e; calls = refl; led = refl }
 
 -- an `Err` that a `?` hands on
 pub if_err : {A E : Type 0} (P : E → Type 0) (r : Result A E) (e : E) → IsErrAnd r (λ y. y ≡ e) → P e → IfErr r P
@@ -58,11 +70,46 @@ pub value_looked_up : (tree tree' : Tree) (path path' name name' : List ℕ) (b 
 value_looked_up tree tree' path path' name name' b te pe ne good f =
     flip b (is_some (value_named name (values_at tree (folded_path path)))) (f (ap is_path pe ∙ good) ∙ rw (te, pe, ne) refl)
 
+-- a key that isn't absent is the root, or no path leads to it, or it is there
+one-fails : (empty good there : Bool) → empty ≡ false → (not empty && good && not there) ≡ false → (good ≡ false) ⊎ (there ≡ true)
+one-fails true good there e f = absurd cc
+one-fails false false there e f = inl refl
+one-fails false true true e f = inr refl
+one-fails false true false e f = absurd cc
+
+to-go : (tree : Tree) (path : List ℕ) → is_absent tree path ≡ false →
+    (path ≡ []) ⊎ (is_path path ≡ false) ⊎ (is_some (get tree (folded_path path)) ≡ true)
+to-go tree [] e = inl refl
+to-go tree (letter ∷ path) e =
+    let longer : (length (letter ∷ path) == 0) ≡ false = grind (arith, nat_tests) in
+    inr (one-fails (length (letter ∷ path) == 0) (is_path (letter ∷ path)) (is_some (get tree (folded_path (letter ∷ path)))) longer e)
+
 module _ (before : List ℕ) (handles : Handles) (old : View) (s : Stand) (i : IsImporting before handles old s) where
   -- of the value at the path as it was given
   there-here : (name : List ℕ) (b : Bool) → is_some (value_named name (values_at old.keys.tree (folded_path handles.path))) ≡ b →
       is_some (value_named name (values_at old.keys.tree s.here)) ≡ b
   there-here name b e = subst (λ (p : Path). is_some (value_named name (values_at old.keys.tree p)) ≡ b) i.here e
+
+  -- in the tree that was made so far
+  pub value-there : (name : List ℕ) (b : Bool) → is_some (value_named name (values_at old.keys.tree (folded_path handles.path))) ≡ b →
+      is_some (value_named name (values_at s.tree s.here)) ≡ b
+  value-there name b e = subst (λ (t : Tree). is_some (value_named name (values_at t s.here)) ≡ b) i.rooted.tree_is (there-here name b e)
+
+  pub key-absent : (tree : Tree) (path given : List ℕ) (b : Bool) → tree ≡ old.keys.tree → given ≡ path → b ≡ is_absent tree given → is_absent s.tree path ≡ b
+  key-absent tree path given b te pe is =
+      sym (is ∙ ap (λ (t : Tree). is_absent t given) (te ∙ i.rooted.tree_is) ∙ ap (is_absent s.tree) pe)
+
+  -- what an entry asks for by the handles that are open
+  pub asks-value : (name : List ℕ) (kind : ℕ) (bytes : List ℕ) → IsAskedFor old s.here (Value name kind bytes) (SetValue handles.key name kind bytes)
+  asks-value name kind bytes = (handles.key, i.key_open, refl)
+
+  pub asks-gone_key : (path : List ℕ) → is_absent s.tree path ≡ false → IsAskedFor old s.here (GoneKey path) (DeleteTree handles.root path)
+  asks-gone_key path there =
+      (handles.root, i.rooted.root_open, refl, to-go old.keys.tree path (ap (λ (t : Tree). is_absent t path) i.rooted.tree_is ∙ there))
+
+  pub asks-gone_value : (name : List ℕ) → is_some (value_named name (values_at old.keys.tree (folded_path handles.path))) ≡ true →
+      IsAskedFor old s.here (GoneValue name) (DeleteValue handles.key name)
+  asks-gone_value name there = (handles.key, i.key_open, refl, there-here name true there)
 
   -- ---- applied
 

@@ -1,12 +1,15 @@
 -- Imports of a tree that was worked out by hand. Expected values are those of the rules.
 use Rattle.std.proofs.Common.{◌≡◌, ℕ, List, [], ◌∷◌, refl}
-use Rattle.std.specs.Prelude.{codes}
+use Rattle.std.specs.Prelude.{codes, None}
 use Rattle.std.specs.FinMap.{from_sorted}
+use Rattle.reg_names.specs.Names.{are_key_names}
 use Rattle.reg_heap.specs.Paths.{Path, Tree, Rec, Member}
 use Rattle.reg_entry_reader.specs.declared.entry.Entry.{Entry}
 use Rattle.reg_entry_reader.specs.declared.entry.Entry.TheVariants.{Key, GoneKey, Value, GoneValue}
 use Rattle.reg_import.specs.declared.entries.TheConstants.{ALL_RIGHTS}
-use Rattle.reg_import.specs.Imports.{imported}
+use Rattle.reg_model.specs.declared.call.Change.TheVariants.{CreateKey, SetValue, DeleteTree, Close}
+use Rattle.reg_import.specs.Imports.{imported, begun}
+use Rattle.reg_import.specs.ImportCalls.{calls_of}
 use Rattle.reg_import.proofs.WrittenImports.{Keys, imported-written}
 
 -- ---- the root, `a` with a value `v`, `a\B` and `c`
@@ -109,6 +112,21 @@ made-anew = imported-written 9 keys (Key (codes "q") ∷ Value [] 3 [] ∷ GoneK
 value-behind-gone : made (Key (codes "a") ∷ GoneKey (codes "c") ∷ GoneValue (codes "v") ∷ []) ≡
     from_sorted (([], key (codes "R") 9 []) ∷ (at_a, key (codes "a") 9 []) ∷ (at_a_b, key (codes "B") 2 []) ∷ [])
 value-behind-gone = imported-written 9 keys (Key (codes "a") ∷ GoneKey (codes "c") ∷ GoneValue (codes "v") ∷ []) tt
+
+-- ---- calls: a handle has the number of the call that opens it, the root's here 5; a key's is closed before the next key is made, and the
+-- root's isn't
+
+calls-in-turn : (tree : Tree) → calls_of 9 (record { stand = begun tree; root = 5; key = 5; next = 6 })
+    (Value (codes "r") 3 [] ∷ Key (codes "a") ∷ Value (codes "w") 4 (2 ∷ []) ∷ Key (codes "c\\d") ∷ Key (codes "A") ∷ []) ≡
+    SetValue 5 (codes "r") 3 [] ∷ CreateKey 5 (codes "a") 983103 None ∷ SetValue 7 (codes "w") 4 (2 ∷ []) ∷ Close 7 ∷ CreateKey 5 (codes "c\\d") 983103 None
+    ∷ Close 10 ∷ CreateKey 5 (codes "A") 983103 None ∷ []
+calls-in-turn tree = refl
+
+-- the root goes with all that is in it, and a path that is none is asked to go and refused
+calls-to-go : (tree : Tree) → calls_of 9 (record { stand = begun tree; root = 5; key = 8; next = 9 }) (GoneKey [] ∷ GoneKey (codes "a\\\\b") ∷ []) ≡
+    DeleteTree 5 [] ∷ DeleteTree 5 (codes "a\\\\b") ∷ []
+unfolding are_key_names
+calls-to-go tree = refl
 
 -- ---- the limits of the calls: all rights are 0xF003F
 

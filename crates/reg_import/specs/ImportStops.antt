@@ -15,7 +15,8 @@ use Rattle.reg_calls.specs.Views.{View, IsApplied}
 use Rattle.reg_entry_reader.specs.declared.entry.Entry.{Entry}
 use Rattle.reg_entry_reader.specs.declared.entry.Entry.TheVariants.{Key, GoneKey, Value, GoneValue}
 use Rattle.reg_entry_reader.specs.declared.entry.Numbered.{Numbered}
-use Rattle.reg_import.specs.Imports.{Stand, begun, after_entries, entries_of}
+use Rattle.reg_import.specs.Imports.{entries_of}
+use Rattle.reg_import.specs.ImportCalls.{Accepts, Hands, calls_of_entry, calls_of, hands_behind, opened}
 use Rattle.reg_import.specs.declared.entries.TheConstants.{ALL_RIGHTS}
 use Rattle.reg_import.specs.declared.fault.ImportFault.{ImportFault}
 use Rattle.reg_import.specs.declared.fault.ImportFault.TheVariants.{Refused, Memory}
@@ -44,43 +45,47 @@ pub record IsRefused (asked : Callbacks) (v : View) (moment : ℕ) (change : Cha
   pub other : status ≢ NOT_ENOUGH_MEMORY
   pub refused : IsApplied asked v v 0 moment change (refusal status)
 
--- an entry was refused, where so much had been made: nothing of it was done
-pub record IsEntryRefused (asked : Callbacks) (v : View) (moment : ℕ) (s : Stand) (e : Entry) (status : ℕ) : Type 0 where
-  pub tree : v.keys.tree ≡ s.tree
+-- an entry was refused, where so much had been made: of its calls those before the one that was refused were accepted, and of that one
+-- nothing was done
+pub record IsEntryRefused (asked : Callbacks) (moment : ℕ) (h : Hands) (e : Entry) (status : ℕ) (old new : View) : Type 0 where
+  pub tree : new.keys.tree ≡ h.stand.tree
   pub change : Change
-  pub asks : IsAskedFor v s.here e change
-  pub refused : IsRefused asked v moment change status
+  pub asks : IsAskedFor new h.stand.here e change
+  pub before : List Change
+  pub calls : calls_of_entry h e ≡ before ++ change ∷ []
+  pub led : Accepts moment old before new
+  pub refused : IsRefused asked new moment change status
 
--- an entry among others was refused, once those before it were applied
-pub record IsRefusedAt (asked : Callbacks) (moment line status : ℕ) (s : Stand) (entries : List Numbered) (new : View) : Type 0 where
+-- an entry wasn't made for want of memory: some of its calls were accepted, and nothing was done of the others
+pub record IsEntryLeft (moment : ℕ) (h : Hands) (e : Entry) (old new : View) : Type 0 where
+  pub tree : new.keys.tree ≡ h.stand.tree
+  pub before : List Change
+  pub others : List Change
+  pub calls : calls_of_entry h e ≡ before ++ others
+  pub led : Accepts moment old before new
+
+-- an entry that wasn't made, by a fault that tells its line and the status, or that memory was refused
+abbrev pub IsStoppedAt : Callbacks → (moment line : ℕ) → Hands → Entry → (old new : View) → ImportFault → Type 0
+IsStoppedAt asked moment line h e old new (Refused n status) = (n ≡ line) × IsEntryRefused asked moment h e status old new
+IsStoppedAt asked moment line h e old new Memory = IsEntryLeft moment h e old new
+
+-- entries that are made from somewhere on stopped at one of them: the calls of those in front of it were accepted, one after another
+pub record StopsAmong (asked : Callbacks) (moment : ℕ) (fault : ImportFault) (h : Hands) (entries : List Numbered) (old new : View) : Type 0 where
   pub front : List Numbered
   pub stopped : Numbered
   pub rest : List Numbered
   pub are : entries ≡ front ++ stopped ∷ rest
-  pub line_is : stopped.line ≡ line
-  pub refused : IsEntryRefused asked new moment (after_entries moment s (entries_of front)) stopped.entry status
+  pub between : View
+  pub led : Accepts moment old (calls_of moment h (entries_of front)) between
+  pub stops : IsStoppedAt asked moment stopped.line (hands_behind moment h (entries_of front)) stopped.entry between new fault
 
--- memory was refused once those in front were applied
-pub record IsOutOfMemory (moment : ℕ) (s : Stand) (entries : List Numbered) (new : View) : Type 0 where
-  pub front : List Numbered
-  pub rest : List Numbered
-  pub are : entries ≡ front ++ rest
-  pub tree : new.keys.tree ≡ (after_entries moment s (entries_of front)).tree
+-- no handle to the root could be had, which is told as line 0, or as a want of memory: nothing was done
+abbrev pub IsNotOpened : Callbacks → ℕ → ImportFault → (old new : View) → Type 0
+IsNotOpened asked moment (Refused line status) old new = (line ≡ 0) × (new ≡ old) × IsRefused asked old moment (OpenRoot ALL_RIGHTS) status
+IsNotOpened asked moment Memory old new = new ≡ old
 
--- what a fault tells of entries that are applied from somewhere on: the first that was refused, by its line and the status, or that
--- memory was refused
-abbrev pub StopsAmong : Callbacks → ℕ → ImportFault → Stand → List Numbered → View → Type 0
-StopsAmong asked moment (Refused line status) s entries new = IsRefusedAt asked moment line status s entries new
-StopsAmong asked moment Memory s entries new = IsOutOfMemory moment s entries new
-
--- no handle to the root could be had, which is told as line 0: nothing was done
-pub record IsRootRefused (asked : Callbacks) (moment : ℕ) (fault : ImportFault) (old new : View) : Type 0 where
-  pub status : ℕ
-  pub fault_is : fault ≡ Refused 0 status
-  pub same : new ≡ old
-  pub refused : IsRefused asked old moment (OpenRoot ALL_RIGHTS) status
-
--- what a fault tells of the whole import
+-- what a fault tells of the whole import: the root wasn't opened, or it was and an entry stopped what came behind
 abbrev pub ImportStops : Callbacks → ℕ → ImportFault → View → List Numbered → View → Type 0
 ImportStops asked moment fault old entries new =
-    IsRootRefused asked moment fault old new ⊎ StopsAmong asked moment fault (begun old.keys.tree) entries new
+    IsNotOpened asked moment fault old new
+    ⊎ ((rooted : View) × Accepts moment old (OpenRoot ALL_RIGHTS ∷ []) rooted × StopsAmong asked moment fault (opened old) entries rooted new)

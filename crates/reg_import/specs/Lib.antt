@@ -1,3 +1,4 @@
 pub mod Imports
+pub mod ImportCalls
 pub mod ImportStops
 pub mod Internal

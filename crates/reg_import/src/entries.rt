@@ -3,8 +3,9 @@ ghost use Rattle.std.specs.Prelude.{◌≡◌, ℕ, List, OnOk, IfErr};
 ghost use Rattle.reg_calls.specs.HiveView.{view_of, callbacks_of, asks_of};
 ghost use Rattle.reg_entry_reader.specs.declared.entry.Entry.{Entry};
 ghost use Rattle.reg_import.specs.Imports.{Stand, after_entry, after_entries, imported, entries_of, numbers_of};
-ghost use Rattle.reg_import.specs.ImportStops.{ImportStops, StopsAmong};
-ghost use Rattle.reg_import.specs.Internal.Standing.{IsImporting, IsRooted, IsStoppedAt};
+ghost use Rattle.reg_import.specs.ImportCalls.{Accepts, leaving, import_calls};
+ghost use Rattle.reg_import.specs.ImportStops.{ImportStops, IsStoppedAt, StopsAmong};
+ghost use Rattle.reg_import.specs.Internal.Standing.{IsImporting, IsRooted, IsEntryMade, AreEntriesMade, hands_of};
 
 use crate::ImportFault;
 use crate::lookup::{lacks_key, lacks_value};
@@ -37,6 +38,8 @@ impl Handles {
         ensures callbacks { callbacks_of hive.new ≡ callbacks_of hive.old }
         ensures rooted { (before : List ℕ) → (s : Stand) → IsImporting before self.now (view_of hive.old) s →
             IsRooted before self.now.root self.now.root (view_of hive.new) s.tree }
+        ensures led { (before : List ℕ) → (s : Stand) → IsImporting before self.now (view_of hive.old) s →
+            Accepts self.now.moment (view_of hive.old) (leaving (hands_of self.now (view_of hive.old) s)) (view_of hive.new) }
     {
         if self.key != self.root {
             close(hive, self.moment, self.key);
@@ -54,8 +57,12 @@ impl Handles {
         ensures moment { self.new.moment ≡ self.old.moment }
         ensures ok { (before : List ℕ) → (s : Stand) → IsImporting before self.old (view_of hive.old) s →
             OnOk result (IsImporting before self.new (view_of hive.new) (after_entry self.old.moment s (Entry.Key path))) }
+        ensures led { (before : List ℕ) → (s : Stand) → IsImporting before self.old (view_of hive.old) s →
+            OnOk result (IsEntryMade self.old.moment (hands_of self.old (view_of hive.old) s) (Entry.Key path) (view_of hive.old) (view_of hive.new)
+            (hands_of self.new (view_of hive.new) (after_entry self.old.moment s (Entry.Key path)))) }
         ensures err { (before : List ℕ) → (s : Stand) → IsImporting before self.old (view_of hive.old) s →
-            IfErr result (λ fault. IsStoppedAt (asks_of C.answers hive.old) self.old.moment line s (Entry.Key path) (view_of hive.new) fault) }
+            IfErr result (IsStoppedAt (asks_of C.answers hive.old) self.old.moment line (hands_of self.old (view_of hive.old) s) (Entry.Key path)
+            (view_of hive.old) (view_of hive.new)) }
     {
         let copy = path.try_clone(self.alloc)?;
         self.leave(hive);
@@ -83,8 +90,12 @@ impl Handles {
         ensures callbacks { callbacks_of hive.new ≡ callbacks_of hive.old }
         ensures ok { (before : List ℕ) → (s : Stand) → IsImporting before self.now (view_of hive.old) s →
             OnOk result (IsImporting before self.now (view_of hive.new) (after_entry self.now.moment s (Entry.GoneKey path))) }
+        ensures led { (before : List ℕ) → (s : Stand) → IsImporting before self.now (view_of hive.old) s →
+            OnOk result (IsEntryMade self.now.moment (hands_of self.now (view_of hive.old) s) (Entry.GoneKey path) (view_of hive.old) (view_of hive.new)
+            (hands_of self.now (view_of hive.new) (after_entry self.now.moment s (Entry.GoneKey path)))) }
         ensures err { (before : List ℕ) → (s : Stand) → IsImporting before self.now (view_of hive.old) s →
-            IfErr result (λ fault. IsStoppedAt (asks_of C.answers hive.old) self.now.moment line s (Entry.GoneKey path) (view_of hive.new) fault) }
+            IfErr result (IsStoppedAt (asks_of C.answers hive.old) self.now.moment line (hands_of self.now (view_of hive.old) s) (Entry.GoneKey path)
+            (view_of hive.old) (view_of hive.new)) }
     {
         if lacks_key(hive.tree(), path.as_slice()) {
             return Ok(());
@@ -109,9 +120,12 @@ impl Handles {
         ensures callbacks { callbacks_of hive.new ≡ callbacks_of hive.old }
         ensures ok { (before : List ℕ) → (s : Stand) → IsImporting before self.now (view_of hive.old) s →
             OnOk result (IsImporting before self.now (view_of hive.new) (after_entry self.now.moment s (Entry.Value name kind bytes))) }
+        ensures led { (before : List ℕ) → (s : Stand) → IsImporting before self.now (view_of hive.old) s →
+            OnOk result (IsEntryMade self.now.moment (hands_of self.now (view_of hive.old) s) (Entry.Value name kind bytes) (view_of hive.old) (view_of hive.new)
+            (hands_of self.now (view_of hive.new) (after_entry self.now.moment s (Entry.Value name kind bytes)))) }
         ensures err { (before : List ℕ) → (s : Stand) → IsImporting before self.now (view_of hive.old) s →
-            IfErr result (λ fault. IsStoppedAt (asks_of C.answers hive.old) self.now.moment line s (Entry.Value name kind bytes)
-            (view_of hive.new) fault) }
+            IfErr result (IsStoppedAt (asks_of C.answers hive.old) self.now.moment line (hands_of self.now (view_of hive.old) s) (Entry.Value name kind bytes)
+            (view_of hive.old) (view_of hive.new)) }
     {
         let change = Change::SetValue {
             handle: self.key,
@@ -133,8 +147,12 @@ impl Handles {
         ensures callbacks { callbacks_of hive.new ≡ callbacks_of hive.old }
         ensures ok { (before : List ℕ) → (s : Stand) → IsImporting before self.now (view_of hive.old) s →
             OnOk result (IsImporting before self.now (view_of hive.new) (after_entry self.now.moment s (Entry.GoneValue name))) }
+        ensures led { (before : List ℕ) → (s : Stand) → IsImporting before self.now (view_of hive.old) s →
+            OnOk result (IsEntryMade self.now.moment (hands_of self.now (view_of hive.old) s) (Entry.GoneValue name) (view_of hive.old) (view_of hive.new)
+            (hands_of self.now (view_of hive.new) (after_entry self.now.moment s (Entry.GoneValue name)))) }
         ensures err { (before : List ℕ) → (s : Stand) → IsImporting before self.now (view_of hive.old) s →
-            IfErr result (λ fault. IsStoppedAt (asks_of C.answers hive.old) self.now.moment line s (Entry.GoneValue name) (view_of hive.new) fault) }
+            IfErr result (IsStoppedAt (asks_of C.answers hive.old) self.now.moment line (hands_of self.now (view_of hive.old) s) (Entry.GoneValue name)
+            (view_of hive.old) (view_of hive.new)) }
     {
         if lacks_value(hive.tree(), self.path.as_slice(), name.as_slice()) {
             return Ok(());
@@ -156,8 +174,12 @@ impl Handles {
         ensures moment { self.new.moment ≡ self.old.moment }
         ensures ok { (before : List ℕ) → (s : Stand) → IsImporting before self.old (view_of hive.old) s →
             OnOk result (IsImporting before self.new (view_of hive.new) (after_entry self.old.moment s numbered.entry)) }
+        ensures led { (before : List ℕ) → (s : Stand) → IsImporting before self.old (view_of hive.old) s →
+            OnOk result (IsEntryMade self.old.moment (hands_of self.old (view_of hive.old) s) numbered.entry (view_of hive.old) (view_of hive.new)
+            (hands_of self.new (view_of hive.new) (after_entry self.old.moment s numbered.entry))) }
         ensures err { (before : List ℕ) → (s : Stand) → IsImporting before self.old (view_of hive.old) s →
-            IfErr result (λ fault. IsStoppedAt (asks_of C.answers hive.old) self.old.moment numbered.line s numbered.entry (view_of hive.new) fault) }
+            IfErr result (IsStoppedAt (asks_of C.answers hive.old) self.old.moment numbered.line (hands_of self.old (view_of hive.old) s) numbered.entry
+            (view_of hive.old) (view_of hive.new)) }
     {
         let Numbered { line, entry } = numbered;
         match entry {
@@ -177,8 +199,12 @@ impl Handles {
         ensures moment { self.new.moment ≡ self.old.moment }
         ensures ok { (before : List ℕ) → (s : Stand) → IsImporting before self.old (view_of hive.old) s →
             OnOk result (IsImporting before self.new (view_of hive.new) (after_entries self.old.moment s (entries_of entries.items))) }
+        ensures led { (before : List ℕ) → (s : Stand) → IsImporting before self.old (view_of hive.old) s →
+            OnOk result (AreEntriesMade self.old.moment (hands_of self.old (view_of hive.old) s) (entries_of entries.items) (view_of hive.old)
+            (view_of hive.new) (hands_of self.new (view_of hive.new) (after_entries self.old.moment s (entries_of entries.items)))) }
         ensures err { (before : List ℕ) → (s : Stand) → IsImporting before self.old (view_of hive.old) s →
-            IfErr result (λ fault. StopsAmong (asks_of C.answers hive.old) self.old.moment fault s entries.items (view_of hive.new)) }
+            IfErr result (λ fault. StopsAmong (asks_of C.answers hive.old) self.old.moment fault (hands_of self.old (view_of hive.old) s) entries.items
+            (view_of hive.old) (view_of hive.new)) }
     {
         for numbered in entries {
             self.apply(hive, numbered)?;
@@ -205,6 +231,7 @@ pub fn import<C: Callback>(
 ) -> Result<(), ImportFault>
     ensures callbacks { callbacks_of hive.new ≡ callbacks_of hive.old }
     ensures ok { OnOk result ((view_of hive.new).keys.tree ≡ imported moment (view_of hive.old).keys.tree (entries_of entries.items)) }
+    ensures calls { OnOk result (Accepts moment (view_of hive.old) (import_calls moment (view_of hive.old) (entries_of entries.items)) (view_of hive.new)) }
     ensures handles { OnOk result (numbers_of (view_of hive.new).handles ≡ numbers_of (view_of hive.old).handles) }
     ensures err { IfErr result (λ fault. ImportStops (asks_of C.answers hive.old) moment fault (view_of hive.old) entries.items (view_of hive.new)) }
 {

@@ -1,8 +1,9 @@
 //! The entries of a .reg text applied to a hive.
 //!
-//! Its one contract: [`import`] leaves the tree that `specs/Imports.antt` says of the entries, or stops at the first that the hive
-//! refuses, with the number of its line and the status, and says what was made so far. It stands on reg_calls, whose calls it makes, and
-//! on reg_entry_reader, which has the entries. Its fault is [`ImportFault`].
+//! Its one contract: [`import`] leaves the tree that `specs/Imports.antt` says of the entries, by just the calls that
+//! `specs/ImportCalls.antt` lists, each accepted, or stops at the first that the hive refuses, with the number of its line and the
+//! status, and says which were accepted before it. It stands on reg_calls, whose calls it makes, and on reg_entry_reader, which has the
+//! entries. Its fault is [`ImportFault`].
 #![tactic(auto)]
 
 mod entries;

@@ -1,5 +1,5 @@
 -- Where an import stands: its handles, and the tree that was made so far.
-use Rattle.std.specs.Prelude.{◌≡◌, ◌<◌, ◌⊎◌, ℕ, true, List, [], ◌∷◌, ◌++◌, Option, None}
+use Rattle.std.specs.Prelude.{◌≡◌, ◌<◌, ◌⊎◌, ℕ, true, List, [], ◌∷◌, ◌++◌, length, Option, None}
 use Rattle.std.specs.List.{AllByRecursion}
 use Rattle.reg_names.specs.Names.{is_path}
 use Rattle.reg_heap.specs.Paths.{Tree}
@@ -14,7 +14,8 @@ use Rattle.reg_model.specs.Replies.{refusal}
 use Rattle.reg_calls.specs.Views.{View, IsHive, IsAccepted, IsApplied, state}
 use Rattle.reg_entry_reader.specs.declared.entry.Entry.{Entry}
 use Rattle.reg_import.specs.Imports.{Stand, numbers_of}
-use Rattle.reg_import.specs.ImportStops.{IsOpenAt, IsRefused, IsEntryRefused}
+use Rattle.reg_import.specs.ImportCalls.{Accepts, Hands, calls_of_entry, calls_of, hands_after, hands_behind}
+use Rattle.reg_import.specs.ImportStops.{IsOpenAt, IsRefused}
 use Rattle.reg_import.specs.declared.entries.Handles.{Handles}
 use Rattle.reg_import.specs.declared.fault.ImportFault.{ImportFault}
 use Rattle.reg_import.specs.declared.fault.ImportFault.TheVariants.{Refused, Memory}
@@ -51,7 +52,16 @@ pub record IsImporting (before : List ℕ) (handles : Handles) (v : View) (s : S
   pub path : is_path handles.path ≡ true
   pub here : folded_path handles.path ≡ s.here
 
--- an entry that wasn't applied
-abbrev pub IsStoppedAt : Callbacks → ℕ → ℕ → Stand → Entry → View → ImportFault → Type 0
-IsStoppedAt asked moment line s e new (Refused n status) = (n ≡ line) × IsEntryRefused asked new moment s e status
-IsStoppedAt asked moment line s e new Memory = new.keys.tree ≡ s.tree
+-- where an import stands, by its handles
+abbrev pub hands_of : Handles → View → Stand → Hands
+hands_of handles v s = record { stand = s; root = handles.root; key = handles.key; next = length v.journal }
+
+-- an entry was made by its calls, and left an import standing there
+pub record IsEntryMade (moment : ℕ) (h : Hands) (e : Entry) (old new : View) (last : Hands) : Type 0 where
+  pub led : Accepts moment old (calls_of_entry h e) new
+  pub last_is : last ≡ hands_after moment h e
+
+-- the same of entries, one after another
+pub record AreEntriesMade (moment : ℕ) (h : Hands) (entries : List Entry) (old new : View) (last : Hands) : Type 0 where
+  pub led : Accepts moment old (calls_of moment h entries) new
+  pub last_is : last ≡ hands_behind moment h entries
