@@ -1,5 +1,6 @@
 pub mod WordEnds
 pub mod DigitLists
+pub mod PlainBytes
 pub mod QuotedUnits
 pub mod TextLines
 pub mod CharacterUnits

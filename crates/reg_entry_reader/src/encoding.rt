@@ -6,21 +6,18 @@ ghost use Rattle.reg_entry_reader.specs.EntryWords.{behind_word};
 ghost use Rattle.reg_entry_reader.specs.FileUnits.{wide_units, narrow_units, units_of, IsUnread};
 
 use crate::fault::ReadFault;
+use byteorder::{ByteOrder, LittleEndian};
 use std::alloc::{AllocError, Global};
 
 /// Units of two bytes each, the low byte first; `None` where a last byte is alone.
 fn wide_units(alloc: Global, bytes: &[u8]) -> Result<Option<Vec<u16>>, AllocError>
     ensures { IfOk result (λ units. option_map (λ v. v.items) units ≡ wide_units bytes.now) }
 {
-    let mut units = Vec::with_capacity(alloc, bytes.len() / 2)?;
-    let mut rest = bytes;
-    while rest.len() >= 2 {
-        units.push(u16::from(rest[0]) + 256 * u16::from(rest[1]))?;
-        rest = &rest[2..];
-    }
-    if !rest.is_empty() {
+    if bytes.len() % 2 != 0 {
         return Ok(None);
     }
+    let mut units = vec![in alloc; 0; bytes.len() / 2]?;
+    LittleEndian::read_u16_into(bytes, units.as_mut_slice());
     Ok(Some(units))
 }
 
@@ -51,11 +48,25 @@ fn text_units(alloc: Global, text: &str) -> Result<Vec<u16>, AllocError>
     Ok(units)
 }
 
+/// The units of ASCII: one for each byte.
+fn ascii_units(alloc: Global, bytes: &[u8]) -> Result<Vec<u16>, AllocError>
+    ensures { IfOk result (λ units. units.items ≡ bytes.now) }
+{
+    let mut units = vec![in alloc; 0; bytes.len()]?;
+    for index in 0..bytes.len() {
+        units[index] = u16::from(bytes[index]);
+    }
+    Ok(units)
+}
+
 /// The units of the characters that bytes spell in UTF-8; `None` where they are no UTF-8.
-#[tactic(auto, using(crate::proofs::CharacterUnits::narrow_some, crate::proofs::CharacterUnits::narrow_none))]
+#[tactic(auto, using(crate::proofs::CharacterUnits::narrow_plain, crate::proofs::CharacterUnits::narrow_some, crate::proofs::CharacterUnits::narrow_none))]
 fn narrow_units(alloc: Global, bytes: &[u8]) -> Result<Option<Vec<u16>>, AllocError>
     ensures { IfOk result (λ units. option_map (λ v. v.items) units ≡ narrow_units bytes.now) }
 {
+    if bytes.is_ascii() {
+        return Ok(Some(ascii_units(alloc, bytes)?));
+    }
     match str::from_utf8(bytes) {
         Ok(text) => Ok(Some(text_units(alloc, text)?)),
         Err(_) => Ok(None),

@@ -77,7 +77,8 @@ pub fn joined<'a>(
     ensures rest { IfOk result (λ j. lines_of j.rest.now ≡ drop j.taken (lines_of behind.now)) }
     ensures within { IfOk result (λ j. j.taken + length j.rest.now ≤ length behind.now) }
 {
-    let mut units = Vec::new(alloc);
+    // Most have a few more lines, as long as the first.
+    let mut units = Vec::with_capacity(alloc, line.len().saturating_mul(4))?;
     let mut last = line;
     let mut rest = behind;
     let mut taken = 0;

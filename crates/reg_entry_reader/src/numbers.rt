@@ -1,5 +1,5 @@
 //! Numbers and bytes in hexadecimal digits.
-ghost use Rattle.std.specs.Prelude.{◌≡◌, ◌<◌, ◌≤◌, ◌^◌, length, position, IfSome, IfOk};
+ghost use Rattle.std.specs.Prelude.{◌≡◌, ◌<◌, ◌≤◌, ◌^◌, length, position, Some, IfSome, IfOk};
 ghost use Rattle.hex.specs.Hex.{hex_digit_value};
 ghost use Rattle.reg_entry_reader.specs.EntryWords.{number_of, byte_of, is_comma, list_bytes};
 ghost use Rattle.reg_entry_reader.specs.Internal.ReadSoFar.{Reads};
@@ -40,10 +40,25 @@ pub fn number(limit: usize, digits: &[u16]) -> Result<u32, LineFault>
     Ok(number)
 }
 
+/// The byte of just two digits, as most are; `None` of every other piece.
+fn plain_byte(piece: &[u16]) -> Option<u8>
+    ensures { IfSome result (λ byte. byte_of piece.now ≡ Some byte) }
+{
+    if piece.len() != 2 {
+        return None;
+    }
+    let high = digit(piece[0])?;
+    let low = digit(piece[1])?;
+    Some((high * 16 + low) as u8)
+}
+
 /// A byte: one hexadecimal digit or two, blanks around them.
 fn byte(piece: &[u16]) -> Result<u8, LineFault>
     ensures { Reads (λ n. n) (byte_of piece.now) result }
 {
+    if let Some(byte) = plain_byte(piece) {
+        return Ok(byte);
+    }
     Ok(number(2, trimmed(piece))? as u8)
 }
 

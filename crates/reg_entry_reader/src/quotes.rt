@@ -44,7 +44,7 @@ fn next_unit(text: &[u16]) -> Option<(u16, &[u16])>
 pub fn quoted(alloc: Global, text: &[u16]) -> Result<(Vec<u16>, &[u16]), LineFault>
     ensures { Reads (λ r. (r.0.items, r.1.now)) (quoted text.now) result }
 {
-    let mut units = Vec::new(alloc);
+    let mut units = Vec::with_capacity(alloc, text.len())?;
     let mut rest = text;
     while let Some((unit, others)) = next_unit(rest) {
         units.push(unit)?;

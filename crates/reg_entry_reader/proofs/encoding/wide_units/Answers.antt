@@ -1,22 +1,12 @@
-use Rattle.std.proofs.Common.{arith, refl}
-use Rattle.std.proofs.lemmas.Bool.Decides.{nat_tests}
-use Rattle.reg_entry_reader.proofs.CharacterUnits.{wide_start, wide_more, wide_none, wide_all}
+use Rattle.std.proofs.Common.{length, sym, ap, ◌∙◌}
+use Rattle.reg_entry_reader.proofs.CharacterUnits.{wide_odd, wide_read}
 use Rattle.reg_entry_reader.proofs.encoding.wide_units.Goals as goal
 
-pub loop-rest-init : goal.loop-rest-init
-loop-rest-init c = wide_start _ _ c.in_ok-units.ensures.items
-
-pub loop-rest-preserved : goal.loop-rest-preserved
-loop-rest-preserved c =
-    wide_more c.args.bytes.now c.loop-rest.units.items _ c.loop-rest.rest.now _ _ c.loop-rest.invariant c.loop-rest-test.true refl
-    (omega arith) c.in_ok-push.ensures.items
-
-pub returns-then-not-is_empty : goal.returns-then-not-is_empty
-returns-then-not-is_empty c =
-    wide_none c.args.bytes.now c.loop-rest.units.items c.loop-rest.rest.now c.loop-rest.invariant c.loop-rest-test.false
-    (grind (arith, nat_tests, c.if-not-is_empty.ensures))
+pub returns-then-bytes-ne0 : goal.returns-then-bytes-ne0
+returns-then-bytes-ne0 c = wide_odd c.args.bytes.now c.if-bytes-ne0.true
 
 pub returns : goal.returns
 returns c =
-    wide_all c.args.bytes.now c.loop-rest.units.items c.loop-rest.rest.now c.loop-rest.invariant
-    (grind (arith, nat_tests, c.if-not-is_empty.ensures))
+    wide_read c.args.bytes.now c.read_u16_into.new.dst c.in_ok-units.units.items c.in_ok-units.units.len
+    (c.read_u16_into.auto.dst ∙ ap length c.as_mut_slice.ensures.value) (sym (ap length c.as_mut_slice.ensures.value) ∙ c.as_mut_slice.ensures.len)
+    c.in_ok-units.ensures.len c.if-bytes-ne0.false c.read_u16_into.ensures
