@@ -19,10 +19,11 @@ pub branch-of_file : (is_utf8 : Bool) (tree bare : Tree) (path : Path) (moment :
     IsSome (get tree path) → CanWrite tree path → IsBare bare → folded (name_of (get bare [])) ≡ folded (name_of (get tree [])) →
     IsBranchOfFile is_utf8 tree path bare moment
 branch-of_file is_utf8 tree bare path moment i w o there can b same =
-    let r : IsReadBack (name_of (get bare [])) tree path = tree-back (name_of (get bare [])) tree path same i w o there can in
-    (imported moment bare (entries_of r.0),
-    (entries_text tree path, r.0, tree-file is_utf8 tree path i w o there can, r.1, refl),
-    subst (λ (es : List Entry). HasSameBelow (imported moment bare es) tree path) (sym r.2) (branch-again tree i w moment bare b path there))
+    let r : IsReadBack (name_of (get bare [])) tree path = tree-back (name_of (get bare [])) tree path same i w o there can in (
+      imported moment bare (entries_of r.0),
+      (entries_text tree path, r.0, tree-file is_utf8 tree path i w o there can, r.1, refl),
+      subst (λ (es : List Entry). HasSameBelow (imported moment bare es) tree path) (sym r.2) (branch-again tree i w moment bare b path there),
+    )
 
 pub made-of_file : (is_utf8 : Bool) (tree bare : Tree) (moment : ℕ) → IsTree tree → IsWithinLimits tree → IsOfBytes tree → CanWrite tree [] →
     IsBare bare → folded (name_of (get bare [])) ≡ folded (name_of (get tree [])) → IsMadeOfFile is_utf8 tree bare moment

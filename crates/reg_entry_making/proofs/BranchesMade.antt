@@ -1,5 +1,5 @@
 -- What the entries of the keys from one on make of a tree with the root alone: that key with all below it, and the keys on the way.
-use Rattle.std.proofs.Common.{◌≡◌, ℕ, suc, ◌+◌, ◌<◌, ◌||◌, ◌&&◌, Bool, true, false, cond, is_some, List, [], ◌∷◌, ◌++◌, length, map, drop, Option, Some, None}
+use Rattle.std.proofs.Common.{◌≡◌, ℕ, suc, ◌||◌, ◌&&◌, Bool, true, false, cond, is_some, List, [], ◌∷◌, ◌++◌, length, map, drop, Option, Some, None}
 use Rattle.std.proofs.Common.{IsSome, refl, sym, ap, ◌∙◌, subst, arith, append_assoc, append-nil, length-append}
 use Rattle.std.specs.Prelude.{flat_map}
 use Rattle.std.specs.List.{list_all}
@@ -10,12 +10,12 @@ use Rattle.std.proofs.lemmas.List.Folds.{list_all-append}
 use Rattle.reg_names.specs.declared.TheConstants.{PATH_LIMIT}
 use Rattle.reg_names.specs.Names.{folded, is_key_name, path_of, text_of}
 use Rattle.reg_heap.specs.Paths.{Path, Tree, Rec, Member, children_of}
-use Rattle.reg_heap.specs.Edits.{values_of, values_at, with_keys, is_within}
+use Rattle.reg_heap.specs.Edits.{values_at, with_keys, is_within}
 use Rattle.reg_heap.specs.Trees.{IsTree, IsWithinLimits}
 use Rattle.reg_heap.proofs.DeletedTrees.{within-rest, within-append, within-self}
 use Rattle.reg_model.proofs.HandleInvariant.{has-made}
 use Rattle.reg_model.proofs.TreesOfChanges.{snoc-long, snoc-same, some-of, tree-with_keys}
-use Rattle.reg_model.proofs.FewEvents.{Snoc, snoc}
+use Rattle.reg_model.proofs.FewEvents.{snoc}
 use Rattle.reg_dump.specs.DumpTexts.{Told, name_of, told_here, told_from}
 use Rattle.reg_entries.specs.Entries.{names_behind, names_to, keys_from}
 use Rattle.reg_entries.proofs.NamesOnWay.{front_there}
@@ -26,9 +26,9 @@ use Rattle.reg_entry_making.specs.MadeAgain.{IsBare, HasSameBelow}
 use Rattle.reg_entry_making.proofs.SeenKeys.{Seen, seen, shown, values_seen, values-shown, name_seen, name-shown, some-shown}
 use Rattle.reg_entry_making.proofs.SeenKeys.{same-values, same-name, same-there}
 use Rattle.reg_entry_making.proofs.JoinedNames.{names-back}
-use Rattle.reg_entry_making.proofs.MadeKeys.{made_by, tree-made, Comes}
+use Rattle.reg_entry_making.proofs.MadeKeys.{made_by, Comes}
 use Rattle.reg_entry_making.proofs.ChildPaths.{no-true}
-use Rattle.reg_entry_making.proofs.MadeTrees.{none-shown, some-either, Enough, makes-all}
+use Rattle.reg_entry_making.proofs.MadeTrees.{none-shown, Enough, makes-all}
 use Rattle.reg_entry_making.proofs.TreesMadeAgain.{bare-tree}
 use Rattle.reg_entry_making.proofs.WayKeys.{is_between, between-from, between-is, keys-again, behind-folded, behind-good, behind-last, way-seen}
 

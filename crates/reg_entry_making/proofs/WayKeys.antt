@@ -1,5 +1,5 @@
 -- The keys on the way to one, made by their names below a key that has none: without values, with the names that another tree has.
-use Rattle.std.proofs.Common.{◌≡◌, ℕ, ◌||◌, ◌&&◌, Bool, true, false, cond, is_some, List, [], ◌∷◌, ◌++◌, length, map, Option, Some, None, IsSome}
+use Rattle.std.proofs.Common.{◌≡◌, ℕ, ◌||◌, Bool, true, false, cond, is_some, List, [], ◌∷◌, ◌++◌, length, map, Option, Some, None, IsSome}
 use Rattle.std.proofs.Common.{refl, sym, ap, ◌∙◌, subst, arith, append_assoc, append-nil, length-append}
 use Rattle.std.specs.List.{list_all}
 use Rattle.std.specs.FinMap.{get}
@@ -14,8 +14,7 @@ use Rattle.reg_model.proofs.TreesOfChanges.{some-of}
 use Rattle.reg_dump.specs.DumpTexts.{name_of}
 use Rattle.reg_entries.specs.Entries.{names_behind}
 use Rattle.reg_entries.proofs.NamesOnWay.{front_there}
-use Rattle.reg_entry_making.proofs.SeenKeys.{Seen, seen, shown, is_same, some-shown, seen-made}
-use Rattle.reg_entry_making.proofs.SetValues.{at-itself}
+use Rattle.reg_entry_making.proofs.SeenKeys.{Seen, seen, shown, is_same, seen-made}
 use Rattle.reg_entry_making.proofs.ChildPaths.{no-true}
 use Rattle.reg_entry_making.proofs.MadeTrees.{none-shown}
 

@@ -1,11 +1,10 @@
 -- What is read of a heap whose cells hold bytes: pieces of bytes, and values that hold bytes.
-use Rattle.std.proofs.Common.{◌≡◌, ℕ, zero, suc, Bool, true, false, cond, Option, Some, None, List, [], ◌∷◌, ◌+◌, ◌-◌, ◌<◌, take, drop, length}
+use Rattle.std.proofs.Common.{ℕ, zero, suc, Bool, true, false, cond, Option, Some, None, List, [], ◌∷◌, ◌+◌, ◌-◌, ◌<◌, take, drop, length}
 use Rattle.std.specs.Prelude.{IfSome, nat_le, nat_lt, not, ◌&&◌, ◌==◌, ⊤, Result, Err}
 use Rattle.std.specs.Result.{result_ok}
 use Rattle.std.specs.Option.{option_map, option_and_then}
 use Rattle.std.specs.List.{AllByRecursion, concat}
 use Rattle.byteorder.specs.Endian.{little_bytes}
-use Rattle.reg_heap.specs.Paths.{Member}
 use Rattle.reg_heap.specs.Heaps.{Heap}
 use Rattle.reg_heap.specs.Kinds.{Kind, Found}
 use Rattle.reg_heap.specs.Kinds.Kind.{Value, ValueList, BigHead, BigList, Data}

@@ -1,9 +1,9 @@
 -- The tree that a heap of bytes spells is of bytes.
-use Rattle.std.proofs.Common.{◌≡◌, ℕ, zero, suc, Option, Some, None, List, [], ◌∷◌, ◌++◌, map, sym, ap, ◌∙◌, subst, length}
+use Rattle.std.proofs.Common.{ℕ, zero, suc, Option, Some, None, List, [], ◌∷◌, ◌++◌, map, sym, ◌∙◌, subst, length}
 use Rattle.std.specs.Prelude.{IfSome, ⊤}
 use Rattle.std.specs.Option.{option_map, option_and_then}
 use Rattle.std.specs.List.{AllByRecursion}
-use Rattle.std.specs.FinMap.{get, find, from_entries, get-from_entries}
+use Rattle.std.specs.FinMap.{find, from_entries, get-from_entries}
 use Rattle.std.specs.Ordering.{eq_by_cmp}
 use Rattle.reg_heap.specs.Paths.{Path, Tree, Rec, Member, path_cmp}
 use Rattle.reg_heap.specs.Heaps.{Heap}
@@ -13,7 +13,7 @@ use Rattle.reg_records.specs.BigData.{if_any}
 use Rattle.reg_records.specs.KeyNodes.{KeyRecord, key_at}
 use Rattle.reg_records.specs.KeySecurities.{KeySecurityRecord, security_at}
 use Rattle.reg_records.specs.SubkeyLists.{offsets_in}
-use Rattle.reg_shape.specs.Nodes.{Node, Index, pieces_at, members_at, index_at, node_of, node_in, entries_of, look}
+use Rattle.reg_shape.specs.Nodes.{Node, pieces_at, members_at, index_at, node_of, node_in, entries_of, look}
 use Rattle.reg_shape.specs.Walk.{gather}
 use Rattle.reg_shape.specs.Spelt.{rec_of, rec_in, behind, keys_of, keys_from, below_root, spelt}
 use Rattle.reg_shape.proofs.Refinement.SpeltTrees.{path_total}

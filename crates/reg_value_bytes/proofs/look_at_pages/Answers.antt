@@ -1,6 +1,6 @@
-use Rattle.std.proofs.Common.{List, ℕ, subst}
+use Rattle.std.proofs.Common.{subst}
 use Rattle.reg_value_bytes.specs.ValueBytes.{AreBytes}
-use Rattle.reg_value_bytes.proofs.SeenPages.{page-there, page-seen, pages-seen}
+use Rattle.reg_value_bytes.proofs.SeenPages.{page-there, page-seen}
 use Rattle.reg_value_bytes.proofs.look_at_pages.Goals as goal
 
 pub bytes-requires : goal.bytes-requires
