@@ -1,25 +1,27 @@
--- The file of a tree, read: its units, and the entries that the tree stands for.
-use Rattle.std.proofs.Common.{◌≡◌, ℕ, Bool, true, List, [], ◌∷◌, Some, refl}
+-- The file of a tree's keys from one on, read: its units, and the entries that they stand for.
+use Rattle.std.proofs.Common.{◌≡◌, ℕ, Bool, true, List, [], ◌∷◌, Some, IsSome, refl}
 use Rattle.std.specs.Prelude.{flat_map}
 use Rattle.std.specs.FinMap.{get}
 use Rattle.std.specs.List.{AllByRecursion}
 use Rattle.reg_names.specs.Names.{folded}
-use Rattle.reg_heap.specs.Paths.{Tree}
+use Rattle.reg_heap.specs.Paths.{Path, Tree}
 use Rattle.reg_heap.specs.Trees.{IsTree, IsWithinLimits}
 use Rattle.reg_dump.specs.DumpTexts.{Told, name_of}
 use Rattle.reg_entries.specs.Entries.{CanWrite, heading, key_block, keys_from, entries_text, file_bytes}
 use Rattle.reg_entries.proofs.ToldNames.{keys-ascii, text-well}
 use Rattle.reg_entry_reader.specs.FileUnits.{units_of}
-use Rattle.reg_entry_law.specs.ReadBack.{IsKept, IsOfBytes, IsReadBack}
+use Rattle.reg_value_bytes.specs.ValueBytes.{IsOfBytes}
+use Rattle.reg_entry_law.specs.ReadBack.{IsKept, IsReadBack}
 use Rattle.reg_entry_law.proofs.BlocksBack.{IsKeptBelow, blocks-back}
 use Rattle.reg_entry_law.proofs.ToldBack.{tree-kept}
 use Rattle.reg_entry_law.proofs.FileUnitsBack.{file-back}
 use Rattle.reg_entry_law.proofs.ShortTexts.{are_short, short-append, blocks-short}
 
-pub tree-back : (name : List ℕ) (tree : Tree) → folded name ≡ folded (name_of (get tree [])) → IsTree tree → IsWithinLimits tree →
-    IsOfBytes tree → CanWrite tree [] → IsReadBack name tree
+pub tree-back : (name : List ℕ) (tree : Tree) (path : Path) → folded name ≡ folded (name_of (get tree [])) → IsTree tree →
+    IsWithinLimits tree → IsOfBytes tree → IsSome (get tree path) → CanWrite tree path → IsReadBack name tree path
 unfolding entries_text
-tree-back name tree f i w o can = blocks-back name (name_of (get tree [])) (keys_from tree []) f (tree-kept tree w o i can)
+tree-back name tree path f i w o there can =
+    blocks-back name (name_of (get tree [])) (keys_from tree path) f (tree-kept tree i w o path there can)
 
 values-of : (root : List ℕ) (told : List Told) → AllByRecursion (IsKeptBelow root) told →
     AllByRecursion (λ (t : Told). AllByRecursion IsKept t.key.values) told
@@ -30,11 +32,12 @@ heading-short : are_short heading ≡ true
 unfolding heading
 heading-short = refl
 
-pub tree-file : (is_utf8 : Bool) (tree : Tree) → IsTree tree → IsWithinLimits tree → IsOfBytes tree → CanWrite tree [] →
-    units_of (file_bytes is_utf8 (entries_text tree [])) ≡ Some (entries_text tree [])
+pub tree-file : (is_utf8 : Bool) (tree : Tree) (path : Path) → IsTree tree → IsWithinLimits tree → IsOfBytes tree →
+    IsSome (get tree path) → CanWrite tree path →
+    units_of (file_bytes is_utf8 (entries_text tree path)) ≡ Some (entries_text tree path)
 unfolding entries_text
-tree-file is_utf8 tree i w o can =
-    let all = keys_from tree [] in
-    let values = values-of (name_of (get tree [])) all (tree-kept tree w o i can) in
-    file-back is_utf8 (flat_map key_block all) (text-well tree w [])
-    (short-append heading (flat_map key_block all) heading-short (blocks-short all (keys-ascii tree w []) values))
+tree-file is_utf8 tree path i w o there can =
+    let all = keys_from tree path in
+    let values = values-of (name_of (get tree [])) all (tree-kept tree i w o path there can) in
+    file-back is_utf8 (flat_map key_block all) (text-well tree w path)
+    (short-append heading (flat_map key_block all) heading-short (blocks-short all (keys-ascii tree w path) values))

@@ -1,16 +1,15 @@
 -- What is written of a tree, read: the same units, and the same keys and values (this project's own).
-use Rattle.std.specs.Prelude.{◌≡◌, ℕ, ◌<◌, List, [], ◌++◌, Bool, true, Some, Ok}
-use Rattle.std.specs.FinMap.{get}
+use Rattle.std.specs.Prelude.{◌≡◌, ℕ, ◌<◌, List, ◌++◌, Bool, true, Ok}
 use Rattle.std.specs.List.{AllByRecursion}
 use Rattle.reg_names.specs.Names.{is_value_name}
-use Rattle.reg_heap.specs.Paths.{Path, Tree, Rec, Member}
+use Rattle.reg_heap.specs.Paths.{Path, Tree, Member}
 use Rattle.reg_entries.specs.Entries.{is_line_name, entries_text}
 use Rattle.reg_entry_reader.specs.declared.entry.Entry.{Entry}
 use Rattle.reg_entry_reader.specs.declared.entry.Numbered.{Numbered}
 use Rattle.reg_entry_reader.specs.EntryLines.{lines_of, whole_lines}
 use Rattle.reg_entry_reader.specs.EntryMeanings.{Reading, with_entries, entries_from, entries_in}
 use Rattle.reg_import.specs.Imports.{entries_of}
-use Rattle.reg_entry_making.specs.EntriesDue.{entries_due}
+use Rattle.reg_entry_making.specs.EntriesDue.{entries_below}
 
 -- ---- pieces of a text
 
@@ -38,13 +37,9 @@ pub record IsKept (value : Member) : Type 0 where
   pub kind : value.kind < 4294967296
   pub bytes : AllByRecursion (λ (b : ℕ). b < 256) value.bytes
 
--- a tree whose values have types of 32 bits, and data of bytes
-pub record IsOfBytes (tree : Tree) : Type 0 where
-  pub values : (path : Path) (key : Rec) → get tree path ≡ Some key →
-      AllByRecursion (λ (value : Member). (value.kind < 4294967296) × AllByRecursion (λ (b : ℕ). b < 256) value.bytes) key.values
-
 -- ---- texts
 
--- the text of a tree is read, of keys below a root of that name, as the entries that the tree stands for
-abbrev pub IsReadBack : (name : List ℕ) → Tree → Type 0
-IsReadBack name tree = (entries : List Numbered) × (entries_in name (entries_text tree []) ≡ Ok entries) × (entries_of entries ≡ entries_due tree)
+-- the text of a tree's keys from the one at a path on is read, of keys below a root of that name, as the entries that they stand for
+abbrev pub IsReadBack : (name : List ℕ) → Tree → Path → Type 0
+IsReadBack name tree path =
+    (entries : List Numbered) × (entries_in name (entries_text tree path) ≡ Ok entries) × (entries_of entries ≡ entries_below tree path)

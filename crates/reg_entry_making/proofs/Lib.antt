@@ -5,4 +5,7 @@ pub mod MadeKeys
 pub mod ChildPaths
 pub mod MadeTrees
 pub mod TreesMadeAgain
+pub mod WayKeys
+pub mod BranchesMade
+pub mod AnyBranch
 mod RowsOfEntriesDue

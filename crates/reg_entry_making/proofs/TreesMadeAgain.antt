@@ -25,7 +25,7 @@ use Rattle.reg_entry_making.proofs.ChildPaths.{is_within_any, outside}
 use Rattle.reg_entry_making.proofs.MadeTrees.{none-shown, AreMissing, Enough, told_child, makes-all, below-made}
 
 -- the root alone is a tree
-bare-tree : (t : Tree) → IsBare t → IsTree t
+pub bare-tree : (t : Tree) → IsBare t → IsTree t
 bare-tree t b = record { root = b.root; parents = parents; names = names; apart = apart }
   where
     gone : (n : List ℕ) (rest : Path) (r : Rec) → get t (n ∷ rest) ≡ Some r → ⊥

@@ -1,7 +1,7 @@
 -- The entries that the keys of a tree stand for (this project's own).
 use Rattle.std.specs.Prelude.{List, [], ◌∷◌, map, drop, flat_map}
 use Rattle.reg_names.specs.Names.{text_of}
-use Rattle.reg_heap.specs.Paths.{Tree, Member}
+use Rattle.reg_heap.specs.Paths.{Path, Tree, Member}
 use Rattle.reg_dump.specs.DumpTexts.{Told}
 use Rattle.reg_entries.specs.Entries.{keys_from}
 use Rattle.reg_entry_reader.specs.declared.entry.Entry.{Entry}
@@ -15,6 +15,10 @@ entry_of_value value = Value value.name value.kind value.bytes
 abbrev pub entries_of_key : Told → List Entry
 entries_of_key told = Key (text_of (drop 1 told.names)) ∷ map entry_of_value told.key.values
 
--- those of a tree's keys in the order of a dump
+-- those of a tree's keys from the one at a path on, in the order of a dump
+abbrev pub entries_below : Tree → Path → List Entry
+entries_below tree path = flat_map entries_of_key (keys_from tree path)
+
+-- those of all its keys
 abbrev pub entries_due : Tree → List Entry
-entries_due tree = flat_map entries_of_key (keys_from tree [])
+entries_due tree = entries_below tree []

@@ -6,6 +6,7 @@ ghost use Rattle.reg_lookups.specs.ImageExports.{Exports, ExportEnds};
 use crate::ExportEnd;
 use reg_callbacks::NoCallback;
 use reg_image::load;
+use reg_value_bytes::hold_bytes;
 use std::alloc::Global;
 use std::io::Write;
 
@@ -25,7 +26,10 @@ pub fn export<W: Write>(
         Ok(hive) => hive,
         Err(fault) => return Err(ExportEnd::Load(fault)),
     };
-    match reg_entries::export(alloc, hive.tree(), path, is_utf8, output) {
+    let tree = hive.tree();
+    // Only for its clause: what is written of such a tree can be read back.
+    hold_bytes(tree);
+    match reg_entries::export(alloc, tree, path, is_utf8, output) {
         Ok(()) => Ok(()),
         Err(fault) => Err(ExportEnd::Export(fault)),
     }

@@ -7,10 +7,10 @@ returns-in-Err-clause-err g c = no_hive c.in-Err.fault _ _ _ c.in-Err.ensures.er
 
 pub returns-in-Ok-export-clause-ok : goal.returns-in-Ok-export-clause-ok
 returns-in-Ok-export-clause-ok g c =
-    exports c.args.image.now _ c.tree.result.now c.tree.ensures.keys (opens _ _ _ c.in-Ok.ensures.ok) c.args.path.now c.args.is_utf8 _ _
-    c.in-Ok-export.ensures.ok
+    exports c.args.image.now _ c.tree-tree.result.now c.tree-tree.ensures.keys (opens _ _ _ c.in-Ok.ensures.ok) c.args.path.now c.args.is_utf8 _ _
+    c.hold_bytes.ensures c.in-Ok-export.ensures.ok
 
 pub returns-clause-err : goal.returns-clause-err
 returns-clause-err g c =
-    export_ends c.args.image.now _ c.tree.result.now c.tree.ensures.keys (opens _ _ _ c.in-Ok.ensures.ok) c.args.path.now c.args.is_utf8 _ _ _
+    export_ends c.args.image.now _ c.tree-tree.result.now c.tree-tree.ensures.keys (opens _ _ _ c.in-Ok.ensures.ok) c.args.path.now c.args.is_utf8 _ _ _
     c.in-Err-export.ensures.err

@@ -1,0 +1,4 @@
+mod BytePieces
+mod ReadBytes
+mod SpeltBytes
+mod SeenPages
