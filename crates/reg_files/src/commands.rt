@@ -10,10 +10,10 @@ use crate::fault::{DiffEnd, Fault, Step, taken};
 use crate::locks::{Lockable, open_locked, read_image, real_path};
 use crate::moments::moment_at;
 use crate::saving::{create, replace};
+use crate::streams::write_text;
 use reg_edits::{PutBack, edit, fresh_image, import};
 use reg_find::Scope;
 use reg_lookups::{diff, export, export_csv, export_json, find, get, list};
-use reg_text::write_counted;
 use reg_words::{Begin, EditRequest, Form, Places};
 use std::alloc::Global;
 use std::fs;
@@ -130,17 +130,6 @@ pub fn export_key<H: Files, W: Write>(
     export_as(alloc, image.as_slice(), path.as_bytes(), form, output)
 }
 
-/// Tells that two hives are the same.
-fn tell_same<W: Write>(output: &mut W) -> Result<(), Fault>
-    ensures { OnOk result (Appends (W.contents output.old) (W.contents output.new) (codes "same\n")) }
-{
-    let written = write_counted(output, SAME);
-    if written < SAME.len() {
-        return Err(Fault::Cut(written as u64));
-    }
-    Ok(())
-}
-
 /// Tells how the hives in two images differ, or that they are the same, and answers which: 0 where they are, else 1.
 fn compare<W: Write>(alloc: Global, old: &[u8], new: &[u8], output: &mut W) -> Result<u8, DiffEnd>
     ensures status { IfOk result (λ status. status ≤ 1) }
@@ -148,7 +137,7 @@ fn compare<W: Write>(alloc: Global, old: &[u8], new: &[u8], output: &mut W) -> R
     ensures other { IfOk result (λ status. status ≡ 1 → AreOther (W.contents output.old) (W.contents output.new)) }
 {
     match diff(alloc, old, new, output) {
-        Ok(true) => match tell_same(output) {
+        Ok(true) => match write_text(SAME, output) {
             Ok(()) => Ok(0),
             Err(fault) => Err(DiffEnd::Old(fault)),
         },

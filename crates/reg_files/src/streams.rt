@@ -85,7 +85,7 @@ pub fn dump_file<H: Files, W: Write, E: Sink>(
 }
 
 /// Writes a text; `Cut` after a front of it.
-fn write_text<W: Write>(text: &[u8], output: &mut W) -> Result<(), Fault>
+pub fn write_text<W: Write>(text: &[u8], output: &mut W) -> Result<(), Fault>
     ensures { MatchResult result (λ _. Appends (W.contents output.old) (W.contents output.new) text.now)
         (λ _. IsFront text.now (W.contents output.old) (W.contents output.new)) }
 {
