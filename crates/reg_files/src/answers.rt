@@ -74,7 +74,8 @@ fn get_asked<H: Files, W: Write, E: Sink>(
     output: &mut W,
     errors: &mut E,
 ) -> u8
-    ensures { (unread : Option (List ℕ)) → Outcome (Request.Get file.entry path.entry name.entry is_raw) result unread unread (W.contents output.old) (W.contents output.new) (E.contents errors.old)
+    ensures { (unread : Option (List ℕ)) → Outcome (Request.Get file.entry path.entry name.entry is_raw) result unread unread
+        (W.contents output.old) (W.contents output.new) (E.contents errors.old)
         (E.contents errors.new) (E.failures errors.old) (E.failures errors.new) }
 {
     let done = get_value(alloc, host, file, path, name, is_raw, output);

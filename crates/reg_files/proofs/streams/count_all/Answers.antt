@@ -10,7 +10,8 @@ loop-file-preserved g c =
     record {
       status = omega (arith, larger, one, others);
       silent = λ e. is_quiet _ _ _ c.loop-file.status c.check_file.result c.max-status.result c.check_file.ensures.silent c.loop-file.invariant.silent larger e;
-      goes = goes_on _ _ _ _ _ _ _ _ c.loop-file.status c.check_file.result c.max-status.result _ _ _ _ _ _ (file_at (λ file. file.now) c.args.files.now c.loop-file.file-index _ c.loop-file-test.true) larger
+      goes = goes_on _ _ _ _ _ _ _ _ c.loop-file.status c.check_file.result c.max-status.result _ _ _ _ _ _
+          (file_at (λ file. file.now) c.args.files.now c.loop-file.file-index _ c.loop-file-test.true) larger
           c.loop-file.invariant.goes c.check_file.ensures.checks;
     }
 
