@@ -1,3 +1,6 @@
+pub mod CheckedFiles
+pub mod Outcomes
+pub mod Statuses
 pub mod ToolLines
 pub mod UnderstoodWords
 pub mod WrittenForms

@@ -5,10 +5,10 @@ use Rattle.reg_command.specs.CommandLines.{regtool, faults_in, found_in, IsComma
 use Rattle.reg_command.specs.declared.words.Request.{Request}
 use Rattle.reg_command.specs.declared.words.Request.TheVariants as tool
 use Rattle.reg_command.proofs.CommandLineLemmas.{named}
-use Rattle.reg_command.specs.Failures.{IsDone}
-use Rattle.reg_files.specs.Internal.Tellings.{telling_words, Done}
-use Rattle.reg_files.specs.declared.commands.Telling.{Telling}
-use Rattle.reg_files.specs.declared.commands.Telling.TheVariants.{Dump, Check}
+use Rattle.reg_command.specs.Failures.{IsDone, IsStopped}
+use Rattle.reg_files.specs.Internal.Tellings.{telling_words, Streams}
+use Rattle.reg_files.specs.declared.streams.Telling.{Telling}
+use Rattle.reg_files.specs.declared.streams.Telling.TheVariants.{Dump, Check}
 
 dump_asks : IsCommandLine (codes "regtool" ∷ codes "dump" ∷ []) tool.Dump
 unfolding faults_in found_in regtool clap_on_literals
@@ -30,8 +30,14 @@ told X telling words (suc zero) e l h = omega arith
 told X telling words (suc (suc zero)) e l h = absurd (not_nothing telling (subst AsksNothing e (h refl).0))
 told X telling words (suc (suc (suc n))) e l h = absurd (omega (arith, l))
 
--- where it answers 0 they were done
-pub done_by : (telling : Telling) (words : List (List ℕ)) (given left before after beside beside_after : Option (List ℕ)) → words ≡ telling_words telling →
-    IsDone words given left before after beside beside_after → Done telling before after
-done_by telling words given left before after beside beside_after e done =
-    (given, left, beside, beside_after, subst (λ (w : List (List ℕ)). IsDone w given left before after beside beside_after) e done)
+-- what its status says of them
+pub streams : (telling : Telling) (words : List (List ℕ)) (status : ℕ) (given left before after told told_after : Option (List ℕ))
+    (failed now_failed : Option ℕ) → words ≡ telling_words telling → status ≤ 1 →
+    (status ≡ 0 → IsDone words given left before after told told_after)
+    → (status ≡ 1 → IsStopped words given left before after told told_after failed now_failed)
+    → Streams telling status before after told told_after failed now_failed
+streams telling words zero given left before after told told_after failed now_failed e l done stopped =
+    (given, left, subst (λ (w : List (List ℕ)). IsDone w given left before after told told_after) e (done refl))
+streams telling words (suc zero) given left before after told told_after failed now_failed e l done stopped =
+    (given, left, subst (λ (w : List (List ℕ)). IsStopped w given left before after told told_after failed now_failed) e (stopped refl))
+streams telling words (suc (suc n)) given left before after told told_after failed now_failed e l done stopped = absurd (omega (arith, l))

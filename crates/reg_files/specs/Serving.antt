@@ -1,8 +1,9 @@
 -- What the tool on files did (this project's own).
-use Rattle.std.specs.Prelude.{◌≡◌, ℕ, List, [], ◌∷◌, codes, true, false, Option, Some, None}
+use Rattle.std.specs.Prelude.{◌≡◌, ◌⊎◌, ℕ, zero, suc, max, nat_lt, List, [], ◌∷◌, ◌++◌, length, map, codes, Bool, true, false, Option, Some, None}
 use Rattle.std.specs.Io.KnownBytes.{Appends, Consumes, IsAtEnd}
 use Rattle.reg_command.specs.CommandLines.{AsksNothing as AsksNothingOfTool}
-use Rattle.reg_command.specs.Failures.{IsDone, IsStopped, IsRefused as IsRefusedByTool}
+use Rattle.reg_command.specs.Failures.{IsDone, IsFront, IsSaid, IsStopped, IsRefused as IsRefusedByTool}
+use Rattle.reg_text.specs.Texts.{line_feed}
 use Rattle.reg_words.specs.CommandLines.{AsksNothing, IsCommandLine}
 use Rattle.reg_edits.specs.Edits.{Edits, IsUntouched}
 use Rattle.reg_find.specs.declared.scope.Scope.{Scope}
@@ -27,11 +28,60 @@ IsGiven Kept given = given ≡ None
 IsGiven Now given = (moment : ℕ) × (given ≡ Some moment)
 IsGiven (At moment) given = given ≡ Some moment
 
--- `tool`'s `dump` was done with some input: the text of the tree that it loads as was written, and nothing was told beside it
-abbrev pub Dumps : (before after : Option (List ℕ)) → Type 0
-Dumps before after =
-    (given : Option (List ℕ)) × (left : Option (List ℕ)) × (told : Option (List ℕ)) × (told_after : Option (List ℕ))
-    × IsDone (codes "regtool" ∷ codes "dump" ∷ []) given left before after told told_after
+-- `tool`'s command of that name was done with some input, and nothing was told beside it
+abbrev pub Tells : (word : List ℕ) → (before after told told_after : Option (List ℕ)) → Type 0
+Tells word before after told told_after =
+    (given : Option (List ℕ)) × (left : Option (List ℕ)) × IsDone (codes "regtool" ∷ word ∷ []) given left before after told told_after
+
+-- something ended it, as `tool` says
+abbrev pub StopsTelling : (word : List ℕ) → (before after told told_after : Option (List ℕ)) → (failed now_failed : Option ℕ) → Type 0
+StopsTelling word before after told told_after failed now_failed =
+    (given : Option (List ℕ)) × (left : Option (List ℕ))
+    × IsStopped (codes "regtool" ∷ word ∷ []) given left before after told told_after failed now_failed
+
+-- a line was told that says what was refused or faulty, or a front of it, where the writer failed
+abbrev pub TellsFault : (told told_after : Option (List ℕ)) → (failed now_failed : Option ℕ) → Type 0
+TellsFault told told_after failed now_failed =
+    (what : List ℕ) × IsSaid (codes "error " ++ (what ++ line_feed)) told told_after failed now_failed
+
+-- what is written before what is told of a file: its name, where there are several
+abbrev pub name_before : (is_named : Bool) → (file : List ℕ) → List ℕ
+name_before true file = file ++ codes ": "
+name_before false file = []
+
+-- a file was counted: `tool`'s line stands behind its name
+abbrev pub Counts : (is_named : Bool) → (file : List ℕ) → (before after told told_after : Option (List ℕ)) → Type 0
+Counts is_named file before after told told_after =
+    (named : Option (List ℕ)) × Appends before named (name_before is_named file) × Tells (codes "check") named after told told_after
+
+-- a file wasn't: its name was written at most, and a line told; or `tool` was stopped, behind its name
+abbrev pub Misses : (is_named : Bool) → (file : List ℕ) → (before after told told_after : Option (List ℕ)) → (failed now_failed : Option ℕ) → Type 0
+Misses is_named file before after told told_after failed now_failed =
+    (IsFront (name_before is_named file) before after × TellsFault told told_after failed now_failed)
+    ⊎ ((named : Option (List ℕ)) × Appends before named (name_before is_named file)
+    × StopsTelling (codes "check") named after told told_after failed now_failed)
+
+-- what a status says of a file
+abbrev pub Checks : (is_named : Bool) → (file : List ℕ) → (status : ℕ) → (before after told told_after : Option (List ℕ)) → (failed now_failed : Option ℕ) →
+    Type 0
+Checks is_named file zero before after told told_after failed now_failed = Counts is_named file before after told told_after
+Checks is_named file (suc n) before after told told_after failed now_failed = Misses is_named file before after told told_after failed now_failed
+
+-- and of some files, one after another: 0 says that each was counted, and nothing told beside that, else one wasn't
+abbrev pub ChecksEach : (is_named : Bool) → (files : List (List ℕ)) → (status : ℕ) → (before after told told_after : Option (List ℕ)) →
+    (failed now_failed : Option ℕ) → Type 0
+ChecksEach is_named [] status before after told told_after failed now_failed =
+    (status ≡ 0) × (after ≡ before) × (told_after ≡ told) × (now_failed ≡ failed)
+ChecksEach is_named (file ∷ files) status before after told told_after failed now_failed =
+    (first : ℕ) × (others : ℕ) × (status ≡ max first others)
+    × (between : Option (List ℕ)) × (told_between : Option (List ℕ)) × (failed_between : Option ℕ)
+    × Checks is_named file first before between told told_between failed failed_between
+    × ChecksEach is_named files others between after told_between told_after failed_between now_failed
+
+-- the same of the files of a request: each line stands behind its file's name, where there are several
+abbrev pub ChecksFiles : (files : List (List ℕ)) → (status : ℕ) → (before after told told_after : Option (List ℕ)) → (failed now_failed : Option ℕ) → Type 0
+ChecksFiles files status before after told told_after failed now_failed =
+    ChecksEach (nat_lt 1 (length files)) files status before after told told_after failed now_failed
 
 -- where a pattern is searched for in the places that are asked for
 abbrev pub scope_of : Places → Scope
@@ -52,6 +102,11 @@ WritesAs (Reg is_utf8) bytes path before after = Exports bytes path is_utf8 befo
 WritesAs Json bytes path before after = Tabulates bytes path json_text before after
 WritesAs Csv bytes path before after = Tabulates bytes path csv_text before after
 
+-- the script on the input was run on the hive in some bytes
+abbrev pub EditsFile : EditRequest → (unread left before after : Option (List ℕ)) → Type 0
+EditsFile edit unread left before after =
+    (bytes : List ℕ) × (given : Option ℕ) × (saved : Option (List ℕ)) × IsGiven edit.begin given × Edits bytes given saved unread left before after
+
 -- the input was read to its end, and the entries of the text that it had were made in the hive in some bytes
 abbrev pub Enters : EditRequest → (unread left : Option (List ℕ)) → Type 0
 Enters edit unread left =
@@ -59,27 +114,58 @@ Enters edit unread left =
     × IsAtEnd left × Consumes unread left text × IsGiven edit.begin given × Imports bytes given text saved
 
 -- what a request did with the input and the output, where the status is 0: an edit ran the script on the hive in some bytes, those of the
--- file; a key or a value of the hive in some bytes was told; and the others, too, read nothing
-abbrev pub Serves : Request → (unread left before after : Option (List ℕ)) → Type 0
-Serves (Dump file) unread left before after = (left ≡ unread) × Dumps before after
-Serves (Check files) unread left before after = left ≡ unread
-Serves (Listing file path is_whole) unread left before after = (left ≡ unread) × ((bytes : List ℕ) × Lists bytes path.now is_whole before after)
-Serves (Get file path name is_raw) unread left before after =
+-- file; a key or a value of the hive in some bytes was told, or each of some files counted; and the others, too, read nothing
+abbrev pub Serves : Request → (unread left before after told told_after : Option (List ℕ)) → Type 0
+Serves (Dump file) unread left before after told told_after = (left ≡ unread) × Tells (codes "dump") before after told told_after
+Serves (Check files) unread left before after told told_after =
+    (left ≡ unread) × ((failed : Option ℕ) × (now_failed : Option ℕ)
+    × ChecksFiles (map (λ file. file.now) files.items) 0 before after told told_after failed now_failed)
+Serves (Listing file path is_whole) unread left before after told told_after =
+    (left ≡ unread) × ((bytes : List ℕ) × Lists bytes path.now is_whole before after)
+Serves (Get file path name is_raw) unread left before after told told_after =
     (left ≡ unread) × ((bytes : List ℕ) × Gets bytes path.now name.now is_raw before after)
-Serves (Find file pattern places) unread left before after =
+Serves (Find file pattern places) unread left before after told told_after =
     (left ≡ unread) × ((bytes : List ℕ) × Finds bytes pattern.now (scope_of places) before after)
-Serves (Diff old new) unread left before after = (left ≡ unread) × AreSame before after
-Serves (Export file path form) unread left before after = (left ≡ unread) × ((bytes : List ℕ) × WritesAs form bytes path.now before after)
-Serves (New file name) unread left before after = IsUntouched unread left before after
-Serves (Edit edit) unread left before after =
-    (bytes : List ℕ) × (given : Option ℕ) × (saved : Option (List ℕ)) × IsGiven edit.begin given × Edits bytes given saved unread left before after
-Serves (Import edit) unread left before after = Enters edit unread left × (after ≡ before)
+Serves (Diff old new) unread left before after told told_after = (left ≡ unread) × AreSame before after
+Serves (Export file path form) unread left before after told told_after =
+    (left ≡ unread) × ((bytes : List ℕ) × WritesAs form bytes path.now before after)
+Serves (New file name) unread left before after told told_after = IsUntouched unread left before after
+Serves (Edit edit) unread left before after told told_after = EditsFile edit unread left before after
+Serves (Import edit) unread left before after told told_after = Enters edit unread left × (after ≡ before)
 
--- what the words ask for of files was done
-pub record IsServed (words : List (List ℕ)) (unread left before after : Option (List ℕ)) : Type 0 where
+-- what it did where the status is 1, so that something was told: `diff` that the hives in some bytes differ, `tool` what stopped it, or a
+-- line what was refused or faulty. Edits and imports may have read, and but for `new` and imports all may have written
+abbrev pub Fails : Request → (unread left before after told told_after : Option (List ℕ)) → (failed now_failed : Option ℕ) → Type 0
+Fails (Dump file) unread left before after told told_after failed now_failed =
+    (left ≡ unread) × (((after ≡ before) × TellsFault told told_after failed now_failed)
+    ⊎ StopsTelling (codes "dump") before after told told_after failed now_failed)
+Fails (Check files) unread left before after told told_after failed now_failed =
+    (left ≡ unread) × ChecksFiles (map (λ file. file.now) files.items) 1 before after told told_after failed now_failed
+Fails (Diff old new) unread left before after told told_after failed now_failed =
+    (left ≡ unread) × ((AreOther before after × (told_after ≡ told)) ⊎ TellsFault told told_after failed now_failed)
+Fails (New file name) unread left before after told told_after failed now_failed =
+    IsUntouched unread left before after × TellsFault told told_after failed now_failed
+Fails (Edit edit) unread left before after told told_after failed now_failed = TellsFault told told_after failed now_failed
+Fails (Import edit) unread left before after told told_after failed now_failed = (after ≡ before) × TellsFault told told_after failed now_failed
+Fails request unread left before after told told_after failed now_failed = (left ≡ unread) × TellsFault told told_after failed now_failed
+
+-- what the words ask for of files was done, and nothing was told on the side
+pub record IsServed (words : List (List ℕ)) (unread left before after told told_after : Option (List ℕ)) : Type 0 where
   pub request : Request
   pub command : IsCommandLine words request
-  pub serves : Serves request unread left before after
+  pub serves : Serves request unread left before after told told_after
+  pub silent : told_after ≡ told
+
+-- what they ask for wasn't done, or `diff` told a difference
+pub record IsFailed (words : List (List ℕ)) (unread left before after told told_after : Option (List ℕ)) (failed now_failed : Option ℕ) : Type 0 where
+  pub request : Request
+  pub command : IsCommandLine words request
+  pub fails : Fails request unread left before after told told_after failed now_failed
+
+-- memory was wanting before anything was read, and that was told
+abbrev pub WantsMemory : (unread left before after told told_after : Option (List ℕ)) → (failed now_failed : Option ℕ) → Type 0
+WantsMemory unread left before after told told_after failed now_failed =
+    IsUntouched unread left before after × IsSaid (codes "error 8\n") told told_after failed now_failed
 
 -- these words ask for nothing, and nothing was touched
 pub record IsRefused (words : List (List ℕ)) (unread left before after : Option (List ℕ)) : Type 0 where

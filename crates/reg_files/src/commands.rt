@@ -2,24 +2,20 @@
 
 ghost use Rattle.std.specs.Prelude.{◌≡◌, ◌≤◌, ℕ, List, IfOk, OnOk, codes};
 ghost use Rattle.std.specs.Io.KnownBytes.{Appends, Consumes, IsAtEnd};
-ghost use Rattle.reg_command.specs.CommandLines.{texts};
 ghost use Rattle.reg_lookups.specs.Lookups.{Lists, Gets};
 ghost use Rattle.reg_lookups.specs.Finds.{Finds};
-ghost use Rattle.reg_files.specs.Serving.{IsGiven, Dumps, scope_of, AreSame, AreOther, WritesAs, Enters, Serves};
-ghost use Rattle.reg_files.specs.Internal.Tellings.{word_of, telling_words, Done};
-ghost use Rattle.reg_words.specs.declared.request.Request.{Request};
+ghost use Rattle.reg_files.specs.Serving.{IsGiven, scope_of, AreSame, AreOther, WritesAs, Enters, EditsFile};
 
 use crate::fault::{DiffEnd, Fault, Step, taken};
 use crate::locks::{Lockable, open_locked, read_image, real_path};
 use crate::moments::moment_at;
 use crate::saving::{create, replace};
-use reg_command::tool;
+use crate::streams::write_text;
 use reg_edits::{PutBack, edit, fresh_image, import};
 use reg_find::Scope;
 use reg_lookups::{diff, export, export_csv, export_json, find, get, list};
-use reg_text::{Sink, write_counted};
 use reg_words::{Begin, EditRequest, Form, Places};
-use std::alloc::{AllocError, Global};
+use std::alloc::Global;
 use std::fs;
 use std::fs::File;
 use std::io::{ErrorKind, Read, Write};
@@ -27,92 +23,6 @@ use std::rt::{Clock, Files};
 
 /// What `diff` writes where two hives are the same.
 const SAME: &[u8] = b"same\n";
-
-/// What of `tool`'s commands is done with a file.
-#[derive(Clone, Copy, Debug, PartialEq, Eq)]
-pub enum Telling {
-    Dump,
-    Check,
-}
-
-impl Telling {
-    fn word(self) -> &'static str
-        ensures { result.now ≡ word_of self }
-    {
-        match self {
-            Telling::Dump => "dump",
-            Telling::Check => "check",
-        }
-    }
-}
-
-/// The words of one of `tool`'s commands.
-fn tool_words(alloc: Global, telling: Telling) -> Result<Vec<String>, AllocError>
-    ensures { IfOk result (λ words. texts words.items ≡ telling_words telling) }
-{
-    let mut words = Vec::with_capacity(alloc, 2)?;
-    words.push("regtool".to_string(alloc)?)?;
-    words.push(telling.word().to_string(alloc)?)?;
-    Ok(words)
-}
-
-/// Does with an open file what one of `tool`'s commands does with its input, and answers its status.
-fn stream<F: Read, W: Write, E: Sink>(
-    alloc: Global,
-    telling: Telling,
-    input: &mut F,
-    output: &mut W,
-    errors: &mut E,
-) -> Result<u8, Fault>
-    ensures status { IfOk result (λ status. status ≤ 1) }
-    ensures done { IfOk result (λ status. status ≡ 0 → Done telling (W.contents output.old) (W.contents output.new)) }
-{
-    let words = tool_words(alloc, telling)?;
-    Ok(tool(alloc, words, input, output, errors))
-}
-
-/// Writes the text of a file's tree.
-pub fn dump_file<H: Files, W: Write, E: Sink>(
-    alloc: Global,
-    host: &H,
-    file: &str,
-    output: &mut W,
-    errors: &mut E,
-) -> Result<u8, Fault>
-    ensures status { IfOk result (λ status. status ≤ 1) }
-    ensures done { IfOk result (λ status. status ≡ 0 → Dumps (W.contents output.old) (W.contents output.new)) }
-{
-    let mut input = taken(Step::Open, File::open(host, file))?;
-    stream(alloc, Telling::Dump, &mut input, output, errors)
-}
-
-/// Writes the name of a file, before what is told of it.
-fn write_name<W: Write>(alloc: Global, file: &str, output: &mut W) -> Result<(), Fault> {
-    let text = format!(in alloc; "{file}: ")?;
-    let written = write_counted(output, text.as_bytes());
-    if written < text.len() {
-        return Err(Fault::Cut(written as u64));
-    }
-    Ok(())
-}
-
-/// Writes how many keys and values a file has, behind its name where that is asked for.
-pub fn check_file<H: Files, W: Write, E: Sink>(
-    alloc: Global,
-    host: &H,
-    file: &str,
-    is_named: bool,
-    output: &mut W,
-    errors: &mut E,
-) -> Result<u8, Fault>
-    ensures { IfOk result (λ status. status ≤ 1) }
-{
-    let mut input = taken(Step::Open, File::open(host, file))?;
-    if is_named {
-        write_name(alloc, file, output)?;
-    }
-    stream(alloc, Telling::Check, &mut input, output, errors)
-}
 
 /// Reads the image in a file.
 fn image_in<H: Files>(alloc: Global, host: &H, file: &str) -> Result<Vec<u8>, Fault> {
@@ -220,17 +130,6 @@ pub fn export_key<H: Files, W: Write>(
     export_as(alloc, image.as_slice(), path.as_bytes(), form, output)
 }
 
-/// Tells that two hives are the same.
-fn tell_same<W: Write>(output: &mut W) -> Result<(), Fault>
-    ensures { OnOk result (Appends (W.contents output.old) (W.contents output.new) (codes "same\n")) }
-{
-    let written = write_counted(output, SAME);
-    if written < SAME.len() {
-        return Err(Fault::Cut(written as u64));
-    }
-    Ok(())
-}
-
 /// Tells how the hives in two images differ, or that they are the same, and answers which: 0 where they are, else 1.
 fn compare<W: Write>(alloc: Global, old: &[u8], new: &[u8], output: &mut W) -> Result<u8, DiffEnd>
     ensures status { IfOk result (λ status. status ≤ 1) }
@@ -238,7 +137,7 @@ fn compare<W: Write>(alloc: Global, old: &[u8], new: &[u8], output: &mut W) -> R
     ensures other { IfOk result (λ status. status ≡ 1 → AreOther (W.contents output.old) (W.contents output.new)) }
 {
     match diff(alloc, old, new, output) {
-        Ok(true) => match tell_same(output) {
+        Ok(true) => match write_text(SAME, output) {
             Ok(()) => Ok(0),
             Err(fault) => Err(DiffEnd::Old(fault)),
         },
@@ -331,8 +230,7 @@ pub fn edit_file<H: Files + Clock, R: PutBack, W: Write>(
 ) -> Result<(), Fault>
 where
     H::File: Lockable,
-    ensures { OnOk result (Serves (Request.Edit request.entry) (R.remaining input.old) (R.remaining input.new) (W.contents output.old)
-        (W.contents output.new)) }
+    ensures { OnOk result (EditsFile request.entry (R.remaining input.old) (R.remaining input.new) (W.contents output.old) (W.contents output.new)) }
 {
     let begin = begin_at(host, request.begin)?;
     let mut opened = open_for(alloc, host, request)?;

@@ -1,80 +1,143 @@
-//! A writer that tells on the side how much it took.
+//! How a piece of work that takes long is told on the side, by a second thread.
 //!
-//! Its one contract: what is written goes to the writer behind it, and nothing else does. When it tells something, and what, no clause
-//! says: clocks and terminals are the host's. It stands on no other crate of this repository. Its type is [`Progress`].
+//! Its contracts: a [`Counted`] writer passes on what is written and nothing else, and an [`Awaited`] reader what is read. What is told,
+//! and when, no clause says: clocks, terminals and threads are the host's. It stands on no other crate of this repository. Its types
+//! are these two and [`Work`], which they share with the thread that tells.
 #![tactic(auto)]
 
 ghost use Rattle.std.specs.Prelude.{◌≡◌};
 
 use std::io;
-use std::io::Write;
+use std::io::{Read, Write};
 use std::rt::Clock;
+use std::sync::atomic::{AtomicBool, AtomicU64, Ordering};
 use std::time::Duration;
 
-/// How many seconds nothing is told, from the beginning and between two times.
-const PAUSE: u64 = 1;
+/// How many milliseconds [`tell_each_second`] sleeps before it looks again, so at most that long it outlasts the work.
+const NAP: u64 = 20;
 
-/// A writer that tells, a line at most once a second and first after one, how many bytes it took.
+/// What is known of a piece of work while it goes on.
 #[derive(Drop)]
-pub struct Progress<'a, W, E, C> {
-    writer: W,
-    errors: E,
-    clock: &'a C,
-    /// Whether anything is to be told.
-    is_shown: bool,
-    /// When it was begun, or last told something.
-    since: Duration,
-    bytes: u64,
+pub struct Work {
+    /// How many bytes it wrote.
+    bytes: AtomicU64,
+    /// Whether it waits for its input.
+    is_waiting: AtomicBool,
+    is_over: AtomicBool,
 }
 
-impl<'a, W: Write, E: Write, C: Clock> Progress<'a, W, E, C> {
-    /// A writer that took nothing yet, before another one. What it tells goes to `errors`, as long as the host's clock can be asked;
-    /// where `is_shown` is false nothing is told.
-    pub fn new(writer: W, errors: E, clock: &'a C, is_shown: bool) -> Progress<'a, W, E, C>
+impl Work {
+    /// One that is about to begin.
+    pub fn new() -> Work {
+        Work {
+            bytes: AtomicU64::new(0),
+            is_waiting: AtomicBool::new(false),
+            is_over: AtomicBool::new(false),
+        }
+    }
+
+    /// Notes that it is over.
+    pub fn end(&self) {
+        self.is_over.store(true, Ordering::SeqCst);
+    }
+}
+
+/// A writer whose bytes are counted.
+#[derive(Drop)]
+pub struct Counted<'a, W> {
+    writer: W,
+    work: &'a Work,
+}
+
+impl<'a, W: Write> Counted<'a, W> {
+    /// One before another writer.
+    pub fn new(writer: W, work: &'a Work) -> Counted<'a, W>
         ensures { W.contents result.writer ≡ W.contents writer }
     {
-        let now = clock.monotonic();
-        Progress {
-            writer,
-            errors,
-            clock,
-            is_shown: is_shown && now.is_ok(),
-            since: now.unwrap_or(Duration::from_secs(0)),
-            bytes: 0,
-        }
-    }
-
-    /// Counts some bytes, and tells how many there were so far, where a second went by.
-    fn note(&mut self, count: usize)
-        ensures { self.new.writer ≡ self.old.writer }
-    {
-        if !self.is_shown {
-            return;
-        }
-        self.bytes = self.bytes.saturating_add(count as u64);
-        let Ok(now) = self.clock.monotonic() else {
-            return;
-        };
-        match now.checked_sub(self.since) {
-            Some(passed) if passed.as_secs() >= PAUSE => {
-                self.since = now;
-                let _ = writeln!(self.errors, "{} bytes written", self.bytes);
-            }
-            _ => {}
-        }
+        Counted { writer, work }
     }
 }
 
-impl<W: Write, E: Write, C: Clock> Write for Progress<'_, W, E, C> {
-    ghost contents = { λ progress. W.contents progress.writer };
+impl<W: Write> Write for Counted<'_, W> {
+    ghost contents = { λ counted. W.contents counted.writer };
 
     fn write(&mut self, bytes: &[u8]) -> io::Result<usize> {
         let count = self.writer.write(bytes)?;
-        self.note(count);
+        self.work.bytes.fetch_add(count as u64, Ordering::SeqCst);
         Ok(count)
     }
 
     fn flush(&mut self) -> io::Result<()> {
         self.writer.flush()
+    }
+}
+
+/// A reader of which it is known when it is waited for.
+#[derive(Drop)]
+pub struct Awaited<'a, R> {
+    reader: R,
+    work: &'a Work,
+}
+
+impl<'a, R: Read> Awaited<'a, R> {
+    /// One before another reader.
+    pub fn new(reader: R, work: &'a Work) -> Awaited<'a, R>
+        ensures { R.remaining result.reader ≡ R.remaining reader }
+    {
+        Awaited { reader, work }
+    }
+}
+
+impl<R: Read> Read for Awaited<'_, R> {
+    ghost remaining = { λ awaited. R.remaining awaited.reader };
+
+    fn read(&mut self, buffer: &mut [u8]) -> io::Result<usize> {
+        self.work.is_waiting.store(true, Ordering::SeqCst);
+        let answer = self.reader.read(buffer);
+        self.work.is_waiting.store(false, Ordering::SeqCst);
+        answer
+    }
+}
+
+/// Tells how long the work has gone on, where a second went by since that was told, and answers how many seconds were told. While the
+/// work waits for its input nothing is told; nor, where it writes to the same terminal, after its first byte.
+fn tell_second<E: Write, C: Clock>(
+    work: &Work,
+    errors: &mut E,
+    clock: &C,
+    begun: Duration,
+    told: u64,
+    is_mixed: bool,
+) -> u64 {
+    let Ok(now) = clock.monotonic() else {
+        return told;
+    };
+    let seconds = now.saturating_sub(begun).as_secs();
+    let bytes = work.bytes.load(Ordering::SeqCst);
+    if seconds <= told || work.is_waiting.load(Ordering::SeqCst) || (is_mixed && bytes > 0) {
+        return told;
+    }
+    let _ = writeln!(errors, "{seconds} s, {bytes} bytes written");
+    seconds
+}
+
+/// Tells once a second how long the work has gone on and how many bytes it wrote, until it is over, or at once nothing more where the
+/// clock can't be asked. `is_mixed` says that it writes to the terminal on which that is told.
+pub fn tell_each_second<E: Write, C: Clock>(
+    work: &Work,
+    errors: &mut E,
+    clock: &C,
+    is_mixed: bool,
+) {
+    let Ok(begun) = clock.monotonic() else {
+        return;
+    };
+    let mut told = 0;
+    for _ in 0..u64::MAX {
+        if work.is_over.load(Ordering::SeqCst) {
+            return;
+        }
+        told = tell_second(work, errors, clock, begun, told, is_mixed);
+        clock.sleep(Duration::from_millis(NAP));
     }
 }

@@ -117,6 +117,34 @@ module _ (word : Text) (rows : List Row) (request : Request) (same : bytes_eq wo
   pub other : bytes_eq word (word_of request) ≡ false → Asks (word, rows) request → ⊥
   other differ h = apart word (word_of request) differ same (named (word, rows) request h)
 
+-- the same subcommand, as it is named
+pub named_so : (name word : Text) (rows : List Row) (result : Option Request) → name ≡ word → IsFound (Asks (word, rows)) result →
+    IsFound (Asks (name, rows)) result
+named_so name word rows result e h = subst (λ (w : Text). IsFound (Asks (w, rows)) result) (sym e) h
+
+-- a subcommand that asks for nothing on files
+pub none_of_ten : (name : Text) (rows : List Row) → (name ≡ codes "dump" → ⊥)
+    → (name ≡ codes "check" → ⊥)
+    → (name ≡ codes "ls" → ⊥)
+    → (name ≡ codes "get" → ⊥)
+    → (name ≡ codes "find" → ⊥)
+    → (name ≡ codes "diff" → ⊥)
+    → (name ≡ codes "export" → ⊥)
+    → (name ≡ codes "new" → ⊥)
+    → (name ≡ codes "edit" → ⊥)
+    → (name ≡ codes "import" → ⊥)
+    → (request : Request) → Asks (name, rows) request → ⊥
+none_of_ten name rows not_dump not_check not_ls not_get not_find not_diff not_export not_new not_edit not_import (Dump file) h = not_dump (named (name, rows) (Dump file) h)
+none_of_ten name rows not_dump not_check not_ls not_get not_find not_diff not_export not_new not_edit not_import (Check files) h = not_check (named (name, rows) (Check files) h)
+none_of_ten name rows not_dump not_check not_ls not_get not_find not_diff not_export not_new not_edit not_import (Listing file path is_whole) h = not_ls (named (name, rows) (Listing file path is_whole) h)
+none_of_ten name rows not_dump not_check not_ls not_get not_find not_diff not_export not_new not_edit not_import (Get file path value is_raw) h = not_get (named (name, rows) (Get file path value is_raw) h)
+none_of_ten name rows not_dump not_check not_ls not_get not_find not_diff not_export not_new not_edit not_import (Find file pattern places) h = not_find (named (name, rows) (Find file pattern places) h)
+none_of_ten name rows not_dump not_check not_ls not_get not_find not_diff not_export not_new not_edit not_import (Diff old new) h = not_diff (named (name, rows) (Diff old new) h)
+none_of_ten name rows not_dump not_check not_ls not_get not_find not_diff not_export not_new not_edit not_import (Export file path form) h = not_export (named (name, rows) (Export file path form) h)
+none_of_ten name rows not_dump not_check not_ls not_get not_find not_diff not_export not_new not_edit not_import (New file value) h = not_new (named (name, rows) (New file value) h)
+none_of_ten name rows not_dump not_check not_ls not_get not_find not_diff not_export not_new not_edit not_import (Edit edit) h = not_edit (named (name, rows) (Edit edit) h)
+none_of_ten name rows not_dump not_check not_ls not_get not_find not_diff not_export not_new not_edit not_import (Import edit) h = not_import (named (name, rows) (Import edit) h)
+
 -- what is there is none
 pub none_there : {X : Type 0} (o : Option X) (x : X) → o ≡ None → o ≡ Some x → ⊥
 none_there o x e h = let bad : None ≡ Some x = sym e ∙ h in cc

@@ -1,7 +1,8 @@
 -- `clap`'s command is put together of its arguments and subcommands, and what it takes is the definition's.
 use Rattle.std.proofs.Common.{◌≡◌, ◌∙◌, ◌||◌, List, [], ℕ, Bool, ap, ap₂, subst, sym, refl, true, false, inl, inr}
-use Rattle.std.specs.Prelude.{Option, Some, None, Result, Ok, Err, IfErr, ◌≢◌}
+use Rattle.std.specs.Prelude.{Option, Some, None, Result, Ok, Err, IfErr, IfOk, ◌≢◌}
 use Rattle.std.specs.Result.{IsErrAnd}
+use Rattle.std.specs.declared.alloc.AllocError.{AllocError}
 use Rattle.clap.specs.Values.{kind_of}
 use Rattle.clap.specs.declared.error.kind.ErrorKind.TheVariants.{OutOfMemory}
 use Rattle.clap.specs.Words.{AddsArg, AddsSubcommand, App, FailsBy, HasKind, HasMatchesOf, IsAmong, Row, Rule, Text, app_of, fault_of, is_simple, is_simple_and_free, rule_of, subcommand_of, subcommand_rows_of, with_rule, with_subcommand}
@@ -27,6 +28,12 @@ with_command old sub new app sub_app c s adds = record {
   app_is = adds.shape s.local ∙ ap₂ with_subcommand c.app_is (ap (λ (a : App). a.top) s.app_is);
   local = adds.globals ∙ ap₂ (λ (x y : Bool). x || y) c.local s.local;
 }
+
+-- the same of one that was to be made, and was
+pub with_sub : (old new : Command) (made : Result Command AllocError) (app sub_app : App) → IsCommand app old → IfOk made (IsCommand sub_app) →
+    ((sub : Command) × (made ≡ Ok sub) × AddsSubcommand old sub new) → IsCommand (with_subcommand app sub_app.top) new
+with_sub old new made app sub_app c made_is h =
+    with_command old h.0 new app sub_app c (subst (λ (r : Result Command AllocError). IfOk r (IsCommand sub_app)) h.1 made_is) h.2
 
 simple : is_simple_and_free regtool ≡ true
 unfolding regtool clap_on_literals

@@ -1,7 +1,8 @@
 //! `clap`'s command, of which a command line is read.
 
-ghost use Rattle.std.specs.Prelude.{IfOk, codes};
-ghost use Rattle.clap.specs.Words.{new_app};
+ghost use Rattle.std.specs.Prelude.{◌≡◌, IfOk, Ok, codes, true, false};
+ghost use Rattle.clap.specs.Words.{AddsSubcommand, new_app, with_rule};
+ghost use Rattle.clap.specs.declared.builder.command.Command.{Command as AnyCommand};
 ghost use Rattle.reg_command.specs.CommandLines.{image_option, run_command as run_shape};
 ghost use Rattle.reg_words.specs.CommandLines.{option_rule, required_rule, flag_rule, place_rule, file_rule, files_rule, at_rule};
 ghost use Rattle.reg_words.specs.CommandLines.{dump_command as dump_shape, check_command as check_shape, list_command as list_shape};
@@ -63,6 +64,19 @@ fn file_arg<'a>(alloc: Global, is_required: bool, help: &'a str) -> Arg<'a>
     place_arg(alloc, "file", is_required, "FILE", help)
 }
 
+/// A key, by its path.
+fn path_arg<'a>(alloc: Global) -> Arg<'a>
+    ensures { IsRule (place_rule (codes "path") false) result }
+{
+    place_arg(
+        alloc,
+        "path",
+        false,
+        "PATH",
+        "The key, the root where none is given",
+    )
+}
+
 /// Files, by their places.
 fn files_arg<'a>(alloc: Global) -> Arg<'a>
     ensures { IsRule files_rule result }
@@ -105,6 +119,31 @@ fn bare_command<'a>(alloc: Global, name: &'a str, about: &'a str) -> Command<'a>
     Command::new(alloc, name).about(about)
 }
 
+/// A command whose first argument is a file, which must be given.
+fn file_command<'a>(
+    alloc: Global,
+    name: &'a str,
+    about: &'a str,
+    help: &'a str,
+) -> Result<Command<'a>, AllocError>
+    ensures { IfOk result (λ command. IsCommand (with_rule (new_app name.now) (file_rule true)) command) }
+{
+    bare_command(alloc, name, about).arg(file_arg(alloc, true, help))
+}
+
+/// Adds a subcommand, if there was memory for it.
+fn with_made<'a>(
+    command: Command<'a>,
+    made: Result<Command<'a>, AllocError>,
+) -> Result<Command<'a>, AllocError>
+    ensures { IfOk result (λ whole. (sub : AnyCommand) × (made.entry ≡ Ok sub) × AddsSubcommand command.entry sub whole) }
+{
+    match made {
+        Ok(sub) => command.subcommand(sub),
+        Err(error) => Err(error),
+    }
+}
+
 /// `run`, which [`reg_command::tool`] serves.
 fn run_command<'a>(alloc: Global) -> Result<Command<'a>, AllocError>
     ensures { IfOk result (λ command. IsCommand run_shape command) }
@@ -120,8 +159,11 @@ fn run_command<'a>(alloc: Global) -> Result<Command<'a>, AllocError>
 fn dump_command<'a>(alloc: Global) -> Result<Command<'a>, AllocError>
     ensures { IfOk result (λ command. IsCommand dump_shape command) }
 {
-    let file = file_arg(alloc, false, "The hive, in place of standard input");
-    bare_command(alloc, "dump", "Tells the keys of a hive").arg(file)
+    bare_command(alloc, "dump", "Tells the keys of a hive").arg(file_arg(
+        alloc,
+        false,
+        "The hive, in place of standard input",
+    ))
 }
 
 fn check_command<'a>(alloc: Global) -> Result<Command<'a>, AllocError>
@@ -133,57 +175,75 @@ fn check_command<'a>(alloc: Global) -> Result<Command<'a>, AllocError>
 fn list_command<'a>(alloc: Global) -> Result<Command<'a>, AllocError>
     ensures { IfOk result (λ command. IsCommand list_shape command) }
 {
-    let file = file_arg(alloc, true, "The hive");
-    let path = place_arg(
+    file_command(
         alloc,
-        "path",
-        false,
-        "PATH",
-        "The key, the root where none is given",
-    );
-    let tree = flag_arg(alloc, "tree", "List all that is below it");
-    bare_command(alloc, "ls", "Lists the values and subkeys of a key")
-        .arg(file)?
-        .arg(path)?
-        .arg(tree)
+        "ls",
+        "Lists the values and subkeys of a key",
+        "The hive",
+    )?
+    .arg(path_arg(alloc))?
+    .arg(flag_arg(alloc, "tree", "List all that is below it"))
+}
+
+/// `get` with its file and its path.
+fn value_command<'a>(alloc: Global) -> Result<Command<'a>, AllocError>
+    ensures { IfOk result (λ command. IsCommand
+        (with_rule (with_rule (new_app (codes "get")) (file_rule true)) (place_rule (codes "path") true)) command) }
+{
+    file_command(alloc, "get", "Tells the data of a value", "The hive")?.arg(place_arg(
+        alloc, "path", true, "PATH", "The key",
+    ))
 }
 
 fn get_command<'a>(alloc: Global) -> Result<Command<'a>, AllocError>
     ensures { IfOk result (λ command. IsCommand get_shape command) }
 {
-    let file = file_arg(alloc, true, "The hive");
-    let path = place_arg(alloc, "path", true, "PATH", "The key");
-    let value = place_arg(
-        alloc,
-        "value",
-        false,
-        "NAME",
-        "The value, the default one where none is given",
-    );
-    let raw = flag_arg(alloc, "raw", "Write its bytes");
-    bare_command(alloc, "get", "Tells the data of a value")
-        .arg(file)?
-        .arg(path)?
-        .arg(value)?
-        .arg(raw)
+    value_command(alloc)?
+        .arg(place_arg(
+            alloc,
+            "value",
+            false,
+            "NAME",
+            "The value, the default one where none is given",
+        ))?
+        .arg(flag_arg(alloc, "raw", "Write its bytes"))
 }
 
 fn new_command<'a>(alloc: Global) -> Result<Command<'a>, AllocError>
     ensures { IfOk result (λ command. IsCommand new_shape command) }
 {
-    let file = file_arg(alloc, true, "The file, which must not be there yet");
-    let name = option_arg(
+    file_command(
+        alloc,
+        "new",
+        "Makes a file with a fresh hive",
+        "The file, which must not be there yet",
+    )?
+    .arg(option_arg(
         alloc,
         "name",
         "NAME",
         "The root's name, ROOT where none is given",
-    );
-    bare_command(alloc, "new", "Makes a file with a fresh hive")
-        .arg(file)?
-        .arg(name)
+    ))
 }
 
-/// What is asked beside the file by a command that saves it.
+/// A command that saves a file, with that and where to save it.
+fn output_command<'a>(
+    alloc: Global,
+    name: &'a str,
+    about: &'a str,
+) -> Result<Command<'a>, AllocError>
+    ensures { IfOk result (λ command. IsCommand
+        (with_rule (with_rule (new_app name.now) (file_rule true)) (option_rule (codes "output"))) command) }
+{
+    file_command(alloc, name, about, "The hive, which is saved in place")?.arg(option_arg(
+        alloc,
+        "output",
+        "FILE",
+        "Save in this new file instead",
+    ))
+}
+
+/// The same with all that it is asked.
 fn saving_command<'a>(
     alloc: Global,
     name: &'a str,
@@ -191,16 +251,10 @@ fn saving_command<'a>(
 ) -> Result<Command<'a>, AllocError>
     ensures { IfOk result (λ command. IsCommand (saving_shape name.now) command) }
 {
-    let file = file_arg(alloc, true, "The hive, which is saved in place");
-    let output = option_arg(alloc, "output", "FILE", "Save in this new file instead");
-    let now = flag_arg(alloc, "now", "Begin at the moment of the clock");
-    let dry_run = flag_arg(alloc, "dry-run", "Save nothing");
-    bare_command(alloc, name, about)
-        .arg(file)?
-        .arg(output)?
-        .arg(now)?
+    output_command(alloc, name, about)?
+        .arg(flag_arg(alloc, "now", "Begin at the moment of the clock"))?
         .arg(at_arg(alloc))?
-        .arg(dry_run)
+        .arg(flag_arg(alloc, "dry-run", "Save nothing"))
 }
 
 fn edit_command<'a>(alloc: Global) -> Result<Command<'a>, AllocError>
@@ -226,94 +280,90 @@ fn import_command<'a>(alloc: Global) -> Result<Command<'a>, AllocError>
 fn find_command<'a>(alloc: Global) -> Result<Command<'a>, AllocError>
     ensures { IfOk result (λ command. IsCommand find_shape command) }
 {
-    let file = file_arg(alloc, true, "The hive");
-    let pattern = place_arg(
+    file_command(
+        alloc,
+        "find",
+        "Tells the keys and values that a pattern matches",
+        "The hive",
+    )?
+    .arg(place_arg(
         alloc,
         "pattern",
         true,
         "PATTERN",
         "A regular expression; (?i) before it passes over case",
-    );
-    let places = option_arg(
+    ))?
+    .arg(option_arg(
         alloc,
         "in",
         "PLACES",
         "Search in these, parted by commas: keys, names, data",
-    );
-    bare_command(
-        alloc,
-        "find",
-        "Tells the keys and values that a pattern matches",
-    )
-    .arg(file)?
-    .arg(pattern)?
-    .arg(places)
+    ))
 }
 
 fn diff_command<'a>(alloc: Global) -> Result<Command<'a>, AllocError>
     ensures { IfOk result (λ command. IsCommand diff_shape command) }
 {
-    let old = place_arg(alloc, "old", true, "OLD", "A hive");
-    let new = place_arg(alloc, "new", true, "NEW", "Another one");
     bare_command(alloc, "diff", "Tells what differs between two hives")
-        .arg(old)?
-        .arg(new)
+        .arg(place_arg(alloc, "old", true, "OLD", "A hive"))?
+        .arg(place_arg(alloc, "new", true, "NEW", "Another one"))
+}
+
+/// `export` with its file and its path.
+fn branch_command<'a>(alloc: Global) -> Result<Command<'a>, AllocError>
+    ensures { IfOk result (λ command. IsCommand
+        (with_rule (with_rule (new_app (codes "export")) (file_rule true)) (place_rule (codes "path") false)) command) }
+{
+    file_command(
+        alloc,
+        "export",
+        "Writes a key with all below it as text",
+        "The hive",
+    )?
+    .arg(path_arg(alloc))
 }
 
 fn export_command<'a>(alloc: Global) -> Result<Command<'a>, AllocError>
     ensures { IfOk result (λ command. IsCommand export_shape command) }
 {
-    let file = file_arg(alloc, true, "The hive");
-    let path = place_arg(
-        alloc,
-        "path",
-        false,
-        "PATH",
-        "The key, the root where none is given",
-    );
-    let form = required_arg(
-        alloc,
-        "as",
-        "FORM",
-        "The form of the text: reg, json or csv",
-    );
-    let utf8 = flag_arg(alloc, "utf8", "Write a .reg text in UTF-8");
-    bare_command(alloc, "export", "Writes a key with all below it as text")
-        .arg(file)?
-        .arg(path)?
-        .arg(form)?
-        .arg(utf8)
+    branch_command(alloc)?
+        .arg(required_arg(
+            alloc,
+            "as",
+            "FORM",
+            "The form of the text: reg, json or csv",
+        ))?
+        .arg(flag_arg(alloc, "utf8", "Write a .reg text in UTF-8"))
 }
 
 /// The commands that `tool` has, too.
 fn tool_commands<'a>(alloc: Global) -> Result<Command<'a>, AllocError>
     ensures { IfOk result (λ command. IsCommand tool_shape command) }
 {
-    bare_command(alloc, "regtool", "Answers registry calls on hives")
-        .subcommand_required(true)
-        .subcommand(run_command(alloc)?)?
-        .subcommand(dump_command(alloc)?)?
-        .subcommand(check_command(alloc)?)
+    let top = bare_command(alloc, "regtool", "Answers registry calls on hives").subcommand_required(
+        true,
+    );
+    let running = with_made(top, run_command(alloc))?;
+    let dumping = with_made(running, dump_command(alloc))?;
+    with_made(dumping, check_command(alloc))
 }
 
 /// With those that look into a file.
 fn looking_commands<'a>(alloc: Global) -> Result<Command<'a>, AllocError>
     ensures { IfOk result (λ command. IsCommand looking_shape command) }
 {
-    tool_commands(alloc)?
-        .subcommand(list_command(alloc)?)?
-        .subcommand(get_command(alloc)?)?
-        .subcommand(find_command(alloc)?)?
-        .subcommand(diff_command(alloc)?)?
-        .subcommand(export_command(alloc)?)
+    let listing = with_made(tool_commands(alloc)?, list_command(alloc))?;
+    let getting = with_made(listing, get_command(alloc))?;
+    let finding = with_made(getting, find_command(alloc))?;
+    let comparing = with_made(finding, diff_command(alloc))?;
+    with_made(comparing, export_command(alloc))
 }
 
 /// The whole command.
 pub fn whole_command<'a>(alloc: Global) -> Result<Command<'a>, AllocError>
     ensures { IfOk result (λ command. IsCommand regtool_shape command) }
 {
-    looking_commands(alloc)?
-        .subcommand(new_command(alloc)?)?
-        .subcommand(edit_command(alloc)?)?
-        .subcommand(import_command(alloc)?)
+    let making = with_made(looking_commands(alloc)?, new_command(alloc))?;
+    let editing = with_made(making, edit_command(alloc))?;
+    with_made(editing, import_command(alloc))
 }

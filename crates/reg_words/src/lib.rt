@@ -10,18 +10,45 @@ mod command;
 mod places;
 mod request;
 
-ghost use Rattle.std.specs.Prelude.{◌≢◌, IfOk, IfErr};
+ghost use Rattle.std.specs.Prelude.{◌≡◌, ◌≢◌, IfOk, IfErr};
+ghost use Rattle.clap.specs.Words.{app_of};
 ghost use Rattle.clap.specs.Values.{kind_of};
 ghost use Rattle.clap.specs.declared.error.kind.ErrorKind.TheVariants.{OutOfMemory};
 ghost use Rattle.reg_command.specs.CommandLines.{texts};
-ghost use Rattle.reg_words.specs.CommandLines.{AsksNothing, IsCommandLine};
+ghost use Rattle.reg_words.specs.CommandLines.{AsksNothing, IsCommandLine, regtool};
 
 use crate::asked::asked;
 use crate::command::whole_command;
-use clap::Error;
 use clap::error::ErrorKind;
+use clap::{Command, Error};
 pub use request::{Begin, EditRequest, Form, Places, Request};
 use std::alloc::Global;
+
+/// The error of words that `clap` takes though they ask for nothing, as those that give two moments, told in its own manner.
+fn refusal(command: &mut Command<'_>) -> Error {
+    let text = "the words ask for two moments, no file, or a form or place that there is none of";
+    match command.error(ErrorKind::ArgumentConflict, text) {
+        Ok(error) => error,
+        Err(error) => Error::from(error),
+    }
+}
+
+/// Reads a command line by the tool's command.
+fn read_by<'a>(
+    alloc: Global,
+    command: &mut Command<'a>,
+    words: &'a [String],
+) -> Result<Request<'a>, Error>
+    requires { app_of command.old ≡ regtool }
+    ensures asks { IfOk result (λ request. IsCommandLine (texts words.now) request) }
+    ensures refuses { IfErr result (λ error. kind_of error ≢ OutOfMemory → AsksNothing (texts words.now)) }
+{
+    let matches = command.try_get_matches_from_mut(words)?;
+    match asked(alloc, &matches)? {
+        Some(request) => Ok(request),
+        None => Err(refusal(command)),
+    }
+}
 
 /// Reads a command line: what it asks for, or `clap`'s error, which is want of memory or tells that the words ask for nothing.
 pub fn read_words<'a>(alloc: Global, words: &'a [String]) -> Result<Request<'a>, Error>
@@ -29,13 +56,5 @@ pub fn read_words<'a>(alloc: Global, words: &'a [String]) -> Result<Request<'a>,
     ensures refuses { IfErr result (λ error. kind_of error ≢ OutOfMemory → AsksNothing (texts words.now)) }
 {
     let mut command = whole_command(alloc)?;
-    let matches = command.try_get_matches_from_mut(words)?;
-    match asked(alloc, &matches)? {
-        Some(request) => Ok(request),
-        // Words that `clap` takes though they ask for nothing, as those that give two moments, are told in its own manner.
-        None => Err(command.error(
-            ErrorKind::ArgumentConflict,
-            "the words ask for two moments, no file, or a form or place that there is none of",
-        )?),
-    }
+    read_by(alloc, &mut command, words)
 }

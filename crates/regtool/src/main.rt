@@ -1,18 +1,18 @@
 //! The command-line tool: `regtool run` reads a script of registry calls on standard input and writes the replies.
 //!
 //! It stands on reg_files and does nothing but pass on what it is started with: its arguments, its input and its outputs go to
-//! [`file_tool`], whose answer is its exit status. Where standard error is a terminal and standard output isn't, it tells there how much
-//! was written, a line a second. Arguments that can't be read it tells itself. What a program is given and prints no clause can say; its
-//! one contract is that of what it tells of such arguments.
+//! [`file_tool`], whose answer is its exit status. Where standard error is a terminal a second thread tells there, a line a second, how
+//! long that takes and how much was written ([`reg_progress`]). Arguments that can't be read it tells itself. What a program is given
+//! and prints no clause can say; its one contract is that of what it tells of such arguments.
 #![tactic(auto)]
 
 ghost use Rattle.std.specs.Prelude.{◌≡◌, ◌≢◌, codes};
 
 use reg_files::{Input, file_tool};
-use reg_progress::Progress;
+use reg_progress::{Awaited, Counted, Work, tell_each_second};
 use std::io::{ErrorKind, IsTerminal};
 use std::process::ExitCode;
-use std::{env, io};
+use std::{env, io, thread};
 
 /// What is told of arguments that can't be read, and the exit status: 1 for want of memory, and 2 where one is not text.
 fn unread(kind: ErrorKind) -> (&'static str, u8)
@@ -40,9 +40,22 @@ fn main(rt: HostRuntime) -> ExitCode {
             return ExitCode::from(status);
         }
     };
-    let mut input = Input::new(alloc, rt.reader());
-    let is_shown = rt.stderr().is_terminal() && !rt.stdout().is_terminal();
-    let mut output = Progress::new(io::writer(&rt), rt.stderr(), &rt, is_shown);
+    let work = Work::new();
+    let mut input = Input::new(alloc, Awaited::new(rt.reader(), &work));
+    let mut output = Counted::new(io::writer(&rt), &work);
     let mut errors = rt.stderr();
-    ExitCode::from(file_tool(alloc, &rt, words, &mut input, &mut output, &mut errors))
+    if !errors.is_terminal() {
+        return ExitCode::from(file_tool(alloc, &rt, words, &mut input, &mut output, &mut errors));
+    }
+    let is_mixed = rt.stdout().is_terminal();
+    let (_, status) = thread::join(
+        &rt,
+        || tell_each_second(&work, &mut rt.stderr(), &rt, is_mixed),
+        || {
+            let status = file_tool(alloc, &rt, words, &mut input, &mut output, &mut errors);
+            work.end();
+            status
+        },
+    );
+    ExitCode::from(status)
 }

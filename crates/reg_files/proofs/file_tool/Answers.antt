@@ -1,6 +1,7 @@
-use Rattle.std.proofs.Common.{ap, subst}
+use Rattle.std.proofs.Common.{ap, inr, refl, subst}
 use Rattle.reg_command.specs.CommandLines.{texts}
 use Rattle.reg_words.specs.CommandLines.{AsksNothing}
+use Rattle.reg_files.proofs.Statuses.{of_words}
 use Rattle.reg_files.proofs.UnderstoodWords.{not_nothing, nothing}
 use Rattle.reg_files.proofs.file_tool.Goals as goal
 
@@ -21,3 +22,10 @@ returns-in-Ok-false-clause-refused g c =
       no_files = subst (λ ws. AsksNothing (texts ws)) c.as_slice-in-Ok-false.ensures.value refused.0;
       untouched = refused.1;
     }
+
+pub returns-in-Ok-false-clause-failed : goal.returns-in-Ok-false-clause-failed
+returns-in-Ok-false-clause-failed g c =
+    λ one. inr (of_words _ _ _ _ _ _ _ _ _ _ (ap texts c.as_slice-in-Ok-false.ensures.value) (c.serve.ensures.failed one))
+
+pub returns-in-Err-clause-failed : goal.returns-in-Err-clause-failed
+returns-in-Err-clause-failed g c = λ one. inr (inr ((refl, refl), c.fail.ensures.said))

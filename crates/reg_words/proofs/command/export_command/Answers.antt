@@ -4,7 +4,5 @@ use Rattle.reg_words.proofs.command.export_command.Goals as goal
 
 pub returns : goal.returns
 returns c =
-    let filed = with_arg _ _ _ _ _ c.bare_command.ensures c.file_arg-file.ensures c.in_ok-arg.ensures in
-    let with_path = with_arg _ _ _ _ _ filed c.place_arg-path.ensures c.in_ok-arg-2.ensures in
-    let with_form = with_arg _ _ _ _ _ with_path c.required_arg-form.ensures c.in_ok-arg-3.ensures in
-    IfOk-weaker c.arg-4.result _ _ (λ r adds. with_arg _ r _ _ _ with_form c.flag_arg-utf8.ensures adds) c.arg-4.ensures
+    let with_form = with_arg _ _ _ _ _ c.in_ok-branch_command.ensures c.required_arg.ensures c.in_ok-arg.ensures in
+    IfOk-weaker c.arg-2.result _ _ (λ r adds. with_arg _ r _ _ _ with_form c.flag_arg.ensures adds) c.arg-2.ensures

@@ -4,7 +4,5 @@ use Rattle.reg_words.proofs.command.get_command.Goals as goal
 
 pub returns : goal.returns
 returns c =
-    let filed = with_arg _ _ _ _ _ c.bare_command.ensures c.file_arg-file.ensures c.in_ok-arg.ensures in
-    let with_path = with_arg _ _ _ _ _ filed c.place_arg-path.ensures c.in_ok-arg-2.ensures in
-    let with_value = with_arg _ _ _ _ _ with_path c.place_arg-value.ensures c.in_ok-arg-3.ensures in
-    IfOk-weaker c.arg-4.result _ _ (λ r adds. with_arg _ r _ _ _ with_value c.flag_arg-raw.ensures adds) c.arg-4.ensures
+    let with_name = with_arg _ _ _ _ _ c.in_ok-value_command.ensures c.place_arg.ensures c.in_ok-arg.ensures in
+    IfOk-weaker c.arg-2.result _ _ (λ r adds. with_arg _ r _ _ _ with_name c.flag_arg.ensures adds) c.arg-2.ensures

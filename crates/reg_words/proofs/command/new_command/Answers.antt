@@ -3,6 +3,4 @@ use Rattle.reg_words.proofs.CommandShapes.{with_arg}
 use Rattle.reg_words.proofs.command.new_command.Goals as goal
 
 pub returns : goal.returns
-returns c =
-    let filed = with_arg _ _ _ _ _ c.bare_command.ensures c.file_arg-file.ensures c.in_ok-arg.ensures in
-    IfOk-weaker c.arg-2.result _ _ (λ r adds. with_arg _ r _ _ _ filed c.option_arg-name.ensures adds) c.arg-2.ensures
+returns c = IfOk-weaker c.arg.result _ _ (λ r adds. with_arg _ r _ _ _ c.in_ok-file_command.ensures c.option_arg.ensures adds) c.arg.ensures

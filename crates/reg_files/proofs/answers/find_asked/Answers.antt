@@ -1,0 +1,11 @@
+use Rattle.std.proofs.Common.{refl}
+use Rattle.reg_words.specs.declared.request.Request.TheVariants.{Find}
+use Rattle.reg_files.proofs.Outcomes.{settled}
+use Rattle.reg_files.proofs.answers.find_asked.Goals as goal
+
+pub returns : goal.returns
+returns g c =
+    λ unread. settled (Find c.args.file c.args.pattern c.args.places) unread unread (g.W.Write.contents c.args.output.now) (g.W.Write.contents c.find_in-done.new.output)
+    (g.E.Sink.contents c.args.errors.now) (g.E.Sink.contents c.settle_done.new.errors)
+    (g.E.Sink.failures c.args.errors.now) (g.E.Sink.failures c.settle_done.new.errors) _ c.find_in-done.result c.settle_done.result
+    c.settle_done.ensures c.find_in-done.ensures (λ done. (refl, done)) (λ told. (refl, told))

@@ -1,0 +1,226 @@
+//! A request answered: it is done, or what hinders that is told.
+
+ghost use Rattle.std.specs.Prelude.{ℕ, List, Option};
+ghost use Rattle.reg_words.specs.declared.request.Request.{Request};
+ghost use Rattle.reg_files.specs.Internal.Tellings.{Outcome};
+
+use crate::commands::{
+    diff_files, edit_file, export_key, find_in, get_value, import_text, list_key, new_file,
+};
+use crate::locks::Lockable;
+use crate::streams::{check_files, dump_file};
+use crate::told::{settle, settle_diff, settle_done, settle_saved};
+use reg_edits::PutBack;
+use reg_text::Sink;
+use reg_words::{EditRequest, Form, Places, Request};
+use std::alloc::Global;
+use std::io::Write;
+use std::rt::{Clock, Files};
+
+/// `dump FILE`.
+fn dump_asked<H: Files, W: Write, E: Sink>(
+    alloc: Global,
+    host: &H,
+    file: &str,
+    output: &mut W,
+    errors: &mut E,
+) -> u8
+    ensures { (unread : Option (List ℕ)) → Outcome (Request.Dump file.entry) result unread unread (W.contents output.old) (W.contents output.new) (E.contents errors.old)
+        (E.contents errors.new) (E.failures errors.old) (E.failures errors.new) }
+{
+    let done = dump_file(alloc, host, file, output, errors);
+    settle(alloc, errors, file, done)
+}
+
+/// `check FILE..`.
+fn check_asked<H: Files, W: Write, E: Sink>(
+    alloc: Global,
+    host: &H,
+    files: Vec<&str>,
+    output: &mut W,
+    errors: &mut E,
+) -> u8
+    ensures { (unread : Option (List ℕ)) → Outcome (Request.Check files.entry) result unread unread (W.contents output.old) (W.contents output.new) (E.contents errors.old)
+        (E.contents errors.new) (E.failures errors.old) (E.failures errors.new) }
+{
+    check_files(alloc, host, files.as_slice(), output, errors)
+}
+
+/// `ls`.
+fn list_asked<H: Files, W: Write, E: Sink>(
+    alloc: Global,
+    host: &H,
+    file: &str,
+    path: &str,
+    is_whole: bool,
+    output: &mut W,
+    errors: &mut E,
+) -> u8
+    ensures { (unread : Option (List ℕ)) → Outcome (Request.Listing file.entry path.entry is_whole) result unread unread (W.contents output.old) (W.contents output.new) (E.contents errors.old)
+        (E.contents errors.new) (E.failures errors.old) (E.failures errors.new) }
+{
+    let done = list_key(alloc, host, file, path, is_whole, output);
+    settle_done(alloc, errors, file, done)
+}
+
+/// `get`.
+fn get_asked<H: Files, W: Write, E: Sink>(
+    alloc: Global,
+    host: &H,
+    file: &str,
+    path: &str,
+    name: &str,
+    is_raw: bool,
+    output: &mut W,
+    errors: &mut E,
+) -> u8
+    ensures { (unread : Option (List ℕ)) → Outcome (Request.Get file.entry path.entry name.entry is_raw) result unread unread
+        (W.contents output.old) (W.contents output.new) (E.contents errors.old)
+        (E.contents errors.new) (E.failures errors.old) (E.failures errors.new) }
+{
+    let done = get_value(alloc, host, file, path, name, is_raw, output);
+    settle_done(alloc, errors, file, done)
+}
+
+/// `find`.
+fn find_asked<H: Files, W: Write, E: Sink>(
+    alloc: Global,
+    host: &H,
+    file: &str,
+    pattern: &str,
+    places: Places,
+    output: &mut W,
+    errors: &mut E,
+) -> u8
+    ensures { (unread : Option (List ℕ)) → Outcome (Request.Find file.entry pattern.entry places) result unread unread (W.contents output.old) (W.contents output.new) (E.contents errors.old)
+        (E.contents errors.new) (E.failures errors.old) (E.failures errors.new) }
+{
+    let done = find_in(alloc, host, file, pattern, places, output);
+    settle_done(alloc, errors, file, done)
+}
+
+/// `diff`.
+fn diff_asked<H: Files, W: Write, E: Sink>(
+    alloc: Global,
+    host: &H,
+    old: &str,
+    new: &str,
+    output: &mut W,
+    errors: &mut E,
+) -> u8
+    ensures { (unread : Option (List ℕ)) → Outcome (Request.Diff old.entry new.entry) result unread unread (W.contents output.old) (W.contents output.new) (E.contents errors.old)
+        (E.contents errors.new) (E.failures errors.old) (E.failures errors.new) }
+{
+    let done = diff_files(alloc, host, old, new, output);
+    settle_diff(alloc, errors, old, new, done)
+}
+
+/// `export`.
+fn export_asked<H: Files, W: Write, E: Sink>(
+    alloc: Global,
+    host: &H,
+    file: &str,
+    path: &str,
+    form: Form,
+    output: &mut W,
+    errors: &mut E,
+) -> u8
+    ensures { (unread : Option (List ℕ)) → Outcome (Request.Export file.entry path.entry form) result unread unread (W.contents output.old) (W.contents output.new) (E.contents errors.old)
+        (E.contents errors.new) (E.failures errors.old) (E.failures errors.new) }
+{
+    let done = export_key(alloc, host, file, path, form, output);
+    settle_done(alloc, errors, file, done)
+}
+
+/// `new`.
+fn new_asked<H: Files, E: Sink>(
+    alloc: Global,
+    host: &H,
+    file: &str,
+    name: &str,
+    errors: &mut E,
+) -> u8
+    ensures { (unread : Option (List ℕ)) → (before : Option (List ℕ)) → Outcome (Request.New file.entry name.entry) result unread unread
+        before before (E.contents errors.old) (E.contents errors.new) (E.failures errors.old) (E.failures errors.new) }
+{
+    let done = new_file(alloc, host, file, name);
+    settle_done(alloc, errors, file, done)
+}
+
+/// `edit`.
+fn edit_asked<H: Files + Clock, R: PutBack, W: Write, E: Sink>(
+    alloc: Global,
+    host: &H,
+    edit: EditRequest<'_>,
+    input: &mut R,
+    output: &mut W,
+    errors: &mut E,
+) -> u8
+where
+    H::File: Lockable,
+    ensures { Outcome (Request.Edit edit.entry) result (R.remaining input.old) (R.remaining input.new) (W.contents output.old)
+        (W.contents output.new) (E.contents errors.old) (E.contents errors.new) (E.failures errors.old) (E.failures errors.new) }
+{
+    let done = edit_file(alloc, host, edit, input, output);
+    settle_saved(alloc, errors, &edit, done)
+}
+
+/// `import`.
+fn import_asked<H: Files + Clock, R: PutBack, E: Sink>(
+    alloc: Global,
+    host: &H,
+    edit: EditRequest<'_>,
+    input: &mut R,
+    errors: &mut E,
+) -> u8
+where
+    H::File: Lockable,
+    ensures { (before : Option (List ℕ)) → Outcome (Request.Import edit.entry) result (R.remaining input.old) (R.remaining input.new)
+        before before (E.contents errors.old) (E.contents errors.new) (E.failures errors.old) (E.failures errors.new) }
+{
+    let done = import_text(alloc, host, edit, input);
+    settle_saved(alloc, errors, &edit, done)
+}
+
+/// Does what was asked for, and answers the status.
+pub fn answer<H: Files + Clock, R: PutBack, W: Write, E: Sink>(
+    alloc: Global,
+    host: &H,
+    request: Request<'_>,
+    input: &mut R,
+    output: &mut W,
+    errors: &mut E,
+) -> u8
+where
+    H::File: Lockable,
+    ensures { Outcome request.entry result (R.remaining input.old) (R.remaining input.new) (W.contents output.old) (W.contents output.new)
+        (E.contents errors.old) (E.contents errors.new) (E.failures errors.old) (E.failures errors.new) }
+{
+    match request {
+        Request::Dump(file) => dump_asked(alloc, host, file, output, errors),
+        Request::Check(files) => check_asked(alloc, host, files, output, errors),
+        Request::Listing {
+            file,
+            path,
+            is_whole,
+        } => list_asked(alloc, host, file, path, is_whole, output, errors),
+        Request::Get {
+            file,
+            path,
+            name,
+            is_raw,
+        } => get_asked(alloc, host, file, path, name, is_raw, output, errors),
+        Request::Find {
+            file,
+            pattern,
+            places,
+        } => find_asked(alloc, host, file, pattern, places, output, errors),
+        Request::Diff { old, new } => diff_asked(alloc, host, old, new, output, errors),
+        Request::Export { file, path, form } => {
+            export_asked(alloc, host, file, path, form, output, errors)
+        }
+        Request::New { file, name } => new_asked(alloc, host, file, name, errors),
+        Request::Edit(edit) => edit_asked(alloc, host, edit, input, output, errors),
+        Request::Import(edit) => import_asked(alloc, host, edit, input, errors),
+    }
+}

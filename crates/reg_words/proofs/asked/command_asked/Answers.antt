@@ -1,0 +1,35 @@
+use Rattle.std.proofs.Common.{codes, rules}
+use Rattle.clap.specs.Words.{found_of, rows_of}
+use Rattle.reg_words.proofs.AskedWords.{named_so, none_of_ten}
+use Rattle.reg_words.proofs.asked.command_asked.Goals as goal
+
+pub returns-then-eq : goal.returns-then-eq
+returns-then-eq c = named_so c.args.name.now (codes "dump") (rows_of (found_of c.args.matches.now)) c.dump_asked.result (search rules) c.dump_asked.ensures
+
+pub returns-then-eq-3 : goal.returns-then-eq-3
+returns-then-eq-3 c = named_so c.args.name.now (codes "ls") (rows_of (found_of c.args.matches.now)) c.list_asked.result (search rules) c.list_asked.ensures
+
+pub returns-then-eq-4 : goal.returns-then-eq-4
+returns-then-eq-4 c = named_so c.args.name.now (codes "get") (rows_of (found_of c.args.matches.now)) c.get_asked.result (search rules) c.get_asked.ensures
+
+pub returns-then-eq-5 : goal.returns-then-eq-5
+returns-then-eq-5 c = named_so c.args.name.now (codes "find") (rows_of (found_of c.args.matches.now)) c.find_asked.result (search rules) c.find_asked.ensures
+
+pub returns-then-eq-6 : goal.returns-then-eq-6
+returns-then-eq-6 c = named_so c.args.name.now (codes "diff") (rows_of (found_of c.args.matches.now)) c.diff_asked.result (search rules) c.diff_asked.ensures
+
+pub returns-then-eq-7 : goal.returns-then-eq-7
+returns-then-eq-7 c = named_so c.args.name.now (codes "export") (rows_of (found_of c.args.matches.now)) c.export_asked.result (search rules) c.export_asked.ensures
+
+pub returns-then-eq-8 : goal.returns-then-eq-8
+returns-then-eq-8 c = named_so c.args.name.now (codes "new") (rows_of (found_of c.args.matches.now)) c.new_asked.result (search rules) c.new_asked.ensures
+
+pub returns-then-eq-9 : goal.returns-then-eq-9
+returns-then-eq-9 c = named_so c.args.name.now (codes "edit") (rows_of (found_of c.args.matches.now)) c.edit_asked.result (search rules) c.edit_asked.ensures
+
+pub returns-then-eq-10 : goal.returns-then-eq-10
+returns-then-eq-10 c = named_so c.args.name.now (codes "import") (rows_of (found_of c.args.matches.now)) c.import_asked.result (search rules) c.import_asked.ensures
+
+pub returns : goal.returns
+returns c =
+    none_of_ten c.args.name.now (rows_of (found_of c.args.matches.now)) (λ e. search (rules, e)) (λ e. search (rules, e)) (λ e. search (rules, e)) (λ e. search (rules, e)) (λ e. search (rules, e)) (λ e. search (rules, e)) (λ e. search (rules, e)) (λ e. search (rules, e)) (λ e. search (rules, e)) (λ e. search (rules, e))
