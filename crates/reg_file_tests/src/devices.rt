@@ -1,6 +1,6 @@
 //! Files that can't be read or written, and a standard output that takes nothing.
 use crate::support::Deed::{Edit, Full, Keep, Link, Names, Permit, Put, Run, Same};
-use crate::support::{Deed, assert_told, tale};
+use crate::support::{Deed, assert_told, is_root, tale};
 use std::alloc::Global;
 use std::test::Fail;
 
@@ -71,10 +71,10 @@ fn saves_nothing_where_a_reply_is_not_taken(rt: HostRuntime) -> Result<(), Fail>
 }
 
 /// What each command tells that only looks, of a file that it can't look at.
-fn told_of_looks(
+fn told_of_looks<'a>(
     rt: &HostRuntime,
-    before: &[Deed<'_>],
-    after: &[Deed<'_>],
+    before: &[Deed<'a>],
+    after: &[Deed<'a>],
 ) -> Result<String, Fail> {
     let mut deeds = before.to_vec(rt.alloc())?;
     for look in LOOKS {
@@ -100,9 +100,13 @@ fn lines_of_looks(
     Ok(text)
 }
 
-/// A file that may not be read is told by every command; one that may not be written by those that would save it.
+/// A file that may not be read is told by every command; one that may not be written by those that would save it. The gate runs this as
+/// a user of whom rights are asked.
 #[test]
 fn tells_a_file_without_rights(rt: HostRuntime) -> Result<(), Fail> {
+    if is_root(&rt)? {
+        return Ok(());
+    }
     let before = [
         Run("regtool new @/a"),
         Run("regtool new @/b"),
@@ -130,6 +134,9 @@ fn tells_a_file_without_rights(rt: HostRuntime) -> Result<(), Fail> {
 /// A folder in which nothing may be made keeps its file as it is.
 #[test]
 fn tells_a_folder_without_rights(rt: HostRuntime) -> Result<(), Fail> {
+    if is_root(&rt)? {
+        return Ok(());
+    }
     let deeds = [
         Run("regtool new @/a"),
         Keep("a"),

@@ -228,6 +228,17 @@ where
     Ok(String::new(alloc))
 }
 
+/// Whether a file without rights can be read all the same: by root, of whom the system asks for none.
+pub fn is_root(rt: &HostRuntime) -> Result<bool, Fail> {
+    let folder = new_folder(rt)?;
+    put(rt, folder.as_str(), "a", b"")?;
+    permit(rt, folder.as_str(), "a", 0)?;
+    let path = format!(in rt.alloc(); "{}/a", folder.as_str())?;
+    let is_opened = File::open(rt, path.as_str()).is_ok();
+    fs::remove_dir_all(rt, folder.as_str())?;
+    Ok(is_opened)
+}
+
 /// What deeds in a folder tell, `|` behind each that tells something.
 pub fn tale_in<H: Files + Clock>(
     rt: &HostRuntime,
