@@ -1,6 +1,6 @@
 //! `edit` on files of the system.
 use crate::support::Deed::{Block, Edit, IsLink, Keep, Link, Mode, Names, Permit, Put, Run, Same};
-use crate::support::{assert_told, is_refused_while_held, made_at_now, tale};
+use crate::support::{assert_told, made_at_now, tale, tale_while_held};
 use std::alloc::{AllocError, Global};
 use std::test::Fail;
 
@@ -143,13 +143,27 @@ fn keeps_the_permissions(rt: HostRuntime) -> Result<(), Fail> {
     assert_told(&rt, tale(&rt, &rt, &deeds), wanted)
 }
 
+/// What another one edits is told as busy, and may be looked at.
 #[test]
 fn refuses_a_file_that_is_locked(rt: HostRuntime) -> Result<(), Fail> {
-    assert_told(
-        &rt,
-        is_refused_while_held(&rt, B),
-        "1;error busy @/a\n;|same true|",
-    )
+    let deeds = [
+        Keep("a"),
+        Edit("regtool edit @/a", B),
+        Edit("regtool edit @/a --output @/b", B),
+        Edit(
+            "regtool import @/a",
+            "Windows Registry Editor Version 5.00\n[ROOT\\A]\n",
+        ),
+        Same("a"),
+        Run("regtool check @/a"),
+        Run("regtool diff @/a @/a"),
+        Names,
+    ];
+    let busy = "1;error busy @/a\n;|";
+    let wanted = format!(in rt.alloc();
+        "{busy}{busy}{busy}same true|0;;ok keys 1 values 0\n|0;;same\n|a |"
+    )?;
+    assert_told(&rt, tale_while_held(&rt, &deeds), wanted.as_str())
 }
 
 #[test]

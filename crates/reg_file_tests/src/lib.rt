@@ -7,6 +7,8 @@
 #[cfg(test)]
 mod commands;
 #[cfg(test)]
+mod devices;
+#[cfg(test)]
 mod edits;
 #[cfg(test)]
 mod looks;
@@ -18,3 +20,5 @@ mod searches;
 mod support;
 #[cfg(test)]
 mod texts;
+#[cfg(test)]
+mod turns;

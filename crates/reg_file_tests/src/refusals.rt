@@ -222,6 +222,8 @@ impl Files for Refusing<'_> {
 
 const SCRIPT: &str = "root 983103\ncreate 0 =A 983103\n";
 
+const TEXT: &str = "Windows Registry Editor Version 5.00\n[ROOT\\A]\n";
+
 /// What an edit with `--now` under a refusal tells, whether the file is as it was, and what is in its folder.
 fn edited(rt: &HostRuntime, refused: Refused) -> Result<String, Fail> {
     let folder = new_folder(rt)?;
@@ -273,8 +275,6 @@ fn leaves_the_file_whatever_is_refused(rt: HostRuntime) -> Result<(), Fail> {
     let rows = [
         (Refused::Create, "create"),
         (Refused::Permit, "permit"),
-        (Refused::Write(0), "write"),
-        (Refused::Write(8191), "write"),
         (Refused::Sync, "sync"),
         (Refused::Rename, "rename"),
     ];
@@ -283,6 +283,49 @@ fn leaves_the_file_whatever_is_refused(rt: HostRuntime) -> Result<(), Fail> {
         assert_told(&rt, edited(&rt, refused), wanted.as_str())?;
     }
     Ok(())
+}
+
+/// What an import under a refusal tells, whether the file is as it was, and what is in its folder.
+fn imported(rt: &HostRuntime, refused: Refused) -> Result<String, Fail> {
+    let folder = new_folder(rt)?;
+    tale_in(rt, rt, folder.as_str(), &[Run("regtool new @/a")])?;
+    let deeds = [
+        Keep("a"),
+        Edit("regtool import @/a", TEXT),
+        Same("a"),
+        Names,
+    ];
+    let told = tale_in(rt, &Refusing { rt, refused }, folder.as_str(), &deeds)?;
+    fs::remove_dir_all(rt, folder.as_str())?;
+    Ok(told)
+}
+
+#[test]
+fn leaves_the_file_of_an_import(rt: HostRuntime) -> Result<(), Fail> {
+    let rows = [
+        (Refused::Write(0), "write"),
+        (Refused::Write(8191), "write"),
+        (Refused::Sync, "sync"),
+        (Refused::Rename, "rename"),
+    ];
+    for (refused, step) in rows {
+        let wanted = format!(in rt.alloc();
+            "1;error {step} @/a: no storage space\n;|same true|a |"
+        )?;
+        assert_told(&rt, imported(&rt, refused), wanted.as_str())?;
+    }
+    Ok(())
+}
+
+/// Of the 8,192 bytes of the image none is written, or so many; or all but one.
+#[test]
+fn leaves_the_file_after_each_write(rt: HostRuntime) -> Result<(), Fail> {
+    let wanted = unsaved(rt.alloc(), "write")?;
+    for piece in 0..16 {
+        let refused = Refused::Write(512 * piece);
+        assert_told(&rt, edited(&rt, refused), wanted.as_str())?;
+    }
+    assert_told(&rt, edited(&rt, Refused::Write(8191)), wanted.as_str())
 }
 
 /// Where the new file takes its place, the old one's lock is still held.

@@ -5,6 +5,7 @@ use reg_fixtures::wide;
 use std::alloc::Global;
 use std::fs;
 use std::fs::{File, Permissions};
+use std::io::Write;
 use std::os::unix::fs::{PermissionsExt, symlink};
 use std::process::Abort;
 use std::rt::{Clock, Files};
@@ -17,6 +18,8 @@ pub enum Deed<'a> {
     Run(&'a str),
     /// A command line with a script.
     Edit(&'a str, &'a str),
+    /// A command line with a script, whose standard output is a full device.
+    Full(&'a str, &'a str),
     /// A file with this text.
     Put(&'a str, &'a str),
     /// A link of a name to another one.
@@ -55,6 +58,35 @@ pub fn new_folder(rt: &HostRuntime) -> Result<String, Fail> {
     Err("there is no room for a folder".into())
 }
 
+/// The words of a command line, with a folder's path for `@`.
+fn words_of(alloc: Global, folder: &str, line: &str) -> Result<Vec<String>, Fail> {
+    let mut words = Vec::new(alloc);
+    for word in line.split(' ') {
+        words.push(word.replace(alloc, '@', folder)?)?;
+    }
+    Ok(words)
+}
+
+/// What a command line leaves behind of a script, with the folder's path as `@`: its status and errors; what it writes goes to a writer.
+fn told_beside<H: Files + Clock, W: Write>(
+    alloc: Global,
+    host: &H,
+    folder: &str,
+    line: &str,
+    script: &str,
+    output: &mut W,
+) -> Result<String, Fail>
+where
+    H::File: Lockable,
+{
+    let words = words_of(alloc, folder, line)?;
+    let mut input = Input::new(alloc, script.as_bytes());
+    let mut errors = wide(alloc);
+    let status = file_tool(alloc, host, words, &mut input, output, &mut errors);
+    let errors = String::from_utf8(errors.taken)?;
+    Ok(format!(in alloc; "{status};{};", errors.as_str())?)
+}
+
 /// What a command line leaves behind of a script, with the folder's path as `@`: status, errors, output.
 fn told<H: Files + Clock>(
     alloc: Global,
@@ -66,19 +98,26 @@ fn told<H: Files + Clock>(
 where
     H::File: Lockable,
 {
-    let mut words = Vec::new(alloc);
-    for word in line.split(' ') {
-        words.push(word.replace(alloc, '@', folder)?)?;
-    }
-    let mut input = Input::new(alloc, script.as_bytes());
-    let (mut output, mut errors) = (wide(alloc), wide(alloc));
-    let status = file_tool(alloc, host, words, &mut input, &mut output, &mut errors);
-    let (output, errors) = (
-        String::from_utf8(output.taken)?,
-        String::from_utf8(errors.taken)?,
-    );
-    let text = format!(in alloc; "{status};{};{}", errors.as_str(), output.as_str())?;
+    let mut output = wide(alloc);
+    let mut text = told_beside(alloc, host, folder, line, script, &mut output)?;
+    text.push_str(str::from_utf8(&output.taken)?)?;
     Ok(text.replace(alloc, folder, "@")?)
+}
+
+/// What a command line tells whose standard output is a full device.
+fn told_when_full<H: Files + Clock>(
+    rt: &HostRuntime,
+    host: &H,
+    folder: &str,
+    line: &str,
+    script: &str,
+) -> Result<String, Fail>
+where
+    H::File: Lockable,
+{
+    let mut device = File::options().write(true).open(rt, "/dev/full")?;
+    let text = told_beside(rt.alloc(), host, folder, line, script, &mut device)?;
+    Ok(text.replace(rt.alloc(), folder, "@")?)
 }
 
 /// The bytes of a file in a folder.
@@ -168,6 +207,7 @@ where
     match deed {
         Deed::Run(line) => return told(alloc, host, folder, line, ""),
         Deed::Edit(line, script) => return told(alloc, host, folder, line, script),
+        Deed::Full(line, script) => return told_when_full(rt, host, folder, line, script),
         Deed::Put(name, text) => put(rt, folder, name, text.as_bytes())?,
         Deed::Link(name, to) => link(rt, folder, name, to)?,
         Deed::Keep(name) => *kept = bytes_of(rt, folder, name)?,
@@ -186,6 +226,17 @@ where
         Deed::Names => return names_in(rt, folder),
     }
     Ok(String::new(alloc))
+}
+
+/// Whether a file without rights can be read all the same: by root, of whom the system asks for none.
+pub fn is_root(rt: &HostRuntime) -> Result<bool, Fail> {
+    let folder = new_folder(rt)?;
+    put(rt, folder.as_str(), "a", b"")?;
+    permit(rt, folder.as_str(), "a", 0)?;
+    let path = format!(in rt.alloc(); "{}/a", folder.as_str())?;
+    let is_opened = File::open(rt, path.as_str()).is_ok();
+    fs::remove_dir_all(rt, folder.as_str())?;
+    Ok(is_opened)
 }
 
 /// What deeds in a folder tell, `|` behind each that tells something.
@@ -225,19 +276,14 @@ where
     Ok(told)
 }
 
-/// What an edit tells while another one holds the file's lock.
-pub fn is_refused_while_held(rt: &HostRuntime, script: &str) -> Result<String, Fail> {
+/// What deeds tell in a folder with a new hive `a`, while another one holds the lock of that file.
+pub fn tale_while_held(rt: &HostRuntime, deeds: &[Deed<'_>]) -> Result<String, Fail> {
     let folder = new_folder(rt)?;
     let path = format!(in rt.alloc(); "{}/a", folder.as_str())?;
     tale_in(rt, rt, folder.as_str(), &[Deed::Run("regtool new @/a")])?;
     let holder = File::open(rt, path.as_str())?;
     holder.lock()?;
-    let deeds = [
-        Deed::Keep("a"),
-        Deed::Edit("regtool edit @/a", script),
-        Deed::Same("a"),
-    ];
-    let told = tale_in(rt, rt, folder.as_str(), &deeds)?;
+    let told = tale_in(rt, rt, folder.as_str(), deeds)?;
     fs::remove_dir_all(rt, folder.as_str())?;
     Ok(told)
 }

@@ -71,6 +71,55 @@ fn makes_and_takes_away(rt: HostRuntime) -> Result<(), Fail> {
     assert_told(&rt, tale(&rt, &rt, &deeds), wanted)
 }
 
+/// A text with a value of every type that has a name and of two that have none, in rows, with comments, ended by CR LF.
+const KINDS: &str = "\
+Windows Registry Editor Version 5.00\r\n\r\n; every type\r\n[ROOT\\A]\r\n\"0\"=hex(0):\r\n\"1\"=\"a;b\"\r\n\
+\"2\"=hex(2):25,00,\\\r\n  00,00\r\n\"3\"=hex:01\r\n\"4\"=dword:0000002A\r\n\"5\"=hex(5):00,00,00,2a\r\n\
+\"6\"=hex(6):61,00,00,00\r\n ; of several texts\r\n\"7\"=hex(7):61,00,00,00,\\\r\n  62,00,00,00,\\\r\n  00,00\r\n\
+\"8\"=hex(8):08\r\n\"9\"=hex(9):09\r\n\"10\"=hex(a):0a\r\n\"11\"=hex(b):2a,00,00,00,00,00,00,00\r\n\
+\"12\"=hex(c):0c\r\n\"last\"=hex(ffffffff):ff\r\n@=\"\"\r\n";
+
+/// The values of that key, as `ls` tells them.
+const VALUES: &str = "\
+value =0 type 0 size 0
+value =1 type 1 size 8
+value =2 type 2 size 4
+value =3 type 3 size 1
+value =4 type 4 size 4
+value =5 type 5 size 4
+value =6 type 6 size 4
+value =7 type 7 size 10
+value =8 type 8 size 1
+value =9 type 9 size 1
+value =10 type 10 size 1
+value =11 type 11 size 8
+value =12 type 12 size 1
+value =last type 4294967295 size 1
+value = type 1 size 2
+";
+
+/// What `get` tells of some of them, as it is told of a command line.
+const DATA: &str = "0;;a;b\n|0;;%\n|0;;42\n|0;;42\n|0;;a\tb\n|0;;42\n|0;;hex:ff\n|0;;\n|";
+
+#[test]
+fn reads_every_type(rt: HostRuntime) -> Result<(), Fail> {
+    let deeds = [
+        Run("regtool new @/a"),
+        Edit("regtool import @/a", KINDS),
+        Run("regtool ls @/a A"),
+        Run("regtool get @/a A 1"),
+        Run("regtool get @/a A 2"),
+        Run("regtool get @/a A 4"),
+        Run("regtool get @/a A 5"),
+        Run("regtool get @/a A 7"),
+        Run("regtool get @/a A 11"),
+        Run("regtool get @/a A last"),
+        Run("regtool get @/a A"),
+    ];
+    let wanted = format!(in rt.alloc(); "0;;|0;;|0;;{VALUES}|{DATA}")?;
+    assert_told(&rt, tale(&rt, &rt, &deeds), wanted.as_str())
+}
+
 /// A key at the end of 33 names of which none is there, one more than a call makes.
 const DEEP: &str = "\
 Windows Registry Editor Version 5.00\n[ROOT\\A]\n[ROOT\\1\\2\\3\\4\\5\\6\\7\\8\\9\\10\\11\\12\\13\\14\\15\\16\\17\\18\\\

@@ -1,7 +1,8 @@
-//! The examples of README.md and of the manual, run one after another as they stand there, on files of the system.
+//! The examples of README.md, of the manual and of the page on hive files, run one after another as they stand there, on files of the
+//! system.
 //!
-//! `data/` has copies of both pages and of the files that they name. A line is printed for each example that isn't as shown, and at the
-//! end how many there were. It stands on reg_files, whose `file_tool` it calls. No clause says what a file holds, so its functions are
+//! `data/` has copies of the pages and of the files that they name. What an example prints and its exit status are compared. A line is
+//! printed for each that isn't as shown, and at the end how many there were. It stands on reg_files, whose `file_tool` it calls. No clause says what a file holds, so its functions are
 //! proved to be safe, and what they print is compared by the gate.
 #![tactic(auto)]
 
@@ -61,17 +62,25 @@ fn are_as_shown(shown: &[&str], printed: &[&str]) -> bool {
     }
 }
 
+/// Whether an example is as its page shows it: its status, and what it printed.
+fn is_example_as_shown(example: &Example<'_>, status: u8, lines: &[&str]) -> bool {
+    status == example.status
+        && match &example.printed {
+            Some(shown) => are_as_shown(shown, lines),
+            None => true,
+        }
+}
+
 /// Runs an example, and answers what is wrong with it.
 fn fault_of(rt: &HostRuntime, example: &Example<'_>) -> Result<Option<String>> {
     let alloc = rt.alloc();
     let (status, printed) = outcome(rt, read_line(alloc, example.line)?)?;
     let text = String::from_utf8_lossy(alloc, &printed)?;
     let lines: Vec<&str> = text.as_str().lines().collect(alloc)?;
-    match &example.printed {
-        Some(shown) if are_as_shown(shown, &lines) => Ok(None),
-        None if status == 0 => Ok(None),
-        _ => Ok(Some(format!(in alloc; "{status}: {}", text.as_str())?)),
+    if is_example_as_shown(example, status, &lines) {
+        return Ok(None);
     }
+    Ok(Some(format!(in alloc; "{status}: {}", text.as_str())?))
 }
 
 /// Runs the examples of a page, tells those that aren't as shown, and answers how many there were, and how many of these.
@@ -94,7 +103,7 @@ fn run_page(rt: &HostRuntime, page: &str) -> Result<(u32, u32)> {
 }
 
 fn main(rt: HostRuntime) -> Result<()> {
-    for page in ["README.md", "TOOL.md"] {
+    for page in ["README.md", "TOOL.md", "HIVES.md"] {
         let (examples, wrong) = run_page(&rt, page)?;
         println!(rt; "{page}: {examples} examples, {wrong} not as shown")?;
         if wrong > 0 || examples == 0 {
