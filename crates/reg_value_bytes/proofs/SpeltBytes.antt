@@ -71,7 +71,8 @@ module _ (heap : Heap) (h : IsOfCells heap) where
   node-bytes : (offset : ℕ) (key : KeyRecord) → IfSome (node_in heap offset key) NodeOfBytes
   node-bytes offset key =
       if-then (λ _. ⊤) NodeOfBytes
-      (λ (class : List ℕ × List Found). option_and_then (λ (values : List Member × List Found). option_map (node_of offset key class values) (index_at heap key.fields.subkeys key.fields.subkeys_list))
+      (λ (class : List ℕ × List Found). option_and_then (λ (values : List Member × List Found).
+      option_map (node_of offset key class values) (index_at heap key.fields.subkeys key.fields.subkeys_list))
       (members_at key.fields.values key.fields.values_list heap))
       (pieces_at (if_any Class key.fields.class_length key.fields.class) heap) (if-any (pieces_at (if_any Class key.fields.class_length key.fields.class) heap))
       (λ class _. if-then (λ (values : List Member × List Found). AllByRecursion HoldsBytes values.0) NodeOfBytes

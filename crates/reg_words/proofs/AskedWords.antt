@@ -123,27 +123,29 @@ pub named_so : (name word : Text) (rows : List Row) (result : Option Request) �
 named_so name word rows result e h = subst (λ (w : Text). IsFound (Asks (w, rows)) result) (sym e) h
 
 -- a subcommand that asks for nothing on files
-pub none_of_ten : (name : Text) (rows : List Row) → (name ≡ codes "dump" → ⊥)
-    → (name ≡ codes "check" → ⊥)
-    → (name ≡ codes "ls" → ⊥)
-    → (name ≡ codes "get" → ⊥)
-    → (name ≡ codes "find" → ⊥)
-    → (name ≡ codes "diff" → ⊥)
-    → (name ≡ codes "export" → ⊥)
-    → (name ≡ codes "new" → ⊥)
-    → (name ≡ codes "edit" → ⊥)
-    → (name ≡ codes "import" → ⊥)
-    → (request : Request) → Asks (name, rows) request → ⊥
-none_of_ten name rows not_dump not_check not_ls not_get not_find not_diff not_export not_new not_edit not_import (Dump file) h = not_dump (named (name, rows) (Dump file) h)
-none_of_ten name rows not_dump not_check not_ls not_get not_find not_diff not_export not_new not_edit not_import (Check files) h = not_check (named (name, rows) (Check files) h)
-none_of_ten name rows not_dump not_check not_ls not_get not_find not_diff not_export not_new not_edit not_import (Listing file path is_whole) h = not_ls (named (name, rows) (Listing file path is_whole) h)
-none_of_ten name rows not_dump not_check not_ls not_get not_find not_diff not_export not_new not_edit not_import (Get file path value is_raw) h = not_get (named (name, rows) (Get file path value is_raw) h)
-none_of_ten name rows not_dump not_check not_ls not_get not_find not_diff not_export not_new not_edit not_import (Find file pattern places) h = not_find (named (name, rows) (Find file pattern places) h)
-none_of_ten name rows not_dump not_check not_ls not_get not_find not_diff not_export not_new not_edit not_import (Diff old new) h = not_diff (named (name, rows) (Diff old new) h)
-none_of_ten name rows not_dump not_check not_ls not_get not_find not_diff not_export not_new not_edit not_import (Export file path form) h = not_export (named (name, rows) (Export file path form) h)
-none_of_ten name rows not_dump not_check not_ls not_get not_find not_diff not_export not_new not_edit not_import (New file value) h = not_new (named (name, rows) (New file value) h)
-none_of_ten name rows not_dump not_check not_ls not_get not_find not_diff not_export not_new not_edit not_import (Edit edit) h = not_edit (named (name, rows) (Edit edit) h)
-none_of_ten name rows not_dump not_check not_ls not_get not_find not_diff not_export not_new not_edit not_import (Import edit) h = not_import (named (name, rows) (Import edit) h)
+pub record IsNone (name : Text) : Type 0 where
+  pub no_dump_word : name ≡ codes "dump" → ⊥
+  pub no_check_word : name ≡ codes "check" → ⊥
+  pub no_ls_word : name ≡ codes "ls" → ⊥
+  pub no_get_word : name ≡ codes "get" → ⊥
+  pub no_find_word : name ≡ codes "find" → ⊥
+  pub no_diff_word : name ≡ codes "diff" → ⊥
+  pub no_export_word : name ≡ codes "export" → ⊥
+  pub no_new_word : name ≡ codes "new" → ⊥
+  pub no_edit_word : name ≡ codes "edit" → ⊥
+  pub no_import_word : name ≡ codes "import" → ⊥
+
+pub none_asked : (name : Text) (rows : List Row) → IsNone name → (request : Request) → Asks (name, rows) request → ⊥
+none_asked name rows none (Dump file) h = none.no_dump_word (named (name, rows) (Dump file) h)
+none_asked name rows none (Check files) h = none.no_check_word (named (name, rows) (Check files) h)
+none_asked name rows none (Listing file path is_whole) h = none.no_ls_word (named (name, rows) (Listing file path is_whole) h)
+none_asked name rows none (Get file path value is_raw) h = none.no_get_word (named (name, rows) (Get file path value is_raw) h)
+none_asked name rows none (Find file pattern places) h = none.no_find_word (named (name, rows) (Find file pattern places) h)
+none_asked name rows none (Diff old new) h = none.no_diff_word (named (name, rows) (Diff old new) h)
+none_asked name rows none (Export file path form) h = none.no_export_word (named (name, rows) (Export file path form) h)
+none_asked name rows none (New file value) h = none.no_new_word (named (name, rows) (New file value) h)
+none_asked name rows none (Edit edit) h = none.no_edit_word (named (name, rows) (Edit edit) h)
+none_asked name rows none (Import edit) h = none.no_import_word (named (name, rows) (Import edit) h)
 
 -- what is there is none
 pub none_there : {X : Type 0} (o : Option X) (x : X) → o ≡ None → o ≡ Some x → ⊥

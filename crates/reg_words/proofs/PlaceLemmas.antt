@@ -1,10 +1,10 @@
 -- Places read part by part.
-use Rattle.std.proofs.Common.{◌≡◌, ℕ, ◌+◌, ◌<◌, ◌≤◌, ◌==◌, ◌||◌, Bool, true, false, List, [], ◌∷◌, length, take, drop, refl, sym, ap, subst, ◌∙◌, cond, not, arith, codes, suc}
+use Rattle.std.proofs.Common.{◌≡◌, ℕ, ◌+◌, ◌<◌, ◌≤◌, ◌==◌, Bool, true, false, List, [], ◌∷◌, length, take, drop, refl, sym, ap, subst, ◌∙◌, cond, not, arith, suc}
 use Rattle.std.specs.Prelude.{Option, Some, None, MatchOption, if◌then◌else◌, nat_lt}
 use Rattle.std.proofs.lemmas.Bool.Decides.{nat_tests}
 use Rattle.std.specs.List.{position, position_or_len}
-use Rattle.std.specs.Option.{option_map, option_and_then}
-use Rattle.reg_words.specs.PlaceLists.{with_letter, parts_of, both, place_of, places_of, places_in}
+use Rattle.std.specs.Option.{option_map}
+use Rattle.reg_words.specs.PlaceLists.{with_letter, parts_of, both}
 use Rattle.reg_words.specs.declared.request.Places.{Places}
 
 abbrev pub is_comma : ℕ → Bool

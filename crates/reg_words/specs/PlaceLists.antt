@@ -1,5 +1,5 @@
 -- Where a pattern is searched for, as it is written: words parted by commas (this project's own).
-use Rattle.std.specs.Prelude.{ℕ, ◌==◌, ◌||◌, true, false, Bool, if◌then◌else◌, List, [], ◌∷◌, codes, bytes_eq, Option, Some, None}
+use Rattle.std.specs.Prelude.{ℕ, ◌==◌, ◌||◌, true, false, if◌then◌else◌, List, [], ◌∷◌, codes, bytes_eq, Option, Some, None}
 use Rattle.std.specs.Option.{option_map, option_and_then}
 use Rattle.reg_words.specs.declared.request.Places.{Places}
 

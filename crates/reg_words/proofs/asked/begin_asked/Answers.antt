@@ -1,4 +1,4 @@
-use Rattle.std.proofs.Common.{◌≡◌, ap, ◌∙◌, true, false, rules}
+use Rattle.std.proofs.Common.{◌≡◌, ap, ◌∙◌, true, rules}
 use Rattle.std.specs.Prelude.{Ok, Err, Some, None}
 use Rattle.std.specs.Str.Parse.{ParsesUnsigned, ExplainsUnsignedError, HasUnsignedDigitsIfOk}
 use Rattle.clap.specs.Words.{found_of, rows_of}

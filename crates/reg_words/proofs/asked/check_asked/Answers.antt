@@ -1,4 +1,4 @@
-use Rattle.std.proofs.Common.{◌∙◌, ap, codes, refl, sym, map, rules}
+use Rattle.std.proofs.Common.{◌∙◌, ap, codes, refl, map, rules}
 use Rattle.std.specs.Prelude.{Some, option_map}
 use Rattle.clap.specs.Words.{found_of, rows_of}
 use Rattle.reg_words.proofs.AskedWords.{all_is, no_check}

@@ -1,6 +1,6 @@
 use Rattle.std.proofs.Common.{codes, rules}
 use Rattle.clap.specs.Words.{found_of, rows_of}
-use Rattle.reg_words.proofs.AskedWords.{named_so, none_of_ten}
+use Rattle.reg_words.proofs.AskedWords.{named_so, none_asked}
 use Rattle.reg_words.proofs.asked.command_asked.Goals as goal
 
 pub returns-then-eq : goal.returns-then-eq
@@ -31,5 +31,15 @@ pub returns-then-eq-10 : goal.returns-then-eq-10
 returns-then-eq-10 c = named_so c.args.name.now (codes "import") (rows_of (found_of c.args.matches.now)) c.import_asked.result (search rules) c.import_asked.ensures
 
 pub returns : goal.returns
-returns c =
-    none_of_ten c.args.name.now (rows_of (found_of c.args.matches.now)) (λ e. search (rules, e)) (λ e. search (rules, e)) (λ e. search (rules, e)) (λ e. search (rules, e)) (λ e. search (rules, e)) (λ e. search (rules, e)) (λ e. search (rules, e)) (λ e. search (rules, e)) (λ e. search (rules, e)) (λ e. search (rules, e))
+returns c = none_asked c.args.name.now (rows_of (found_of c.args.matches.now)) (record {
+  no_dump_word = λ e. search (rules, e);
+  no_check_word = λ e. search (rules, e);
+  no_ls_word = λ e. search (rules, e);
+  no_get_word = λ e. search (rules, e);
+  no_find_word = λ e. search (rules, e);
+  no_diff_word = λ e. search (rules, e);
+  no_export_word = λ e. search (rules, e);
+  no_new_word = λ e. search (rules, e);
+  no_edit_word = λ e. search (rules, e);
+  no_import_word = λ e. search (rules, e);
+})
