@@ -8,3 +8,4 @@ pub mod ValueLines
 pub mod ChangeSteps
 pub mod SideSteps
 mod RowsOfDifferences
+pub mod NamedPlaces

@@ -66,7 +66,7 @@ same_members-Decides was is = slice_eq-Decides same_member-Decides was is (same_
 same-itself : (name : List ℕ) → same_name name name ≡ true
 same-itself name = is_eq-slice_cmp (folded name) (folded name) ∙ (bytes_eq-Decides (folded name) (folded name)).1 refl
 
-other-name : (a b : List ℕ) → folded a ≢ folded b → same_name a b ≡ false
+pub other-name : (a b : List ℕ) → folded a ≢ folded b → same_name a b ≡ false
 other-name a b differ = by (same_name a b) refl
   where
     by : (t : Bool) → same_name a b ≡ t → same_name a b ≡ false

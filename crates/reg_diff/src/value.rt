@@ -1,11 +1,14 @@
 //! Values read and compared.
-ghost use Rattle.std.specs.Prelude.{◌≡◌, ◌<◌, length, slice_get, Some, IfOk};
+ghost use Rattle.std.specs.Prelude.{◌≡◌, ◌<◌, length, slice_get, true, Some, IfOk};
+ghost use Rattle.reg_names.specs.Names.{folded};
+ghost use Rattle.reg_heap.specs.Members.{index_named};
 ghost use Rattle.reg_heap.specs.Paths.{Path, Member};
 ghost use Rattle.reg_heap.specs.Edits.{values_at};
 ghost use Rattle.reg_tree.specs.TreeKeys.{IsAt, IsThere};
 ghost use Rattle.reg_diff.specs.Differences.{same_member, same_members};
 ghost use Rattle.reg_diff.specs.Internal.Parts.{member_of};
 
+use reg_names::same_name;
 use reg_tree::{Node, Tree};
 use std::alloc::{AllocError, Global};
 
@@ -37,6 +40,35 @@ pub fn read_value<'a>(
         kind: value.kind,
         bytes,
     })
+}
+
+/// Whether a key's value at an index has that name, after folding.
+fn has_name_at(tree: &Tree, node: Node, index: u32, name: &[u8]) -> bool
+    requires { IsThere tree.now node }
+    ensures { result ≡ true → (p : Path) → IsAt tree.now p node →
+        (member : Member) × (slice_get (values_at tree.now.tree p) index ≡ Some member) × (folded member.name ≡ folded name.now) }
+{
+    match tree.value(node, index) {
+        Some(value) => same_name(value.name, name),
+        None => false,
+    }
+}
+
+/// The index of a key's value of that name, after folding, if it has one. Where it stands at one of two places that are likely, no other
+/// is looked at.
+pub fn index_near(tree: &Tree, node: Node, name: &[u8], front: u32, back: u32) -> Option<u32>
+    requires { IsThere tree.now node }
+    ensures { (p : Path) → IsAt tree.now p node → result ≡ index_named name.now (values_at tree.now.tree p) }
+{
+    // No two of a key's values have one name, as this call's contract says: what has it is the value of that name.
+    let _root = tree.root();
+    if has_name_at(tree, node, front, name) {
+        return Some(front);
+    }
+    if has_name_at(tree, node, back, name) {
+        return Some(back);
+    }
+    tree.value_index(node, name)
 }
 
 /// Whether two values have the same name, as it is spelt, the same type and the same bytes.

@@ -9,7 +9,7 @@ ghost use Rattle.reg_diff.specs.Internal.Parts.{member_of, is_nothing};
 
 use crate::line::{Part, put_line};
 use crate::side::Side;
-use crate::value::{Copied, are_same, is_same, read_value};
+use crate::value::{Copied, are_same, index_near, is_same, read_value};
 use reg_dump::{DumpFault, Output};
 use reg_text::Sink;
 use reg_tree::{Node, Tree};
@@ -100,7 +100,8 @@ pub fn put_values<W: Sink>(
     Ok(())
 }
 
-/// Tells an old value where the new key has none of its name or another one; says whether nothing was told.
+/// Tells an old value where the new key has none of its name or another one, which may stand at one of two places; says whether nothing
+/// was told.
 fn put_lost_value<W: Sink>(
     output: &mut Output,
     writer: &mut W,
@@ -108,6 +109,8 @@ fn put_lost_value<W: Sink>(
     was: &Copied<'_>,
     new: &Tree,
     found: Node,
+    front: u32,
+    back: u32,
     path: &[u8],
 ) -> Result<bool, DumpFault>
     requires { IsThere new.now found }
@@ -117,7 +120,7 @@ fn put_lost_value<W: Sink>(
     ensures quiet { (q : Path) → IsAt new.now q found →
         IfOk result (λ is_quiet. is_quiet ≡ is_nothing (lost_line path.now (values_at new.now.tree q) (member_of was.now))) }
 {
-    let Some(index) = new.value_index(found, was.name) else {
+    let Some(index) = index_near(new, found, was.name, front, back) else {
         put_value(output, writer, Side::Old, path, was)?;
         return Ok(false);
     };
@@ -149,9 +152,11 @@ fn put_lost_values<W: Sink>(
         IfOk result (λ is_quiet. is_quiet ≡ is_nothing (lost_values path.now (values_at old.now.tree p) (values_at new.now.tree q))) }
 {
     let mut is_quiet = true;
+    let shift = new.values(found).wrapping_sub(old.values(node));
     for index in 0..old.values(node) {
         let was = read_value(alloc, old, node, index)?;
-        is_quiet &= put_lost_value(output, writer, alloc, &was, new, found, path)?;
+        let back = index.wrapping_add(shift);
+        is_quiet &= put_lost_value(output, writer, alloc, &was, new, found, index, back, path)?;
     }
     Ok(is_quiet)
 }
@@ -176,20 +181,24 @@ fn put_come_values<W: Sink>(
         IfOk result (λ is_quiet. is_quiet ≡ is_nothing (come_values path.now (values_at old.now.tree p) (values_at new.now.tree q))) }
 {
     let mut is_quiet = true;
+    let shift = old.values(node).wrapping_sub(new.values(found));
     for index in 0..new.values(found) {
         let is = read_value(alloc, new, found, index)?;
-        is_quiet &= put_come_value(output, writer, &is, old, node, path)?;
+        let back = index.wrapping_add(shift);
+        is_quiet &= put_come_value(output, writer, &is, old, node, index, back, path)?;
     }
     Ok(is_quiet)
 }
 
-/// Tells a new value where the old key has none of its name; says whether nothing was told.
+/// Tells a new value where the old key has none of its name, which may stand at one of two places; says whether nothing was told.
 fn put_come_value<W: Sink>(
     output: &mut Output,
     writer: &mut W,
     is: &Copied<'_>,
     old: &Tree,
     node: Node,
+    front: u32,
+    back: u32,
     path: &[u8],
 ) -> Result<bool, DumpFault>
     requires { IsThere old.now node }
@@ -199,7 +208,7 @@ fn put_come_value<W: Sink>(
     ensures quiet { (p : Path) → IsAt old.now p node →
         IfOk result (λ is_quiet. is_quiet ≡ is_nothing (come_line path.now (values_at old.now.tree p) (member_of is.now))) }
 {
-    if old.value_index(node, is.name).is_some() {
+    if index_near(old, node, is.name, front, back).is_some() {
         return Ok(true);
     }
     put_value(output, writer, Side::New, path, is)?;

@@ -10,14 +10,14 @@ pub returns-then-is_some-clause-puts : goal.returns-then-is_some-clause-puts
 returns-then-is_some-clause-puts g c =
     λ p at begin whole left s.
     ends begin _ whole _ left _ _ s
-    (there-said c.args.path.now (values_at c.args.old.now.tree p) (member_of c.args.is.now) _ (c.value_index.ensures p at)
+    (there-said c.args.path.now (values_at c.args.old.now.tree p) (member_of c.args.is.now) _ (c.index_near.ensures p at)
     (sym c.is_some.ensures ∙ c.if-is_some.true))
 
 pub returns-then-is_some-clause-quiet : goal.returns-then-is_some-clause-quiet
 returns-then-is_some-clause-quiet g c =
     λ p at.
     sym (ap is_nothing
-    (there-said c.args.path.now (values_at c.args.old.now.tree p) (member_of c.args.is.now) _ (c.value_index.ensures p at)
+    (there-said c.args.path.now (values_at c.args.old.now.tree p) (member_of c.args.is.now) _ (c.index_near.ensures p at)
     (sym c.is_some.ensures ∙ c.if-is_some.true)))
 
 pub returns-in_err-put_value-clause-puts : goal.returns-in_err-put_value-clause-puts
@@ -27,7 +27,7 @@ returns-in_err-put_value-clause-puts g c =
     (c.in_err-put_value.ensures begin whole left
     (swapped begin _ whole _ _ left _ _ s
     (come-said c.args.path.now (values_at c.args.old.now.tree p) (member_of c.args.is.now)
-    (sym (c.value_index.ensures p at) ∙ not-there _ (sym c.is_some.ensures ∙ c.if-is_some.false)))))
+    (sym (c.index_near.ensures p at) ∙ not-there _ (sym c.is_some.ensures ∙ c.if-is_some.false)))))
 
 pub returns-clause-puts : goal.returns-clause-puts
 returns-clause-puts g c =
@@ -35,11 +35,11 @@ returns-clause-puts g c =
     c.in_ok-put_value.ensures begin whole left
     (swapped begin _ whole _ _ left _ _ s
     (come-said c.args.path.now (values_at c.args.old.now.tree p) (member_of c.args.is.now)
-    (sym (c.value_index.ensures p at) ∙ not-there _ (sym c.is_some.ensures ∙ c.if-is_some.false))))
+    (sym (c.index_near.ensures p at) ∙ not-there _ (sym c.is_some.ensures ∙ c.if-is_some.false))))
 
 pub returns-clause-quiet : goal.returns-clause-quiet
 returns-clause-quiet g c =
     λ p at.
     line-some New c.args.path.now (member_of c.args.is.now)
     ∙ ap is_nothing (come-said c.args.path.now (values_at c.args.old.now.tree p) (member_of c.args.is.now)
-    (sym (c.value_index.ensures p at) ∙ not-there _ (sym c.is_some.ensures ∙ c.if-is_some.false)))
+    (sym (c.index_near.ensures p at) ∙ not-there _ (sym c.is_some.ensures ∙ c.if-is_some.false)))
