@@ -8,7 +8,7 @@ use crate::plan::{PlannedKey, plan_of_seed};
 use anyhow::Result;
 use reg_entries::{ExportFault, export};
 use reg_text::write_escaped;
-use std::alloc::Global;
+use std::alloc::{AllocError, Global};
 use std::fmt;
 
 /// One of so many characters of a name is a line break.
@@ -20,18 +20,29 @@ fn name_in(line: &str) -> &str {
     word.strip_prefix("=").unwrap_or(word)
 }
 
+/// Whether a line of a dump has a line break in a name.
+fn has_break(line: &str) -> bool {
+    line.contains("%0D") || line.contains("%0A")
+}
+
+/// A root's name and the path of a key, joined.
+fn joined(alloc: Global, root: &str, path: &str) -> Result<String, AllocError> {
+    let joint = if path.is_empty() { "" } else { "\\" };
+    format!(in alloc; "{root}{joint}{path}")
+}
+
 /// The root's name and the path of the first key of a dump that can't be written, escaped and joined; `None` where each can be.
-fn first_unwritable(alloc: Global, dump: &str) -> Result<Option<String>> {
-    let (mut root, mut path) = ("", "");
+fn first_unwritable(alloc: Global, dump: &str) -> Result<Option<String>, AllocError> {
+    let mut root = String::new(alloc);
+    let mut path = String::new(alloc);
     for line in dump.lines() {
         if line.starts_with("root ") {
-            root = name_in(line);
+            root = name_in(line).to_string(alloc)?;
         } else if line.starts_with("key ") {
-            path = name_in(line);
+            path = name_in(line).to_string(alloc)?;
         }
-        if line.contains("%0D") || line.contains("%0A") {
-            let joint = if path.is_empty() { "" } else { "\\" };
-            return Ok(Some(format!(in alloc; "{root}{joint}{path}")?));
+        if has_break(line) {
+            return Ok(Some(joined(alloc, root.as_str(), path.as_str())?));
         }
     }
     Ok(None)

@@ -21,7 +21,7 @@ use reg_registry::PlainHive;
 use std::alloc::Global;
 
 /// How many trees are tried of each sort.
-const TREES: u64 = 40;
+const TREES: u64 = 1_000;
 
 /// Exports and imports trees, and tells how many came through.
 fn make_trips<H: Subject>(rt: &impl Print, alloc: Global) -> Result<()> {

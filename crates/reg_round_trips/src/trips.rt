@@ -4,7 +4,7 @@
 //! their order, and both hives are made at one moment.
 use crate::hives::{Subject, dumped, exported, fresh_hive, grow, read_into};
 use crate::names::Characters;
-use crate::plan::{PlannedKey, plan_of_seed};
+use crate::plan::{Plan, PlannedKey, plan_of_seed};
 use anyhow::Result;
 use reg_dump::{Counts, count};
 use reg_tables::{export_csv, export_json};
@@ -139,13 +139,13 @@ impl Trip {
 
 /// What becomes of the tree of a seed.
 pub fn trip_of_seed<H: Subject>(alloc: Global, seed: u64) -> Result<Trip> {
-    let plan = plan_of_seed(alloc, seed, Characters::Writable)?;
-    let told = told_of::<H>(alloc, &plan.root, &plan.branch, plan.keys)?;
+    let Plan { root, keys, branch } = plan_of_seed(alloc, seed, Characters::Writable)?;
+    let told = told_of::<H>(alloc, &root, &branch, keys)?;
     Ok(Trip {
         counts: told.counts,
-        is_of_narrow: is_made_again::<H>(alloc, &plan.root, &told, &told.narrow)?,
-        is_of_wide: is_made_again::<H>(alloc, &plan.root, &told, &told.wide)?,
-        is_of_branch: is_branch_made_again::<H>(alloc, &plan.root, &told, &plan.branch)?,
+        is_of_narrow: is_made_again::<H>(alloc, &root, &told, &told.narrow)?,
+        is_of_wide: is_made_again::<H>(alloc, &root, &told, &told.wide)?,
+        is_of_branch: is_branch_made_again::<H>(alloc, &root, &told, &branch)?,
         is_kept: told.is_kept,
         is_in_tables: told.is_in_tables,
     })
