@@ -3,7 +3,9 @@ ghost use Rattle.std.specs.Prelude.{OnOk, IfErr, MatchResult};
 ghost use Rattle.std.specs.Io.KnownBytes.{Appends};
 ghost use Rattle.reg_heap.specs.Paths.{Path};
 ghost use Rattle.reg_tree.specs.TreeKeys.{IsAt, IsThere};
-ghost use Rattle.reg_dump.specs.DumpFronts.{IsStopped};
+ghost use Rattle.reg_text.specs.Failures.{Stays};
+ghost use Rattle.reg_dump.specs.DumpFronts.{IsStopped, IsBlamed};
+ghost use Rattle.reg_looks.specs.LookBlames.{LookBlames};
 ghost use Rattle.reg_looks.specs.Looks.{key_at, listed, IsKeyFound, IsTold, ListStops};
 
 use crate::LookFault;
@@ -38,6 +40,8 @@ fn list_node<W: Sink>(
     ensures err { (p : Path) → IsAt tree.now p node →
         IfErr result (λ fault. IsStopped (W.contents writer.old) (W.contents writer.new) (listed tree.now.tree is_whole p) fault) }
     ensures flushed { OnOk result (W.is_flushed writer.new) }
+    ensures failures { MatchResult result (λ _. Stays (W.failures writer.old) (W.failures writer.new))
+        (λ fault. IsBlamed fault (W.failures writer.old) (W.failures writer.new)) }
 {
     if is_whole {
         list_tree(alloc, tree, node, writer)
@@ -50,7 +54,7 @@ fn list_node<W: Sink>(
 /// below it and their values ([`reg_listing::list`], [`reg_listing::list_tree`]). The empty path is the root's.
 ///
 /// `NoKey` where the text is no path or no key is there, and then nothing was written; else `Stopped` where a write or memory failed,
-/// after a front of the text.
+/// after a front of the text. Of the writer's calls just one failed where a write is told, and else none.
 pub fn list_at<W: Sink>(
     alloc: Global,
     tree: &Tree,
@@ -61,6 +65,8 @@ pub fn list_at<W: Sink>(
     ensures ok { OnOk result (IsTold (key_at tree.now.tree path.now) (listed tree.now.tree is_whole) (W.contents writer.old) (W.contents writer.new)) }
     ensures err { IfErr result (λ fault. ListStops fault tree.now.tree path.now is_whole (W.contents writer.old) (W.contents writer.new)) }
     ensures flushed { OnOk result (W.is_flushed writer.new) }
+    ensures failures { MatchResult result (λ _. Stays (W.failures writer.old) (W.failures writer.new))
+        (λ fault. LookBlames fault (W.failures writer.old) (W.failures writer.new)) }
 {
     let Some(node) = find_key(tree, path) else {
         return Err(LookFault::NoKey);

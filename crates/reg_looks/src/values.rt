@@ -1,10 +1,12 @@
 //! A value looked up and told.
-ghost use Rattle.std.specs.Prelude.{◌≡◌, ◌<◌, length, slice_get, Some, OnOk, IfOk, IfErr};
+ghost use Rattle.std.specs.Prelude.{◌≡◌, ◌<◌, length, slice_get, Some, OnOk, IfOk, IfErr, MatchResult};
 ghost use Rattle.std.specs.Io.KnownBytes.{Appends};
 ghost use Rattle.reg_heap.specs.Paths.{Path, Member};
 ghost use Rattle.reg_heap.specs.Edits.{values_at};
 ghost use Rattle.reg_tree.specs.TreeKeys.{IsAt};
-ghost use Rattle.reg_dump.specs.DumpFronts.{IsStopped};
+ghost use Rattle.reg_text.specs.Failures.{Stays};
+ghost use Rattle.reg_dump.specs.DumpFronts.{IsStopped, IsBlamed};
+ghost use Rattle.reg_looks.specs.LookBlames.{LookBlames};
 ghost use Rattle.reg_looks.specs.Looks.{value_at, shown as shown_text, IsTold, GetStops};
 
 use crate::LookFault;
@@ -44,6 +46,8 @@ fn write_whole<W: Sink>(writer: &mut W, bytes: &[u8]) -> Result<(), DumpFault>
     ensures ok { OnOk result (Appends (W.contents writer.old) (W.contents writer.new) bytes.now) }
     ensures err { IfErr result (λ fault. IsStopped (W.contents writer.old) (W.contents writer.new) bytes.now fault) }
     ensures flushed { OnOk result (W.is_flushed writer.new) }
+    ensures failures { MatchResult result (λ _. Stays (W.failures writer.old) (W.failures writer.new))
+        (λ fault. IsBlamed fault (W.failures writer.old) (W.failures writer.new)) }
 {
     let taken = write_counted(writer, bytes);
     let written = taken as u64;
@@ -60,7 +64,8 @@ fn write_whole<W: Sink>(writer: &mut W, bytes: &[u8]) -> Result<(), DumpFault>
 /// or with `is_raw` its bytes. The empty name is that of the key's default value.
 ///
 /// `NoKey` where the text is no path or no key is there, else `NoValue` where the key has none of that name, and then nothing was
-/// written; else `Stopped` where a write or memory failed, after a front of the text.
+/// written; else `Stopped` where a write or memory failed, after a front of the text. Of the writer's calls just one failed where a
+/// write is told, and else none.
 pub fn get_at<W: Sink>(
     alloc: Global,
     tree: &Tree,
@@ -72,6 +77,8 @@ pub fn get_at<W: Sink>(
     ensures ok { OnOk result (IsTold (value_at tree.now.tree path.now name.now) (shown_text is_raw) (W.contents writer.old) (W.contents writer.new)) }
     ensures err { IfErr result (λ fault. GetStops fault tree.now.tree path.now name.now is_raw (W.contents writer.old) (W.contents writer.new)) }
     ensures flushed { OnOk result (W.is_flushed writer.new) }
+    ensures failures { MatchResult result (λ _. Stays (W.failures writer.old) (W.failures writer.new))
+        (λ fault. LookBlames fault (W.failures writer.old) (W.failures writer.new)) }
 {
     let Some(node) = find_key(tree, path) else {
         return Err(LookFault::NoKey);

@@ -1,12 +1,14 @@
 //! A tree as CSV: a row for each key and each value.
-ghost use Rattle.std.specs.Prelude.{◌≡◌, flat_map, List, Some, OnOk, IfErr};
+ghost use Rattle.std.specs.Prelude.{◌≡◌, flat_map, List, Some, OnOk, IfErr, MatchResult};
 ghost use Rattle.std.specs.Io.KnownBytes.{Appends};
 ghost use Rattle.reg_heap.specs.Paths.{Path};
 ghost use Rattle.reg_dump.specs.DumpTexts.{Told};
-ghost use Rattle.reg_dump.specs.DumpFronts.{IsStopped};
+ghost use Rattle.reg_text.specs.Failures.{Stays};
+ghost use Rattle.reg_dump.specs.DumpFronts.{IsStopped, IsBlamed};
 ghost use Rattle.reg_dump.specs.Internal.Gathered.{Puts};
 ghost use Rattle.reg_dump.specs.Internal.Walking.{Goes, Stands};
 ghost use Rattle.reg_looks.specs.Looks.{key_at, IsTold};
+ghost use Rattle.reg_looks.specs.LookBlames.{LookBlames};
 ghost use Rattle.reg_tables.specs.Tables.{key_rows, csv_text, TableStops};
 
 use crate::keys::{find_key, walk_from};
@@ -93,6 +95,8 @@ fn write_table<S: Sink>(
     ensures err { (p : Path) → key_at tree.now.tree path.now ≡ Some p →
         IfErr result (λ fault. IsStopped (S.contents writer.old) (S.contents writer.new) (csv_text tree.now.tree p) fault) }
     ensures flushed { OnOk result (S.is_flushed writer.new) }
+    ensures failures { MatchResult result (λ _. Stays (S.failures writer.old) (S.failures writer.new))
+        (λ fault. IsBlamed fault (S.failures writer.old) (S.failures writer.new)) }
 {
     let mut output = Output::new(alloc);
     put_table(&mut output, writer, alloc, tree, path)?;
@@ -105,7 +109,7 @@ fn write_table<S: Sink>(
 /// 64 KB at a time, but that of a row in one piece, and at the end the writer is flushed.
 ///
 /// `NoKey` where the text is no path or no key is there, and then nothing was written; else `Stopped` where a write or memory failed,
-/// after a front of the text.
+/// after a front of the text. Of the writer's calls just one failed where a write is told, and else none.
 pub fn export_csv<S: Sink>(
     alloc: Global,
     tree: &Tree,
@@ -115,6 +119,8 @@ pub fn export_csv<S: Sink>(
     ensures ok { OnOk result (IsTold (key_at tree.now.tree path.now) (csv_text tree.now.tree) (S.contents writer.old) (S.contents writer.new)) }
     ensures err { IfErr result (λ fault. TableStops fault tree.now.tree path.now (csv_text tree.now.tree) (S.contents writer.old) (S.contents writer.new)) }
     ensures flushed { OnOk result (S.is_flushed writer.new) }
+    ensures failures { MatchResult result (λ _. Stays (S.failures writer.old) (S.failures writer.new))
+        (λ fault. LookBlames fault (S.failures writer.old) (S.failures writer.new)) }
 {
     let Some(_node) = find_key(tree, path) else {
         return Err(LookFault::NoKey);

@@ -1,15 +1,17 @@
 //! A tree as JSON: an array, a line for each key.
-ghost use Rattle.std.specs.Prelude.{◌≡◌, List, flat_map, Some, OnOk, IfErr};
+ghost use Rattle.std.specs.Prelude.{◌≡◌, List, flat_map, Some, OnOk, IfErr, MatchResult};
 ghost use Rattle.std.specs.FinMap.{get};
 ghost use Rattle.std.specs.Io.KnownBytes.{Appends};
 ghost use Rattle.reg_names.specs.Names.{text_of};
 ghost use Rattle.reg_heap.specs.Paths.{Path};
 ghost use Rattle.reg_tree.specs.TreeKeys.{IsAt, IsThere};
 ghost use Rattle.reg_dump.specs.DumpTexts.{Told};
-ghost use Rattle.reg_dump.specs.DumpFronts.{IsStopped};
+ghost use Rattle.reg_text.specs.Failures.{Stays};
+ghost use Rattle.reg_dump.specs.DumpFronts.{IsStopped, IsBlamed};
 ghost use Rattle.reg_dump.specs.Internal.Gathered.{Puts};
 ghost use Rattle.reg_dump.specs.Internal.Walking.{Goes, Stands};
 ghost use Rattle.reg_looks.specs.Looks.{key_at, IsTold};
+ghost use Rattle.reg_looks.specs.LookBlames.{LookBlames};
 ghost use Rattle.reg_tables.specs.Tables.{key_text, more_text, keys_text, json_text, TableStops};
 
 use crate::entry::entry_text;
@@ -128,6 +130,8 @@ fn write_table<S: Sink>(
     ensures err { (p : Path) → key_at tree.now.tree path.now ≡ Some p →
         IfErr result (λ fault. IsStopped (S.contents writer.old) (S.contents writer.new) (json_text tree.now.tree p) fault) }
     ensures flushed { OnOk result (S.is_flushed writer.new) }
+    ensures failures { MatchResult result (λ _. Stays (S.failures writer.old) (S.failures writer.new))
+        (λ fault. IsBlamed fault (S.failures writer.old) (S.failures writer.new)) }
 {
     let mut output = Output::new(alloc);
     put_table(&mut output, writer, alloc, tree, path)?;
@@ -139,7 +143,7 @@ fn write_table<S: Sink>(
 /// The text goes to the writer some 64 KB at a time, but that of a key in one piece, and at the end the writer is flushed.
 ///
 /// `NoKey` where the text is no path or no key is there, and then nothing was written; else `Stopped` where a write or memory failed,
-/// after a front of the text.
+/// after a front of the text. Of the writer's calls just one failed where a write is told, and else none.
 pub fn export_json<S: Sink>(
     alloc: Global,
     tree: &Tree,
@@ -149,6 +153,8 @@ pub fn export_json<S: Sink>(
     ensures ok { OnOk result (IsTold (key_at tree.now.tree path.now) (json_text tree.now.tree) (S.contents writer.old) (S.contents writer.new)) }
     ensures err { IfErr result (λ fault. TableStops fault tree.now.tree path.now (json_text tree.now.tree) (S.contents writer.old) (S.contents writer.new)) }
     ensures flushed { OnOk result (S.is_flushed writer.new) }
+    ensures failures { MatchResult result (λ _. Stays (S.failures writer.old) (S.failures writer.new))
+        (λ fault. LookBlames fault (S.failures writer.old) (S.failures writer.new)) }
 {
     let Some(_node) = find_key(tree, path) else {
         return Err(LookFault::NoKey);
