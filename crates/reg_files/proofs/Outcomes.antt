@@ -1,5 +1,5 @@
 -- What a status says of a request, by what its call answered.
-use Rattle.std.proofs.Common.{◌≡◌, ◌≤◌, ◌∙◌, ◌++◌, ◌⊎◌, ℕ, zero, suc, Bool, List, Option, codes, length, refl, sym, subst, map, inl, inr, arith}
+use Rattle.std.proofs.Common.{◌≡◌, ◌≤◌, ◌∙◌, ◌++◌, ◌⊎◌, ℕ, zero, suc, Bool, List, Option, codes, length, refl, sym, subst, inl, inr, arith}
 use Rattle.std.proofs.Math.Seq.{take-length}
 use Rattle.std.specs.Prelude.{Result, Ok, Err, OnOk, IfOk, MatchResult, ⊤}
 use Rattle.std.specs.Io.KnownBytes.{Appends}

@@ -2,7 +2,7 @@
 use Rattle.std.proofs.Common.{◌≡◌, ◌≤◌, ◌⊎◌, ℕ, zero, suc, List, Option, subst, inl, inr, arith}
 use Rattle.reg_words.specs.CommandLines.{IsCommandLine}
 use Rattle.reg_words.specs.declared.request.Request.{Request}
-use Rattle.reg_files.specs.Serving.{Fails, IsFailed, IsServed, WantsMemory}
+use Rattle.reg_files.specs.Serving.{IsFailed, IsServed, WantsMemory}
 use Rattle.reg_files.specs.Internal.Tellings.{Outcome}
 
 module _ (request : Request) (unread left before after told told_after : Option (List ℕ)) (failed now_failed : Option ℕ) where

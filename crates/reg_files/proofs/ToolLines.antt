@@ -1,8 +1,7 @@
 -- The words that files are told by are command lines of `tool`.
-use Rattle.std.proofs.Common.{◌≡◌, ◌≤◌, ℕ, zero, suc, Option, List, [], ◌∷◌, codes, refl, sym, subst, arith}
+use Rattle.std.proofs.Common.{◌≡◌, ◌≤◌, ℕ, zero, suc, Option, List, [], ◌∷◌, codes, refl, subst, arith}
 use Rattle.clap.proofs.OnLiterals.{clap_on_literals}
 use Rattle.reg_command.specs.CommandLines.{regtool, faults_in, found_in, IsCommandLine, AsksNothing}
-use Rattle.reg_command.specs.declared.words.Request.{Request}
 use Rattle.reg_command.specs.declared.words.Request.TheVariants as tool
 use Rattle.reg_command.proofs.CommandLineLemmas.{named}
 use Rattle.reg_command.specs.Failures.{IsDone, IsStopped}

@@ -1,4 +1,4 @@
-use Rattle.std.proofs.Common.{◌≡◌, ◌≤◌, refl, inl, inr, arith}
+use Rattle.std.proofs.Common.{◌≡◌, refl, inl, inr, arith}
 use Rattle.reg_files.proofs.Statuses.{small, served, failed_by}
 use Rattle.reg_files.proofs.serve.Goals as goal
 

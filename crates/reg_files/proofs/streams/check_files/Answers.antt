@@ -1,4 +1,3 @@
-use Rattle.std.proofs.Common.{map}
 use Rattle.reg_files.proofs.CheckedFiles.{of_several}
 use Rattle.reg_files.proofs.streams.check_files.Goals as goal
 
