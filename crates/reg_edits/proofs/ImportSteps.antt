@@ -9,6 +9,7 @@ use Rattle.reg_calls.specs.Views.{View, IsHive}
 use Rattle.reg_command.specs.ScriptRuns.{image_at}
 use Rattle.reg_entry_reader.specs.declared.entry.Numbered.{Numbered}
 use Rattle.reg_import.specs.Imports.{imported, entries_of}
+use Rattle.reg_import.specs.ImportCalls.{Accepts, import_calls}
 use Rattle.reg_import.specs.ImportStops.{ImportStops}
 use Rattle.reg_import.specs.declared.fault.ImportFault.{ImportFault}
 use Rattle.reg_lookups.specs.Opened.{Opens}
@@ -26,8 +27,9 @@ no_entries (Err fault) root text units e h = NoEntries units e h
 
 -- the entries of a text were made
 pub applies : (moment : ℕ) (text : List ℕ) (old last : View) (entries : List Numbered) → IsText (root_name old) text entries →
-    last.keys.tree ≡ imported moment old.keys.tree (entries_of entries) → Applies moment text old last
-applies moment text old last entries is_text tree = record { entries = entries; is_text = is_text; tree = tree }
+    last.keys.tree ≡ imported moment old.keys.tree (entries_of entries) → Accepts moment old (import_calls moment old (entries_of entries)) last →
+    Applies moment text old last
+applies moment text old last entries is_text tree calls = record { entries = entries; is_text = is_text; tree = tree; calls = calls }
 
 -- an entry stopped it, where no callback is asked
 pub entry_stops : (moment : ℕ) (text : List ℕ) (old last : View) (entries : List Numbered) (fault : ImportFault) →

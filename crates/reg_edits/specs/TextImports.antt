@@ -9,6 +9,7 @@ use Rattle.reg_entry_reader.specs.EntryMeanings.{entries_in, IsRefused}
 use Rattle.reg_entry_reader.specs.declared.entry.Numbered.{Numbered}
 use Rattle.reg_entry_reader.specs.declared.fault.ReadFault.{ReadFault}
 use Rattle.reg_import.specs.Imports.{imported, entries_of}
+use Rattle.reg_import.specs.ImportCalls.{Accepts, import_calls}
 use Rattle.reg_import.specs.ImportStops.{ImportStops}
 use Rattle.reg_lookups.specs.Opened.{Opens, IsUnloaded}
 use Rattle.reg_edits.specs.Edits.{begin_of, next_sequence, sequence_in, IsToSave}
@@ -30,13 +31,14 @@ pub data IsNoText (root text : List ℕ) (fault : ReadFault) : Type 0 where
 abbrev pub root_name : View → List ℕ
 root_name hive = name_of (get hive.keys.tree [])
 
--- the entries of a text were made in a hive, at a moment
+-- the entries of a text were made in a hive, at a moment, by their calls, one after another
 pub record Applies (moment : ℕ) (text : List ℕ) (old last : View) : Type 0 where
   pub entries : List Numbered
   pub is_text : IsText (root_name old) text entries
   pub tree : last.keys.tree ≡ imported moment old.keys.tree (entries_of entries)
+  pub calls : Accepts moment old (import_calls moment old (entries_of entries)) last
 
--- why they weren't: the text wasn't read, or an entry stopped it, where the hive stood then
+-- why they weren't: the text wasn't read; or an entry stopped it, in the hive to which the calls before led
 abbrev pub ApplyStops : ImportEnd → ℕ → List ℕ → View → Type 0
 ApplyStops (Text fault) moment text old = IsNoText (root_name old) text fault
 ApplyStops (Entry fault) moment text old =

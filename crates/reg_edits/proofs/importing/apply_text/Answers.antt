@@ -8,7 +8,7 @@ returns-in_err-entries-clause-err g c =
     if_err _ c.from_residual.result _ c.from_residual.ensures.1 c.in_err-entries.ensures.err
 
 pub returns-in-Ok-clause-ok : goal.returns-in-Ok-clause-ok
-returns-in-Ok-clause-ok g c = applies _ _ _ _ _ c.in_ok-entries.ensures.ok c.in-Ok.ensures.ok
+returns-in-Ok-clause-ok g c = applies _ _ _ _ _ c.in_ok-entries.ensures.ok c.in-Ok.ensures.ok c.in-Ok.ensures.calls
 
 pub returns-in-Err-clause-err : goal.returns-in-Err-clause-err
 returns-in-Err-clause-err g c =
