@@ -1,5 +1,5 @@
 -- The bins of an image stand behind a base block of 4,096 bytes.
-use Rattle.std.proofs.Common.{◌≡◌, ◌≢◌, ℕ, ◌+◌, ◌≤◌, List, length, drop, refl, sym, ap, ◌∙◌, arith, length-append}
+use Rattle.std.proofs.Common.{◌≡◌, ℕ, ◌+◌, ◌≤◌, List, length, drop, refl, sym, ap, ◌∙◌, arith, length-append}
 use Rattle.reg_image.proofs.CleanWalks.CleanLists.{drop-front}
 use Rattle.reg_image.specs.BaseBlock.{block_of}
 use Rattle.reg_image.specs.Images.{image_of}
