@@ -28,7 +28,9 @@ returns-in_err-make-clause-err g c before s i =
     if_err (IsStoppedAt (asks_of g.C.Callback.answers c.args.hive.now) now.moment c.args.line h (GoneKey c.args.path) old new)
     c.from_residual.result _ c.from_residual.ensures.1
     (stopped-later g.C.Callback.answers (callbacks_of c.args.hive.now) (callbacks_of c.args.hive.now) now.moment c.args.line h (GoneKey c.args.path) old old new []
-    (DeleteTree now.root c.args.path) _ refl c.in_err-make.ensures.same (gone_key-calls h c.args.path (absent ∙ c.if-lacks_key.false)) refl i.rooted.tree_is (asks-gone_key before now old s i c.args.path (absent ∙ c.if-lacks_key.false)) c.in_err-make.ensures.err)
+    (DeleteTree now.root c.args.path) _ refl
+    c.in_err-make.ensures.same (gone_key-calls h c.args.path (absent ∙ c.if-lacks_key.false)) refl i.rooted.tree_is
+    (asks-gone_key before now old s i c.args.path (absent ∙ c.if-lacks_key.false)) c.in_err-make.ensures.err)
 
 pub returns-clause-ok : goal.returns-clause-ok
 returns-clause-ok g c before s i =

@@ -29,7 +29,9 @@ returns-in_err-make-clause-err g c before s i =
     if_err (IsStoppedAt (asks_of g.C.Callback.answers c.args.hive.now) now.moment c.args.line h (GoneValue c.args.name) old new)
     c.from_residual.result _ c.from_residual.ensures.1
     (stopped-later g.C.Callback.answers (callbacks_of c.args.hive.now) (callbacks_of c.args.hive.now) now.moment c.args.line h (GoneValue c.args.name) old old new []
-    (DeleteValue now.key c.args.name) _ refl c.in_err-make.ensures.same (gone_value-calls h c.args.name (value-there before now old s i c.args.name _ is)) refl i.rooted.tree_is (asks-gone_value before now old s i c.args.name is) c.in_err-make.ensures.err)
+    (DeleteValue now.key c.args.name) _ refl
+    c.in_err-make.ensures.same (gone_value-calls h c.args.name (value-there before now old s i c.args.name _ is)) refl i.rooted.tree_is
+    (asks-gone_value before now old s i c.args.name is) c.in_err-make.ensures.err)
 
 pub returns-clause-ok : goal.returns-clause-ok
 returns-clause-ok g c before s i =

@@ -17,7 +17,8 @@ returns-in_err-make-clause-err g c before s i =
     if_err (IsStoppedAt (asks_of g.C.Callback.answers c.args.hive.now) now.moment c.args.line h (Value c.args.name c.args.kind c.args.bytes) old new)
     c.from_residual.result _ c.from_residual.ensures.1
     (stopped-later g.C.Callback.answers (callbacks_of c.args.hive.now) (callbacks_of c.args.hive.now) now.moment c.args.line h (Value c.args.name c.args.kind c.args.bytes) old old new []
-    (SetValue now.key c.args.name c.args.kind c.args.bytes) _ refl c.in_err-make.ensures.same refl refl i.rooted.tree_is (asks-value before now old s i c.args.name c.args.kind c.args.bytes) c.in_err-make.ensures.err)
+    (SetValue now.key c.args.name c.args.kind c.args.bytes) _ refl
+    c.in_err-make.ensures.same refl refl i.rooted.tree_is (asks-value before now old s i c.args.name c.args.kind c.args.bytes) c.in_err-make.ensures.err)
 
 pub returns-clause-ok : goal.returns-clause-ok
 returns-clause-ok g c before s i =
