@@ -17,7 +17,7 @@ use Rattle.reg_entry_reader.specs.EntryMeanings.{Reading, entries_in}
 use Rattle.reg_entry_reader.specs.FileUnits.{units_of}
 use Rattle.reg_import.specs.Imports.{imported, entries_of}
 use Rattle.reg_lookups.specs.ImageExports.{Exports}
-use Rattle.reg_edits.specs.TextImports.{root_name, Applies}
+use Rattle.reg_edits.specs.TextImports.{root_name, Applies, IsText}
 use Rattle.reg_entry_making.specs.MadeAgain.{IsBare, HasSame, HasSameBelow}
 use Rattle.reg_entry_making.proofs.AnyBranch.{whole-root}
 use Rattle.reg_entry_law.specs.MadeOfFiles.{IsBranchOfFile}
@@ -35,8 +35,8 @@ found tree text path e =
     let there : IsSome (get tree (folded_path text)) = (and_parts (is_path text) (is_some (get tree (folded_path text))) at.0).1 in
     (subst (λ (p : Path). IsSome (get tree p)) at.1 there, at.1)
 
-module _ (image path file held : List ℕ) (is_utf8 : Bool) (moment : ℕ) (old last : View)
-    (export : Exports image path is_utf8 (Some held) (Some (held ++ file))) (applied : Applies moment file old last) (bare : IsBare old.keys.tree)
+module _ (image path file held : List ℕ) (is_utf8 : Bool) (moment : ℕ) (old : View)
+    (export : Exports image path is_utf8 (Some held) (Some (held ++ file))) (bare : IsBare old.keys.tree)
     (named : folded (root_name old) ≡ folded (root_name export.hive)) where
   abbrev tree : Tree
   tree = export.hive.keys.tree
@@ -59,24 +59,28 @@ module _ (image path file held : List ℕ) (is_utf8 : Bool) (moment : ℕ) (old 
   made : IsBranchOfFile is_utf8 tree at old.keys.tree moment
   made = branch-of_file is_utf8 tree old.keys.tree at moment is-tree is-small export.of_bytes found-at.0 export.written.2 bare named
 
-  same-units : made.1.0 ≡ applied.is_text.units
-  same-units = same_Some _ _ (sym made.1.2 ∙ (ap units_of (sym file-is) ∙ applied.is_text.units_are))
+  pub is-read : (entries : List Numbered) × IsText (root_name old) file entries
+  is-read = (made.1.1, record { units = made.1.0; units_are = ap units_of file-is ∙ made.1.2; read = made.1.3 })
 
-  same-entries : made.1.1 ≡ applied.entries
-  same-entries =
-      ap read_of (sym made.1.3 ∙ (ap (λ (units : List ℕ). entries_in (root_name old) units) same-units ∙ applied.is_text.read))
+  module _ (last : View) (applied : Applies moment file old last) where
+    same-units : made.1.0 ≡ applied.is_text.units
+    same-units = same_Some _ _ (sym made.1.2 ∙ (ap units_of (sym file-is) ∙ applied.is_text.units_are))
 
-  same-tree : made.0 ≡ last.keys.tree
-  same-tree =
-      made.1.4 ∙ (ap (λ (entries : List Numbered). imported moment old.keys.tree (entries_of entries)) same-entries ∙ sym applied.tree)
+    same-entries : made.1.1 ≡ applied.entries
+    same-entries =
+        ap read_of (sym made.1.3 ∙ (ap (λ (units : List ℕ). entries_in (root_name old) units) same-units ∙ applied.is_text.read))
 
-  pub branch-returns : HasSameBelow last.keys.tree tree (folded_path path)
-  branch-returns =
-      subst (λ (p : Path). HasSameBelow last.keys.tree tree p) (sym found-at.1)
-      (subst (λ (t : Tree). HasSameBelow t tree at) same-tree made.2)
+    same-tree : made.0 ≡ last.keys.tree
+    same-tree =
+        made.1.4 ∙ (ap (λ (entries : List Numbered). imported moment old.keys.tree (entries_of entries)) same-entries ∙ sym applied.tree)
+
+    pub branch-returns : HasSameBelow last.keys.tree tree (folded_path path)
+    branch-returns =
+        subst (λ (p : Path). HasSameBelow last.keys.tree tree p) (sym found-at.1)
+        (subst (λ (t : Tree). HasSameBelow t tree at) same-tree made.2)
 
 pub tree-returns : (image file held : List ℕ) (is_utf8 : Bool) (moment : ℕ) (old last : View)
     (export : Exports image [] is_utf8 (Some held) (Some (held ++ file))) → Applies moment file old last → IsBare old.keys.tree →
     folded (root_name old) ≡ folded (root_name export.hive) → HasSame last.keys.tree export.hive.keys.tree
 tree-returns image file held is_utf8 moment old last export applied bare named =
-    whole-root last.keys.tree export.hive.keys.tree (branch-returns image [] file held is_utf8 moment old last export applied bare named)
+    whole-root last.keys.tree export.hive.keys.tree (branch-returns image [] file held is_utf8 moment old export bare named last applied)

@@ -13,7 +13,7 @@ use std::rt::Clock;
 use std::sync::atomic::{AtomicBool, AtomicU64, Ordering};
 use std::time::Duration;
 
-/// How many milliseconds [`tell_each_second`] sleeps before it looks again, so at most that long it outlasts the work.
+/// How many milliseconds [`tell_each_second`] sleeps before it looks again whether the work is over.
 const NAP: u64 = 20;
 
 /// What is known of a piece of work while it goes on.
@@ -22,7 +22,9 @@ pub struct Work {
     /// How many bytes it wrote.
     bytes: AtomicU64,
     /// Whether it waits for its input.
-    is_waiting: AtomicBool,
+    is_reading: AtomicBool,
+    /// Whether it waits until its output is taken.
+    is_writing: AtomicBool,
     is_over: AtomicBool,
 }
 
@@ -31,7 +33,8 @@ impl Work {
     pub fn new() -> Work {
         Work {
             bytes: AtomicU64::new(0),
-            is_waiting: AtomicBool::new(false),
+            is_reading: AtomicBool::new(false),
+            is_writing: AtomicBool::new(false),
             is_over: AtomicBool::new(false),
         }
     }
@@ -62,7 +65,10 @@ impl<W: Write> Write for Counted<'_, W> {
     ghost contents = { λ counted. W.contents counted.writer };
 
     fn write(&mut self, bytes: &[u8]) -> io::Result<usize> {
-        let count = self.writer.write(bytes)?;
+        self.work.is_writing.store(true, Ordering::SeqCst);
+        let answer = self.writer.write(bytes);
+        self.work.is_writing.store(false, Ordering::SeqCst);
+        let count = answer?;
         self.work.bytes.fetch_add(count as u64, Ordering::SeqCst);
         Ok(count)
     }
@@ -92,52 +98,58 @@ impl<R: Read> Read for Awaited<'_, R> {
     ghost remaining = { λ awaited. R.remaining awaited.reader };
 
     fn read(&mut self, buffer: &mut [u8]) -> io::Result<usize> {
-        self.work.is_waiting.store(true, Ordering::SeqCst);
+        self.work.is_reading.store(true, Ordering::SeqCst);
         let answer = self.reader.read(buffer);
-        self.work.is_waiting.store(false, Ordering::SeqCst);
+        self.work.is_reading.store(false, Ordering::SeqCst);
         answer
     }
 }
 
-/// Tells how long the work has gone on, where a second went by since that was told, and answers how many seconds were told. While the
-/// work waits for its input nothing is told; nor, where it writes to the same terminal, after its first byte.
-fn tell_second<E: Write, C: Clock>(
+/// Tells how many seconds were worked, where these are more than were told, and answers how many were told. While the work waits until its
+/// output is taken nothing is told; nor, where that goes to the same terminal, after its first byte.
+fn tell_seconds<E: Write>(
     work: &Work,
     errors: &mut E,
-    clock: &C,
-    begun: Duration,
+    seconds: u64,
     told: u64,
     is_mixed: bool,
 ) -> u64 {
-    let Ok(now) = clock.monotonic() else {
-        return told;
-    };
-    let seconds = now.saturating_sub(begun).as_secs();
     let bytes = work.bytes.load(Ordering::SeqCst);
-    if seconds <= told || work.is_waiting.load(Ordering::SeqCst) || (is_mixed && bytes > 0) {
+    if seconds <= told || work.is_writing.load(Ordering::SeqCst) || (is_mixed && bytes > 0) {
         return told;
     }
     let _ = writeln!(errors, "{seconds} s, {bytes} bytes written");
     seconds
 }
 
-/// Tells once a second how long the work has gone on and how many bytes it wrote, until it is over, or at once nothing more where the
-/// clock can't be asked. `is_mixed` says that it writes to the terminal on which that is told.
+/// Tells once a second how long was worked and how many bytes were written, until the work is over or the clock can't be asked. What the
+/// work waits for its input isn't counted. `is_mixed` says that it writes to the terminal on which that is told.
 pub fn tell_each_second<E: Write, C: Clock>(
     work: &Work,
     errors: &mut E,
     clock: &C,
     is_mixed: bool,
 ) {
-    let Ok(begun) = clock.monotonic() else {
+    let Ok(mut seen) = clock.monotonic() else {
         return;
     };
+    let mut worked = Duration::ZERO;
     let mut told = 0;
     for _ in 0..u64::MAX {
+        clock.sleep(Duration::from_millis(NAP));
         if work.is_over.load(Ordering::SeqCst) {
             return;
         }
-        told = tell_second(work, errors, clock, begun, told, is_mixed);
-        clock.sleep(Duration::from_millis(NAP));
+        let Ok(now) = clock.monotonic() else {
+            return;
+        };
+        if !work.is_reading.load(Ordering::SeqCst) {
+            worked = worked.saturating_add(now.saturating_sub(seen));
+            told = tell_seconds(work, errors, worked.as_secs(), told, is_mixed);
+        }
+        seen = now;
     }
 }
+
+#[cfg(test)]
+mod tests;
