@@ -1,5 +1,7 @@
 //! What is told of a piece of work, by a clock that stands still but for its sleeps.
 
+ghost use Rattle.std.specs.Prelude.{None};
+
 use crate::{Awaited, Counted, Work, tell_each_second};
 use std::alloc::Global;
 use std::cell::Cell;
@@ -101,7 +103,10 @@ fn told_meanwhile(alloc: Global, is_read: bool) -> Vec<u8> {
 #[test]
 fn tells_each_second_until_the_end(rt: HostRuntime) {
     let told = told_behind(rt.alloc(), b"abc", false);
-    assert_eq!(rt; told.as_slice(), b"1 s, 3 bytes written\n2 s, 3 bytes written\n".as_slice());
+    assert_eq!(rt;
+        told.as_slice(),
+        b"1 s, 3 bytes written\n2 s, 3 bytes written\n".as_slice()
+    );
 }
 
 #[test]
@@ -113,7 +118,10 @@ fn tells_nothing_between_lines_of_the_work(rt: HostRuntime) {
 #[test]
 fn tells_before_the_first_line_of_the_work(rt: HostRuntime) {
     let told = told_behind(rt.alloc(), b"", true);
-    assert_eq!(rt; told.as_slice(), b"1 s, 0 bytes written\n2 s, 0 bytes written\n".as_slice());
+    assert_eq!(rt;
+        told.as_slice(),
+        b"1 s, 0 bytes written\n2 s, 0 bytes written\n".as_slice()
+    );
 }
 
 #[test]
