@@ -1,3 +1,4 @@
+pub mod EnteredTexts
 pub mod CheckedFiles
 pub mod Outcomes
 pub mod Statuses
