@@ -133,8 +133,9 @@ Serves (New file name) unread left before after told told_after = IsUntouched un
 Serves (Edit edit) unread left before after told told_after = EditsFile edit unread left before after
 Serves (Import edit) unread left before after told told_after = Enters edit unread left × (after ≡ before)
 
--- what it did where the status is 1, so that something was told: `diff` that the hives in some bytes differ, `tool` what stopped it, or a
--- line what was refused or faulty. Edits and imports may have read, and but for `new` and imports all may have written
+-- what it did where the status is 1: `diff` told that the hives in some bytes differ; or `tool` was stopped, and `IsStopped` says what
+-- that leaves, of which nothing need be told where a write or memory failed; or a line was told of what was refused or faulty. Edits and
+-- imports may have read, and but for `new` and imports all may have written
 abbrev pub Fails : Request → (unread left before after told told_after : Option (List ℕ)) → (failed now_failed : Option ℕ) → Type 0
 Fails (Dump file) unread left before after told told_after failed now_failed =
     (left ≡ unread) × (((after ≡ before) × TellsFault told told_after failed now_failed)

@@ -9,6 +9,7 @@ ghost use Rattle.reg_files.specs.Internal.Tellings.{Settles};
 use crate::fault::{DiffEnd, Fault};
 use reg_edits::EditFault;
 use reg_entry_reader::ReadFault;
+use reg_image::LoadFault;
 use reg_lookups::LookupFault;
 use reg_text::{Sink, write_counted, write_escaped};
 use reg_words::EditRequest;
@@ -25,6 +26,10 @@ fn line_break_text(alloc: Global, file: &str, key: &[u8]) -> Result<String, Allo
 /// What is told of what ended a command on a file, without its `error`.
 fn fault_text(alloc: Global, file: &str, fault: &Fault) -> Result<String, AllocError> {
     match fault {
+        Fault::Load(LoadFault::Memory)
+        | Fault::Edit(EditFault::Load(LoadFault::Memory) | EditFault::Memory)
+        | Fault::Lookup(LookupFault::Load(LoadFault::Memory))
+        | Fault::Memory => format!(in alloc; "8"),
         Fault::Busy => format!(in alloc; "busy {file}"),
         Fault::NoFile => format!(in alloc; "file {file}: {fault}"),
         Fault::Name => format!(in alloc; "name {file}: {fault}"),
@@ -52,7 +57,6 @@ fn fault_text(alloc: Global, file: &str, fault: &Fault) -> Result<String, AllocE
         Fault::Pattern(fault) => format!(in alloc; "pattern: {fault}"),
         Fault::Lookup(LookupFault::Look(fault)) => { format!(in alloc; "missing {file}: {fault}") }
         Fault::Cut(written) => format!(in alloc; "1013 written {written}"),
-        Fault::Edit(EditFault::Memory) | Fault::Memory => format!(in alloc; "8"),
     }
 }
 
