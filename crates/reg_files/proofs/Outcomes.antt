@@ -1,7 +1,7 @@
 -- What a status says of a request, by what its call answered.
 use Rattle.std.proofs.Common.{◌≡◌, ◌≤◌, ◌∙◌, ◌++◌, ◌⊎◌, ℕ, zero, suc, Bool, List, Option, codes, length, refl, sym, subst, inl, inr, arith}
 use Rattle.std.proofs.Math.Seq.{take-length}
-use Rattle.std.specs.Prelude.{Result, Ok, Err, OnOk, IfOk, MatchResult, ⊤}
+use Rattle.std.specs.Prelude.{Result, Ok, Err, OnOk, OnErr, IfOk, MatchResult, ⊤}
 use Rattle.std.specs.Io.KnownBytes.{Appends}
 use Rattle.reg_command.specs.Failures.{IsFront, IsSaid}
 use Rattle.reg_text.specs.Texts.{line_feed}
@@ -12,14 +12,14 @@ use Rattle.reg_files.specs.declared.streams.Telling.TheVariants as telling
 
 module _ (request : Request) (unread left before after told told_after : Option (List ℕ)) (failed now_failed : Option ℕ) where
   -- it is done or not
-  pub settled : {A E : Type 0} (P : Type 0) (r : Result A E) (status : ℕ) → Settles r status told told_after failed now_failed → OnOk r P →
-      (P → Serves request unread left before after told told_after)
-      → (TellsFault told told_after failed now_failed → Fails request unread left before after told told_after failed now_failed)
+  pub settled : {A E : Type 0} (P Q : Type 0) (r : Result A E) (status : ℕ) → Settles r status told told_after failed now_failed → OnOk r P →
+      OnErr r Q → (P → Serves request unread left before after told told_after)
+      → (Q → TellsFault told told_after failed now_failed → Fails request unread left before after told told_after failed now_failed)
       → Outcome request status unread left before after told told_after failed now_failed
-  settled P (Ok a) status s h serves fails =
+  settled P Q (Ok a) status s h stops serves fails =
       subst (λ (n : ℕ). Outcome request n unread left before after told told_after failed now_failed) (sym s.0) (serves h, s.1)
-  settled P (Err e) status s h serves fails =
-      subst (λ (n : ℕ). Outcome request n unread left before after told told_after failed now_failed) (sym s.0) (fails s.1)
+  settled P Q (Err e) status s h stops serves fails =
+      subst (λ (n : ℕ). Outcome request n unread left before after told told_after failed now_failed) (sym s.0) (fails stops s.1)
 
   -- it may be done with two statuses
   pub either : (status : ℕ) → status ≤ 1 → (status ≡ 0 → Serves request unread left before after told told_after × (told_after ≡ told))
@@ -33,6 +33,11 @@ module _ (request : Request) (unread left before after told told_after : Option 
 pub any_done : {A E : Type 0} (r : Result A E) → OnOk r ⊤
 any_done (Ok a) = tt
 any_done (Err e) = tt
+
+-- nor of what isn't
+pub any_stop : {A E : Type 0} (r : Result A E) → OnErr r ⊤
+any_stop (Ok a) = tt
+any_stop (Err e) = tt
 
 module _ (request : Request) (unread before after told told_after : Option (List ℕ)) (failed now_failed : Option ℕ) where
   -- some files were counted

@@ -5,13 +5,18 @@ use Rattle.reg_command.specs.CommandLines.{AsksNothing as AsksNothingOfTool}
 use Rattle.reg_command.specs.Failures.{IsDone, IsFront, IsSaid, IsStopped, IsRefused as IsRefusedByTool}
 use Rattle.reg_text.specs.Texts.{line_feed}
 use Rattle.reg_words.specs.CommandLines.{AsksNothing, IsCommandLine}
-use Rattle.reg_edits.specs.Edits.{Edits, IsUntouched}
+use Rattle.reg_edits.specs.Edits.{Edits, EditStops, IsUntouched}
+use Rattle.reg_edits.specs.declared.edits.EditFault.{EditFault}
 use Rattle.reg_find.specs.declared.scope.Scope.{Scope}
-use Rattle.reg_tables.specs.Tables.{json_text, csv_text}
-use Rattle.reg_lookups.specs.Lookups.{Lists, Gets, Tabulates}
-use Rattle.reg_lookups.specs.Finds.{Finds}
+use Rattle.reg_looks.specs.Looks.{ListStops, GetStops}
+use Rattle.reg_tables.specs.Tables.{json_text, csv_text, TableStops}
+use Rattle.reg_lookups.specs.Lookups.{Lists, Gets, Tabulates, LookupStops}
+use Rattle.reg_lookups.specs.Finds.{Finds, FindStops}
+use Rattle.reg_lookups.specs.declared.fault.LookupFault.{LookupFault}
+use Rattle.reg_lookups.specs.declared.fault.FindFault.{FindFault}
+use Rattle.reg_lookups.specs.declared.fault.ExportEnd.{ExportEnd}
 use Rattle.reg_lookups.specs.Differs.{Differs}
-use Rattle.reg_lookups.specs.ImageExports.{Exports}
+use Rattle.reg_lookups.specs.ImageExports.{Exports, ExportEnds}
 use Rattle.reg_edits.specs.TextImports.{Imports}
 use Rattle.reg_words.specs.declared.request.EditRequest.{EditRequest}
 use Rattle.reg_words.specs.declared.request.Form.{Form}
@@ -113,6 +118,44 @@ Enters edit unread left =
     (text : List ℕ) × (bytes : List ℕ) × (given : Option ℕ) × (saved : Option (List ℕ))
     × IsAtEnd left × Consumes unread left text × IsGiven edit.begin given × Imports bytes given text saved
 
+-- why a key wasn't listed, or not to the end: the file wasn't read, and nothing was written; or what ended it on the hive in some bytes
+abbrev pub StopsListing : (path : List ℕ) → (is_whole : Bool) → (before after : Option (List ℕ)) → Type 0
+StopsListing path is_whole before after =
+    (after ≡ before) ⊎ ((bytes : List ℕ) × (fault : LookupFault)
+    × LookupStops fault bytes (λ tree look. ListStops look tree path is_whole before after) before after)
+
+-- the same of a value that wasn't told
+abbrev pub StopsGetting : (path name : List ℕ) → (is_raw : Bool) → (before after : Option (List ℕ)) → Type 0
+StopsGetting path name is_raw before after =
+    (after ≡ before) ⊎ ((bytes : List ℕ) × (fault : LookupFault)
+    × LookupStops fault bytes (λ tree look. GetStops look tree path name is_raw before after) before after)
+
+-- of a pattern
+abbrev pub StopsFinding : (pattern : List ℕ) → Scope → (before after : Option (List ℕ)) → Type 0
+StopsFinding pattern scope before after =
+    (after ≡ before) ⊎ ((bytes : List ℕ) × (fault : FindFault) × FindStops fault bytes pattern scope before after)
+
+-- what ended the writing of a key of the hive in some bytes in a form of text
+abbrev pub WriteStops : Form → (bytes path : List ℕ) → (before after : Option (List ℕ)) → Type 0
+WriteStops (Reg is_utf8) bytes path before after = (fault : ExportEnd) × ExportEnds fault bytes path is_utf8 before after
+WriteStops Json bytes path before after =
+    (fault : LookupFault) × LookupStops fault bytes (λ tree look. TableStops look tree path (json_text tree) before after) before after
+WriteStops Csv bytes path before after =
+    (fault : LookupFault) × LookupStops fault bytes (λ tree look. TableStops look tree path (csv_text tree) before after) before after
+
+-- and of a key that wasn't written, or not to the end
+abbrev pub StopsWriting : Form → (path : List ℕ) → (before after : Option (List ℕ)) → Type 0
+StopsWriting form path before after = (after ≡ before) ⊎ ((bytes : List ℕ) × WriteStops form bytes path before after)
+
+-- why an edit wasn't saved: it wasn't begun, and nothing was read or written; or what ended the script on the hive in some bytes; or the
+-- script was run to its end, and saving what it made was refused
+abbrev pub StopsEditing : EditRequest → (unread left before after : Option (List ℕ)) → Type 0
+StopsEditing edit unread left before after =
+    IsUntouched unread left before after
+    ⊎ ((bytes : List ℕ) × (given : Option ℕ) × (fault : EditFault) × IsGiven edit.begin given
+    × EditStops fault bytes given unread left before after)
+    ⊎ EditsFile edit unread left before after
+
 -- what a request did with the input and the output, where the status is 0: an edit ran the script on the hive in some bytes, those of the
 -- file; a key or a value of the hive in some bytes was told, or each of some files counted; and the others, too, read nothing
 abbrev pub Serves : Request → (unread left before after told told_after : Option (List ℕ)) → Type 0
@@ -133,8 +176,9 @@ Serves (New file name) unread left before after told told_after = IsUntouched un
 Serves (Edit edit) unread left before after told told_after = EditsFile edit unread left before after
 Serves (Import edit) unread left before after told told_after = Enters edit unread left × (after ≡ before)
 
--- what it did where the status is 1, so that something was told: `diff` that the hives in some bytes differ, `tool` what stopped it, or a
--- line what was refused or faulty. Edits and imports may have read, and but for `new` and imports all may have written
+-- what it did where the status is 1: `diff` told that the hives in some bytes differ, or `tool` was stopped, and `IsStopped` says what that
+-- leaves, or a line was told of what was refused or faulty. What was read and written by then is what ended it left: but for `diff`, and
+-- for an import's reading, of which nothing is said
 abbrev pub Fails : Request → (unread left before after told told_after : Option (List ℕ)) → (failed now_failed : Option ℕ) → Type 0
 Fails (Dump file) unread left before after told told_after failed now_failed =
     (left ≡ unread) × (((after ≡ before) × TellsFault told told_after failed now_failed)
@@ -145,9 +189,17 @@ Fails (Diff old new) unread left before after told told_after failed now_failed 
     (left ≡ unread) × ((AreOther before after × (told_after ≡ told)) ⊎ TellsFault told told_after failed now_failed)
 Fails (New file name) unread left before after told told_after failed now_failed =
     IsUntouched unread left before after × TellsFault told told_after failed now_failed
-Fails (Edit edit) unread left before after told told_after failed now_failed = TellsFault told told_after failed now_failed
+Fails (Edit edit) unread left before after told told_after failed now_failed =
+    StopsEditing edit unread left before after × TellsFault told told_after failed now_failed
 Fails (Import edit) unread left before after told told_after failed now_failed = (after ≡ before) × TellsFault told told_after failed now_failed
-Fails request unread left before after told told_after failed now_failed = (left ≡ unread) × TellsFault told told_after failed now_failed
+Fails (Listing file path is_whole) unread left before after told told_after failed now_failed =
+    (left ≡ unread) × StopsListing path.now is_whole before after × TellsFault told told_after failed now_failed
+Fails (Get file path name is_raw) unread left before after told told_after failed now_failed =
+    (left ≡ unread) × StopsGetting path.now name.now is_raw before after × TellsFault told told_after failed now_failed
+Fails (Find file pattern places) unread left before after told told_after failed now_failed =
+    (left ≡ unread) × StopsFinding pattern.now (scope_of places) before after × TellsFault told told_after failed now_failed
+Fails (Export file path form) unread left before after told told_after failed now_failed =
+    (left ≡ unread) × StopsWriting form path.now before after × TellsFault told told_after failed now_failed
 
 -- what the words ask for of files was done, and nothing was told on the side
 pub record IsServed (words : List (List ℕ)) (unread left before after told told_after : Option (List ℕ)) : Type 0 where

@@ -1,10 +1,11 @@
 //! The commands on files.
 
-ghost use Rattle.std.specs.Prelude.{◌≡◌, ◌≤◌, ℕ, List, IfOk, OnOk, codes};
+ghost use Rattle.std.specs.Prelude.{◌≡◌, ◌≤◌, ℕ, List, IfOk, OnOk, OnErr, codes};
 ghost use Rattle.std.specs.Io.KnownBytes.{Appends, Consumes, IsAtEnd};
 ghost use Rattle.reg_lookups.specs.Lookups.{Lists, Gets};
 ghost use Rattle.reg_lookups.specs.Finds.{Finds};
 ghost use Rattle.reg_files.specs.Serving.{IsGiven, scope_of, AreSame, AreOther, WritesAs, Enters, EditsFile};
+ghost use Rattle.reg_files.specs.Serving.{StopsListing, StopsGetting, StopsFinding, WriteStops, StopsWriting, StopsEditing};
 
 use crate::fault::{DiffEnd, Fault, Step, taken};
 use crate::locks::{Lockable, open_locked, read_image, real_path};
@@ -39,7 +40,8 @@ pub fn list_key<H: Files, W: Write>(
     is_whole: bool,
     output: &mut W,
 ) -> Result<(), Fault>
-    ensures { OnOk result ((bytes : List ℕ) × Lists bytes path.now is_whole (W.contents output.old) (W.contents output.new)) }
+    ensures ok { OnOk result ((bytes : List ℕ) × Lists bytes path.now is_whole (W.contents output.old) (W.contents output.new)) }
+    ensures err { OnErr result (StopsListing path.now is_whole (W.contents output.old) (W.contents output.new)) }
 {
     let image = image_in(alloc, host, file)?;
     match list(alloc, image.as_slice(), path.as_bytes(), is_whole, output) {
@@ -58,7 +60,8 @@ pub fn get_value<H: Files, W: Write>(
     is_raw: bool,
     output: &mut W,
 ) -> Result<(), Fault>
-    ensures { OnOk result ((bytes : List ℕ) × Gets bytes path.now name.now is_raw (W.contents output.old) (W.contents output.new)) }
+    ensures ok { OnOk result ((bytes : List ℕ) × Gets bytes path.now name.now is_raw (W.contents output.old) (W.contents output.new)) }
+    ensures err { OnErr result (StopsGetting path.now name.now is_raw (W.contents output.old) (W.contents output.new)) }
 {
     let image = image_in(alloc, host, file)?;
     match get(
@@ -83,7 +86,8 @@ pub fn find_in<H: Files, W: Write>(
     places: Places,
     output: &mut W,
 ) -> Result<(), Fault>
-    ensures { OnOk result ((bytes : List ℕ) × Finds bytes pattern.now (scope_of places) (W.contents output.old) (W.contents output.new)) }
+    ensures ok { OnOk result ((bytes : List ℕ) × Finds bytes pattern.now (scope_of places) (W.contents output.old) (W.contents output.new)) }
+    ensures err { OnErr result (StopsFinding pattern.now (scope_of places) (W.contents output.old) (W.contents output.new)) }
 {
     let image = image_in(alloc, host, file)?;
     let scope = Scope {
@@ -105,7 +109,8 @@ fn export_as<W: Write>(
     form: Form,
     output: &mut W,
 ) -> Result<(), Fault>
-    ensures { OnOk result (WritesAs form image.now path.now (W.contents output.old) (W.contents output.new)) }
+    ensures ok { OnOk result (WritesAs form image.now path.now (W.contents output.old) (W.contents output.new)) }
+    ensures err { OnErr result (WriteStops form image.now path.now (W.contents output.old) (W.contents output.new)) }
 {
     match form {
         Form::Reg { is_utf8 } => export(alloc, image, path, is_utf8, output)?,
@@ -124,7 +129,8 @@ pub fn export_key<H: Files, W: Write>(
     form: Form,
     output: &mut W,
 ) -> Result<(), Fault>
-    ensures { OnOk result ((bytes : List ℕ) × WritesAs form bytes path.now (W.contents output.old) (W.contents output.new)) }
+    ensures ok { OnOk result ((bytes : List ℕ) × WritesAs form bytes path.now (W.contents output.old) (W.contents output.new)) }
+    ensures err { OnErr result (StopsWriting form path.now (W.contents output.old) (W.contents output.new)) }
 {
     let image = image_in(alloc, host, file)?;
     export_as(alloc, image.as_slice(), path.as_bytes(), form, output)
@@ -230,7 +236,8 @@ pub fn edit_file<H: Files + Clock, R: PutBack, W: Write>(
 ) -> Result<(), Fault>
 where
     H::File: Lockable,
-    ensures { OnOk result (EditsFile request.entry (R.remaining input.old) (R.remaining input.new) (W.contents output.old) (W.contents output.new)) }
+    ensures ok { OnOk result (EditsFile request.entry (R.remaining input.old) (R.remaining input.new) (W.contents output.old) (W.contents output.new)) }
+    ensures err { OnErr result (StopsEditing request.entry (R.remaining input.old) (R.remaining input.new) (W.contents output.old) (W.contents output.new)) }
 {
     let begin = begin_at(host, request.begin)?;
     let mut opened = open_for(alloc, host, request)?;

@@ -7,5 +7,5 @@ pub returns : goal.returns
 returns g c =
     λ unread. settled (Export c.args.file c.args.path c.args.form) unread unread (g.W.Write.contents c.args.output.now) (g.W.Write.contents c.export_key-done.new.output)
     (g.E.Sink.contents c.args.errors.now) (g.E.Sink.contents c.settle_done.new.errors)
-    (g.E.Sink.failures c.args.errors.now) (g.E.Sink.failures c.settle_done.new.errors) _ c.export_key-done.result c.settle_done.result
-    c.settle_done.ensures c.export_key-done.ensures (λ done. (refl, done)) (λ told. (refl, told))
+    (g.E.Sink.failures c.args.errors.now) (g.E.Sink.failures c.settle_done.new.errors) _ _ c.export_key-done.result c.settle_done.result
+    c.settle_done.ensures c.export_key-done.ensures.ok c.export_key-done.ensures.err (λ done. (refl, done)) (λ stops told. (refl, stops, told))

@@ -7,5 +7,5 @@ pub returns : goal.returns
 returns g c =
     λ unread. settled (Find c.args.file c.args.pattern c.args.places) unread unread (g.W.Write.contents c.args.output.now) (g.W.Write.contents c.find_in-done.new.output)
     (g.E.Sink.contents c.args.errors.now) (g.E.Sink.contents c.settle_done.new.errors)
-    (g.E.Sink.failures c.args.errors.now) (g.E.Sink.failures c.settle_done.new.errors) _ c.find_in-done.result c.settle_done.result
-    c.settle_done.ensures c.find_in-done.ensures (λ done. (refl, done)) (λ told. (refl, told))
+    (g.E.Sink.failures c.args.errors.now) (g.E.Sink.failures c.settle_done.new.errors) _ _ c.find_in-done.result c.settle_done.result
+    c.settle_done.ensures c.find_in-done.ensures.ok c.find_in-done.ensures.err (λ done. (refl, done)) (λ stops told. (refl, stops, told))

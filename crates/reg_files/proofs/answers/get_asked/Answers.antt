@@ -7,5 +7,5 @@ pub returns : goal.returns
 returns g c =
     λ unread. settled (Get c.args.file c.args.path c.args.name c.args.is_raw) unread unread (g.W.Write.contents c.args.output.now) (g.W.Write.contents c.get_value-done.new.output)
     (g.E.Sink.contents c.args.errors.now) (g.E.Sink.contents c.settle_done.new.errors)
-    (g.E.Sink.failures c.args.errors.now) (g.E.Sink.failures c.settle_done.new.errors) _ c.get_value-done.result c.settle_done.result
-    c.settle_done.ensures c.get_value-done.ensures (λ done. (refl, done)) (λ told. (refl, told))
+    (g.E.Sink.failures c.args.errors.now) (g.E.Sink.failures c.settle_done.new.errors) _ _ c.get_value-done.result c.settle_done.result
+    c.settle_done.ensures c.get_value-done.ensures.ok c.get_value-done.ensures.err (λ done. (refl, done)) (λ stops told. (refl, stops, told))

@@ -1,10 +1,11 @@
 use Rattle.std.proofs.Common.{refl}
+use Rattle.std.specs.Prelude.{⊤}
 use Rattle.reg_words.specs.declared.request.Request.TheVariants.{Import}
-use Rattle.reg_files.proofs.Outcomes.{settled}
+use Rattle.reg_files.proofs.Outcomes.{settled, any_stop}
 use Rattle.reg_files.proofs.answers.import_asked.Goals as goal
 
 pub returns : goal.returns
 returns g c =
     λ before. settled (Import c.args.edit) _ _ before before (g.E.Sink.contents c.args.errors.now) (g.E.Sink.contents c.settle_saved.new.errors)
-    (g.E.Sink.failures c.args.errors.now) (g.E.Sink.failures c.settle_saved.new.errors) _ c.import_text-done.result
-    c.settle_saved.result c.settle_saved.ensures c.import_text-done.ensures (λ done. (done, refl)) (λ told. (refl, told))
+    (g.E.Sink.failures c.args.errors.now) (g.E.Sink.failures c.settle_saved.new.errors) _ ⊤ c.import_text-done.result
+    c.settle_saved.result c.settle_saved.ensures c.import_text-done.ensures (any_stop c.import_text-done.result) (λ done. (done, refl)) (λ _ told. (refl, told))
