@@ -1,0 +1,80 @@
+//! A number for each eight bytes of bins, those of each page in a table of their own.
+ghost use Rattle.std.specs.Prelude.{◌≡◌, ℕ, ◌≤◌, ◌<◌, [], length, get_or, set, OnOk, IsOk};
+
+use std::alloc::{AllocError, Global};
+use std::marker::Model;
+
+/// How many numbers a page has: one for each eight of its 4096 bytes.
+const PAGE: usize = 512;
+
+// The numbers of one page.
+#[derive(Drop)]
+struct PageTable {
+    numbers: Vec<u32>,
+}
+
+/// Numbers in a row, one for each eight bytes of bins, at most 33,554,432 of them.
+///
+/// Each page of 4096 bytes has a table of its own, so that more of them copy none of those that there are.
+#[derive(Drop)]
+pub struct PageTables {
+    alloc: Global,
+    /// The tables of the pages, of 512 numbers each.
+    pages: Vec<PageTable>,
+}
+
+impl Model for PageTables {
+    ghost use Rattle.reg_bins.specs.Rows.{Table};
+    ghost use Rattle.reg_bins.specs.Internal.{numbers_of, AreWhole};
+
+    ghost Value = { Table };
+
+    ghost view = { λ t. record { items = numbers_of t.pages.items } };
+
+    ghost invariant = { λ t. AreWhole t.pages.items };
+}
+
+impl PageTables {
+    /// No number.
+    pub fn new(alloc: Global) -> Self
+        ensures { result.items ≡ [] }
+    {
+        PageTables {
+            alloc,
+            pages: Vec::new(alloc),
+        }
+    }
+
+    /// The number at a place.
+    pub fn get(&self, place: usize) -> u32
+        requires { place < length self.now.items }
+        ensures { result ≡ get_or self.now.items place 0 }
+    {
+        self.pages[place / PAGE].numbers[place % PAGE]
+    }
+
+    /// Sets the number at a place.
+    pub fn set(&mut self, place: usize, number: u32)
+        requires { place < length self.old.items }
+        ensures items { self.new.items ≡ set self.old.items place number }
+        ensures long { length self.new.items ≡ length self.old.items }
+    {
+        self.pages[place / PAGE].numbers[place % PAGE] = number;
+    }
+
+    /// At least so many numbers, the new ones all 0. What was there stays.
+    pub fn lengthen(&mut self, long: usize) -> Result<(), AllocError>
+        requires { long ≤ 33554432 }
+        ensures same { (place : ℕ) → get_or self.new.items place 0 ≡ get_or self.old.items place 0 }
+        ensures longer { length self.old.items ≤ length self.new.items }
+        ensures ok { OnOk result (long ≤ length self.new.items) }
+        ensures succeeds { long ≤ length self.old.items → IsOk result }
+    {
+        while self.pages.len() * PAGE < long {
+            let mut numbers = Vec::new(self.alloc);
+            numbers.resize(PAGE, 0)?;
+            self.pages.push(PageTable { numbers })?;
+        }
+        Ok(())
+    }
+}
