@@ -13,3 +13,4 @@ pub mod EachCarve
 pub mod LargestLeft
 pub mod FallingCells
 pub mod GrownBins
+pub mod SpareBins

@@ -1,5 +1,6 @@
 -- How cells tile the bins, and what that says to the crates above.
 pub mod Tilings
+pub mod BinPlaces
 pub mod CellPositions
 pub mod BlankHeaders
 pub mod EmptyArena
@@ -8,3 +9,4 @@ pub mod CellWalkSteps
 pub mod ArenaFaults
 pub mod CellLayout
 pub mod BinPieces
+pub mod BinParts

@@ -14,13 +14,15 @@ ghost use Rattle.reg_arena.specs.Frees.{Frees};
 ghost use Rattle.reg_arena.specs.Cells.{cells_of, size_in, IsInBin};
 
 use crate::bin::passes_limit;
-use crate::carve::{carve_bin, carve_found};
+use crate::carve::{carve_bin, carve_found, sum_of};
 use crate::each::{carve_cells, fresh_within};
 use crate::free::free_cell;
 use crate::free_lists::FreeLists;
 use crate::walk::list_cells;
-use crate::words::size_at;
+use crate::words::field_size;
 use crate::{ArenaFault, Cell};
+use byteorder::{ByteOrder, LittleEndian};
+use reg_bins::BinRow;
 use reg_heap::limits::{BINS_LIMIT, GROWTH_BOUND};
 use std::alloc::Global;
 use std::marker::Model;
@@ -31,8 +33,9 @@ use std::marker::Model;
 /// size field, four fewer than its size. No two free cells of a bin touch.
 #[derive(Drop)]
 pub struct Arena {
-    /// The bytes of all bins, one bin behind the other.
-    bins: Vec<u8>,
+    alloc: Global,
+    /// The bytes of all bins, each bin in a vector of its own.
+    bins: BinRow,
     /// The lists of the free cells.
     lists: FreeLists,
 }
@@ -45,7 +48,7 @@ impl Model for Arena {
 
     ghost view = { λ a. record { bytes = a.bins.items; heads = a.lists.heads } };
 
-    ghost invariant = { λ a. IsKept a.bins.items a.lists };
+    ghost invariant = { λ a. IsKept a.bins a.lists };
 }
 
 impl Arena {
@@ -56,7 +59,8 @@ impl Arena {
         ensures heads { result.heads ≡ empty_heads }
     {
         Arena {
-            bins: Vec::new(alloc),
+            alloc,
+            bins: BinRow::new(alloc),
             lists: FreeLists::new(alloc),
         }
     }
@@ -75,7 +79,7 @@ impl Arena {
         requires { IsInBin self.now.bytes at len }
         ensures { result.now ≡ take len (drop at self.now.bytes) }
     {
-        bytes_part(&self.bins, at, len)
+        self.bins.slice(at as usize, len as usize)
     }
 
     /// All cells of the bins, free ones too, in the order of their offsets.
@@ -97,7 +101,7 @@ impl Arena {
         requires { IsSome (heap_of self.now cell) }
         ensures { heap_of self.now cell ≡ Some result.now }
     {
-        content_part(&self.bins, cell)
+        content_of(self.bins.rest(cell as usize))
     }
 
     /// Writes `bytes` into the allocated cell at the offset `cell`, from byte `at` of what it holds on. They end within the
@@ -116,7 +120,7 @@ impl Arena {
         ensures long { length self.new.bytes ≡ length self.old.bytes }
     {
         let from = cell as usize + 4 + at as usize;
-        write_part(&mut self.bins, from, bytes);
+        self.bins.write(from, bytes);
     }
 
     /// Copies the `len` bytes from `from` on of what the allocated cell at the offset `cell` holds to its bytes from `at`
@@ -155,7 +159,7 @@ impl Arena {
     {
         let first = source as usize + 4 + from as usize;
         let place = cell as usize + 4 + at as usize;
-        move_part(&mut self.bins, first, place, len as usize);
+        self.bins.copy(first, place, len as usize);
     }
 
     /// Frees the allocated cell at the offset `cell`. It and the free cells that touch it, which are in its bin, become one
@@ -242,7 +246,7 @@ impl Arena {
         if sizes.is_empty() {
             return Ok(());
         }
-        carve_cells(&mut self.bins, &mut self.lists, sizes, out)
+        carve_cells(self.alloc, &mut self.bins, &mut self.lists, sizes, out)
     }
 
     /// Allocates the cells of one change, and puts their offsets behind those of `out`, in the order of the sizes: each by
@@ -283,48 +287,13 @@ impl Arena {
     }
 }
 
-fn sum_of(sizes: &[u32]) -> u32
-    requires { total_of sizes.now ≤ CARVE_LIMIT }
-    ensures { result ≡ total_of sizes.now }
+// What the allocated cell holds that these bytes begin with.
+#[tactic(auto, unfolding(reg_heap::specs::ByteWords::word))]
+fn content_of(bytes: &[u8]) -> &[u8]
+    requires eight { 8 ≤ size_in (word bytes.now 0) }
+    requires within { size_in (word bytes.now 0) ≤ length bytes.now }
+    ensures { result.now ≡ take (size_in (word bytes.now 0) - 4) (drop 4 bytes.now) }
 {
-    let mut total = 0;
-    for size in sizes {
-        total += *size;
-    }
-    total
-}
-
-fn bytes_part(bins: &[u8], at: u32, len: u32) -> &[u8]
-    requires { at + len ≤ length bins.now }
-    ensures { result.now ≡ take len (drop at bins.now) }
-{
-    &bins[at as usize..at as usize + len as usize]
-}
-
-fn content_part(bins: &[u8], cell: u32) -> &[u8]
-    requires eight { 8 ≤ size_in (word bins.now cell) }
-    requires within { cell + size_in (word bins.now cell) ≤ length bins.now }
-    requires small { length bins.now ≤ BINS_LIMIT }
-    ensures { result.now ≡ take (size_in (word bins.now cell) - 4) (drop (cell + 4) bins.now) }
-{
-    let size = size_at(bins, cell as usize);
-    &bins[cell as usize + 4..(cell + size) as usize]
-}
-
-#[tactic(auto, unfolding(reg_heap::specs::ByteWords::splice))]
-fn write_part(bins: &mut Vec<u8>, from: usize, bytes: &[u8])
-    requires { from + length bytes.now ≤ length bins.old.items }
-    ensures { bins.new.items ≡ splice from bytes.now bins.old.items }
-{
-    bins[from..from + bytes.len()].copy_from_slice(bytes);
-}
-
-// Copies `len` bytes from `from` on to `to`.
-#[tactic(auto, unfolding(reg_heap::specs::ByteWords::splice))]
-fn move_part(bins: &mut Vec<u8>, from: usize, to: usize, len: usize)
-    requires source { from + len ≤ length bins.old.items }
-    requires fits { to + len ≤ length bins.old.items }
-    ensures { bins.new.items ≡ splice to (take len (drop from bins.old.items)) bins.old.items }
-{
-    bins.copy_within(from..from + len, to);
+    let size = field_size(LittleEndian::read_u32(bytes));
+    &bytes[4..size as usize]
 }

@@ -1,16 +1,19 @@
 //! A new bin at the end of the bins.
 //!
 //! Suhanov, Windows registry file format specification, section "Hive bin".
-ghost use Rattle.std.specs.Prelude.{◌≡◌, ◌+◌, ◌≤◌, ◌<◌, ◌++◌, ℕ, length, replicate, OnOk, OnErr, IfOk, IsOk, true, false, vec_capacity};
+ghost use Rattle.std.specs.Prelude.{◌≡◌, ◌+◌, ◌-◌, ◌≤◌, ◌<◌, ◌%◌, ◌/◌, ℕ, length, replicate, OnOk, IfOk, true, false};
 ghost use Rattle.reg_heap.specs.declared.limits.TheConstants.{BINS_LIMIT};
 ghost use Rattle.reg_arena.specs.declared.TheConstants.{CARVE_LIMIT};
-ghost use Rattle.reg_arena.specs.Internal.ListedCells.{IsIndexed, LacksCell};
+ghost use Rattle.reg_arena.specs.declared.free_lists.FreeLists.{FreeLists};
+ghost use Rattle.reg_arena.specs.Arena.{IsArena};
+ghost use Rattle.reg_arena.specs.Internal.ListedCells.{HasRoom, IsAdded, IsIndexed, IsListed};
+ghost use Rattle.reg_arena.specs.Internal.BinParts.{IsSplit};
 ghost use Rattle.reg_arena.specs.Internal.Reserved.{AreReserved, KeepsRoom};
-ghost use Rattle.reg_arena.specs.NewBin.{AppendsBin, IsBinSize, PassesLimit, HasRoomForBin, headed};
+ghost use Rattle.reg_arena.specs.NewBin.{IsBinSize, PassesLimit, HasRoomForBin, headed};
 
 use crate::free_lists::{Fit, FreeLists};
 use crate::links::put_free;
-use crate::words::put_word;
+use reg_bins::BinRow;
 use reg_heap::limits::{BINS_LIMIT, NONE};
 use std::alloc::AllocError;
 
@@ -33,7 +36,7 @@ pub fn bin_size(total: u32) -> u32
 }
 
 // Whether a bin more, with room for `total` bytes of cells, would pass the limit.
-pub fn passes_limit(bins: &Vec<u8>, total: u32) -> bool
+pub fn passes_limit(bins: &BinRow, total: u32) -> bool
     requires total { total ≤ CARVE_LIMIT }
     requires small { length bins.now.items ≤ BINS_LIMIT }
     ensures passes { result ≡ true → PassesLimit bins.now.items total }
@@ -43,51 +46,55 @@ pub fn passes_limit(bins: &Vec<u8>, total: u32) -> bool
 }
 
 // Writes a bin's header, the zeros at its end left out.
-fn put_header(bins: &mut Vec<u8>, at: u32, size: u32)
+fn put_header(bins: &mut BinRow, at: u32, size: u32)
     requires { at + 12 ≤ length bins.old.items }
     ensures bytes { bins.new.items ≡ headed at size bins.old.items }
-    ensures capacity { vec_capacity bins.new ≡ vec_capacity bins.old }
+    ensures room { bins.new.room ≡ bins.old.room }
+    ensures parts { bins.new.parts ≡ bins.old.parts }
 {
-    put_word(bins, at as usize, SIGNATURE);
-    put_word(bins, at as usize + 4, at);
-    put_word(bins, at as usize + 8, size);
+    bins.put_word(at as usize, SIGNATURE);
+    bins.put_word(at as usize + 4, at);
+    bins.put_word(at as usize + 8, size);
 }
 
-// Appends `n` zeros.
-fn lengthen(bins: &mut Vec<u8>, n: u32) -> Result<(), AllocError>
-    requires { length bins.old.items + n ≤ BINS_LIMIT }
-    ensures ok { OnOk result (bins.new.items ≡ bins.old.items ++ replicate n 0) }
-    ensures err { OnErr result (bins.new.items ≡ bins.old.items) }
-    ensures succeeds { length bins.old.items + n ≤ vec_capacity bins.old → IsOk result }
-    ensures capacity { vec_capacity bins.old ≤ vec_capacity bins.new }
-{
-    let long = bins.len() + n as usize;
-    bins.resize(long, 0)
-}
-
-// Appends a bin of the least size with one free cell of at least `total` bytes, which comes into no list.
-pub fn add_bin(bins: &mut Vec<u8>, lists: &mut FreeLists, total: u32) -> Result<Fit, AllocError>
-    requires arena { IsIndexed bins.old.items lists.old }
-    requires positive { 0 < total }
-    requires total { total ≤ CARVE_LIMIT }
-    requires room { HasRoomForBin bins.old.items total }
-    ensures lacks { IfOk result (λ fit. LacksCell bins.new.items lists.new fit.cell fit.size) }
-    ensures fits { IfOk result (λ fit. total ≤ fit.size) }
-    ensures ok { OnOk result (AppendsBin bins.old.items bins.new.items total) }
-    ensures arena { OnErr result (IsIndexed bins.new.items lists.new) }
-    ensures err { OnErr result ((bins.new.items ≡ bins.old.items) × (lists.new.heads ≡ lists.old.heads)) }
-    ensures succeeds { (size : ℕ) → IsBinSize size total → AreReserved (length bins.old.items + size) (vec_capacity bins.old) lists.old → IsOk result }
-    ensures keeps { KeepsRoom (vec_capacity bins.old) lists.old (vec_capacity bins.new) lists.new }
+// A bin more at the end, with one free cell, which comes into no list. Its bytes are zeros as yet, and there is room for it.
+pub fn add_bin(bins: &mut BinRow, blank: Vec<u8>) -> Fit
+    requires some { 40 ≤ length blank.items }
+    requires pages { length blank.items % 4096 ≡ 0 }
+    requires zeros { blank.items ≡ replicate (length blank.items) 0 }
+    requires limit { length bins.old.items + length blank.items ≤ BINS_LIMIT }
+    requires room { length bins.old.items + length blank.items ≤ bins.old.room }
+    ensures size { result.size ≡ length blank.items - 32 }
+    ensures added { (lists : FreeLists) → (total : ℕ) → IsIndexed bins.old.items lists → HasRoom ((length bins.old.items + length blank.items) / 8) lists →
+        IsBinSize (length blank.items) total → 0 < total → IsAdded bins.old.items bins.new.items lists result.cell result.size total }
+    ensures split { IsArena bins.old.items → IsSplit bins.old.items bins.old.parts → IsSplit bins.new.items bins.new.parts }
+    ensures room { bins.new.room ≡ bins.old.room }
 {
     let at = bins.len() as u32;
-    let size = bin_size(total);
-    lists.make_room((at + size) as usize / 8)?;
-    lengthen(bins, size)?;
+    let size = blank.len() as u32;
+    bins.push(blank);
     put_header(bins, at, size);
     let fit = Fit {
         cell: at + HEADER_SIZE,
         size: size - HEADER_SIZE,
     };
     put_free(bins, fit.cell, fit.size, NONE);
-    Ok(fit)
+    fit
+}
+
+// The bytes of a bin of this size, zeros as yet, and room for it in the tables.
+pub fn blank_bin(bins: &mut BinRow, lists: &mut FreeLists, size: u32) -> Result<Vec<u8>, AllocError>
+    requires pages { size % 4096 ≡ 0 }
+    requires limit { length bins.old.items + size ≤ BINS_LIMIT }
+    ensures items { bins.new.items ≡ bins.old.items }
+    ensures parts { bins.new.parts ≡ bins.old.parts }
+    ensures listed { (free : ℕ → ℕ) → IsListed bins.old.items free lists.old → IsListed bins.old.items free lists.new }
+    ensures heads { lists.new.heads ≡ lists.old.heads }
+    ensures blank { IfOk result (λ blank. blank.items ≡ replicate size 0) }
+    ensures ok { OnOk result (AreReserved (length bins.old.items + size) bins.new.room lists.new) }
+    ensures keeps { KeepsRoom bins.old.room lists.old bins.new.room lists.new }
+{
+    lists.make_room((bins.len() + size as usize + 7) / 8)?;
+    bins.reserve(size as usize)?;
+    bins.blank(size as usize)
 }

@@ -1,23 +1,26 @@
 //! Cells carved one after the other, each by itself, the largest first.
-ghost use Rattle.std.specs.Prelude.{◌≡◌, ◌↔◌, ◌+◌, ◌-◌, ◌≤◌, ◌<◌, ◌%◌, ◌⊎◌, ℕ, List, [], ◌∷◌, ◌++◌, length, set, get_or};
-ghost use Rattle.std.specs.Prelude.{vec_len, vec_capacity, Err, OnErr, OnOk, MatchOption};
+ghost use Rattle.std.specs.Prelude.{◌≡◌, ◌↔◌, ◌+◌, ◌-◌, ◌≤◌, ◌<◌, ◌%◌, ◌⊎◌, ℕ, List, [], ◌∷◌, ◌++◌, length, replicate, set, get_or};
+ghost use Rattle.std.specs.Prelude.{vec_len, vec_capacity, Err, IfOk, OnErr, OnOk, MatchOption};
 ghost use Rattle.reg_heap.specs.declared.limits.TheConstants.{BINS_LIMIT, NONE};
 ghost use Rattle.reg_heap.specs.Heaps.{AreNew};
 ghost use Rattle.reg_heap.specs.Kinds.{times};
 ghost use Rattle.reg_arena.specs.declared.TheConstants.{CARVE_LIMIT};
 ghost use Rattle.reg_arena.specs.Cells.{cell_at};
-ghost use Rattle.reg_arena.specs.NewCells.{AreSizes};
-ghost use Rattle.reg_arena.specs.Carves.{CarvesExactly};
+ghost use Rattle.reg_arena.specs.NewCells.{total_of, AreSizes};
+ghost use Rattle.reg_arena.specs.Carves.{CarvesExactly, NoFit};
 ghost use Rattle.reg_arena.specs.EachCell.{fresh_bin, fresh_of, AreCarvable, EachFalling, IsCarvedBefore};
-ghost use Rattle.reg_arena.specs.Internal.ListedCells.{IsIndexed, IsListed};
-ghost use Rattle.reg_arena.specs.Internal.Reserved.{AreReserved, KeepsRoom};
+ghost use Rattle.reg_arena.specs.Internal.ListedCells.{IsIndexed};
+ghost use Rattle.reg_arena.specs.Internal.BinParts.{IsSplit};
+ghost use Rattle.reg_arena.specs.Internal.Reserved.{AreReserved, IsBlank, KeepsRoom};
+ghost use Rattle.reg_arena.specs.Internal.Spares.{AreSpare};
 
 use crate::ArenaFault;
 use crate::bin::bin_size;
-use crate::carve::{carve_bin, carve_found};
+use crate::carve::{carve_blank, carve_found, sum_of};
 use crate::free_lists::FreeLists;
+use reg_bins::BinRow;
 use reg_heap::limits::{BINS_LIMIT, NONE};
-use std::alloc::AllocError;
+use std::alloc::{AllocError, Global};
 
 // The bytes of the least bins for cells of these sizes, one for each, where they are at most `limit`.
 pub fn fresh_within(sizes: &[u32], limit: u32) -> Option<u32>
@@ -35,55 +38,127 @@ pub fn fresh_within(sizes: &[u32], limit: u32) -> Option<u32>
     Some(fresh)
 }
 
-// Room for bins of so many bytes more.
-fn reserve_bins(bins: &mut Vec<u8>, lists: &mut FreeLists, more: u32) -> Result<(), AllocError>
-    requires { length bins.old.items + more ≤ BINS_LIMIT }
-    ensures bytes { bins.new.items ≡ bins.old.items }
-    ensures listed { (free : ℕ → ℕ) → IsListed bins.old.items free lists.old → IsListed bins.old.items free lists.new }
-    ensures heads { lists.new.heads ≡ lists.old.heads }
-    ensures ok { OnOk result (AreReserved (length bins.old.items + more) (vec_capacity bins.new) lists.new) }
-{
-    lists.make_room((bins.len() + more as usize + 7) / 8)?;
-    bins.reserve(more as usize)
+// The bytes of a bin to come, until they are taken.
+#[derive(Drop)]
+pub struct Spare {
+    pub blank: Option<Vec<u8>>,
 }
 
-// Carves one cell, for which there is room.
-fn carve_one(bins: &mut Vec<u8>, lists: &mut FreeLists, size: u32, out: &mut Vec<u32>)
+// A bin to come for each cell.
+fn make_spares(alloc: Global, bins: &BinRow, sizes: &[u32]) -> Result<Vec<Spare>, AllocError>
+    requires { AreCarvable sizes.now }
+    ensures { IfOk result (λ spares. AreSpare NONE sizes.now (replicate (length sizes.now) NONE) spares.items) }
+{
+    let mut spares = Vec::new(alloc);
+    for size in sizes {
+        let blank = Some(bins.blank(bin_size(*size) as usize)?);
+        spares.push(Spare { blank })?;
+    }
+    Ok(spares)
+}
+
+// Room for a bin for each cell, and those bins; nothing where one free cell has room for all of them, since then no bin is needed.
+fn spares_for(
+    alloc: Global,
+    bins: &mut BinRow,
+    lists: &mut FreeLists,
+    sizes: &[u32],
+    fresh: u32,
+) -> Result<Vec<Spare>, AllocError>
     requires arena { IsIndexed bins.old.items lists.old }
+    requires sizes { AreSizes sizes.now }
+    requires each { AreCarvable sizes.now }
+    requires some { 0 < length sizes.now }
+    requires fresh { fresh ≡ fresh_of sizes.now }
+    requires limit { length bins.old.items + fresh ≤ BINS_LIMIT }
+    ensures items { bins.new.items ≡ bins.old.items }
+    ensures parts { bins.new.parts ≡ bins.old.parts }
+    ensures arena { IsIndexed bins.new.items lists.new }
+    ensures heads { lists.new.heads ≡ lists.old.heads }
+    ensures ok { IfOk result (λ spares. NoFit bins.old.items (total_of sizes.now) →
+        AreReserved (length bins.old.items + fresh_of sizes.now) bins.new.room lists.new
+        × AreSpare NONE sizes.now (replicate (length sizes.now) NONE) spares.items) }
+{
+    if let Some(_fit) = lists.best_fit(bins, sum_of(sizes)) {
+        return Ok(Vec::new(alloc));
+    }
+    lists.make_room((bins.len() + fresh as usize + 7) / 8)?;
+    bins.reserve(fresh as usize)?;
+    make_spares(alloc, bins, sizes)
+}
+
+// Takes the bin for a place, where there is one.
+fn take_spare(spares: &mut Vec<Spare>, place: usize) -> Option<Vec<u8>>
+    ensures taken { (sizes offsets : List ℕ) → AreSpare NONE sizes offsets spares.old.items → place < length sizes → get_or offsets place 0 ≡ NONE →
+        MatchOption result ⊥ (λ blank. IsBlank blank.items (get_or sizes place 0)) }
+    ensures left { (sizes offsets : List ℕ) → (offset : ℕ) → AreSpare NONE sizes offsets spares.old.items → (offset ≡ NONE → ⊥) →
+        AreSpare NONE sizes (set offsets place offset) spares.new.items }
+{
+    if place >= spares.len() {
+        return None;
+    }
+    spares[place].blank.take()
+}
+
+// Carves one cell, for which there is room: for its offset, and where no free cell fits it for a bin.
+fn carve_one(
+    bins: &mut BinRow,
+    lists: &mut FreeLists,
+    size: u32,
+    out: &mut Vec<u32>,
+    blank: Option<Vec<u8>>,
+)
+    requires arena { IsIndexed bins.old.items lists.old }
+    requires split { IsSplit bins.old.items bins.old.parts }
     requires size { (0 < size) × (size % 8 ≡ 0) }
     requires small { size ≤ CARVE_LIMIT }
     requires limit { length bins.old.items + fresh_bin size ≤ BINS_LIMIT }
-    requires reserved { AreReserved (length bins.old.items + fresh_bin size) (vec_capacity bins.old) lists.old }
+    requires reserved { NoFit bins.old.items size → AreReserved (length bins.old.items + fresh_bin size) bins.old.room lists.old }
+    requires spare { NoFit bins.old.items size → MatchOption blank ⊥ (λ bytes. IsBlank bytes.items size) }
     requires room { vec_len out.old + 1 ≤ vec_capacity out.old }
     ensures arena { IsIndexed bins.new.items lists.new }
+    ensures split { IsSplit bins.new.items bins.new.parts }
     ensures carves { (offset : ℕ) × (out.new.items ≡ out.old.items ++ offset ∷ [])
         × CarvesExactly bins.old.items bins.new.items (size ∷ []) (offset ∷ []) }
-    ensures keeps { KeepsRoom (vec_capacity bins.old) lists.old (vec_capacity bins.new) lists.new }
+    ensures keeps { KeepsRoom bins.old.room lists.old bins.new.room lists.new }
     ensures out_capacity { vec_capacity out.old ≤ vec_capacity out.new }
 {
     let Some(fit) = lists.best_fit(bins, size) else {
-        let _ = carve_bin(bins, lists, size, &[size], out);
+        let Some(bytes) = blank else {
+            return;
+        };
+        carve_blank(bins, lists, bytes, size, &[size], out);
         return;
     };
     let _ = carve_found(bins, lists, fit, size, &[size], out);
 }
 
-// Carves one cell, for which there is room, and puts its offset at a place of `out`.
-fn carve_to(bins: &mut Vec<u8>, lists: &mut FreeLists, size: u32, out: &mut Vec<u32>, place: usize)
+// The same, and puts its offset at a place of `out`.
+fn carve_to(
+    bins: &mut BinRow,
+    lists: &mut FreeLists,
+    size: u32,
+    out: &mut Vec<u32>,
+    place: usize,
+    blank: Option<Vec<u8>>,
+)
     requires arena { IsIndexed bins.old.items lists.old }
+    requires split { IsSplit bins.old.items bins.old.parts }
     requires size { (0 < size) × (size % 8 ≡ 0) }
     requires small { size ≤ CARVE_LIMIT }
     requires limit { length bins.old.items + fresh_bin size ≤ BINS_LIMIT }
-    requires reserved { AreReserved (length bins.old.items + fresh_bin size) (vec_capacity bins.old) lists.old }
+    requires reserved { NoFit bins.old.items size → AreReserved (length bins.old.items + fresh_bin size) bins.old.room lists.old }
+    requires spare { NoFit bins.old.items size → MatchOption blank ⊥ (λ bytes. IsBlank bytes.items size) }
     requires room { vec_len out.old + 1 ≤ vec_capacity out.old }
     requires place { place < length out.old.items }
     ensures arena { IsIndexed bins.new.items lists.new }
+    ensures split { IsSplit bins.new.items bins.new.parts }
     ensures carves { (offset : ℕ) × (out.new.items ≡ set out.old.items place offset)
         × CarvesExactly bins.old.items bins.new.items (size ∷ []) (offset ∷ []) }
-    ensures keeps { KeepsRoom (vec_capacity bins.old) lists.old (vec_capacity bins.new) lists.new }
+    ensures keeps { KeepsRoom bins.old.room lists.old bins.new.room lists.new }
     ensures out_capacity { vec_capacity out.old ≤ vec_capacity out.new }
 {
-    carve_one(bins, lists, size, out);
+    carve_one(bins, lists, size, out, blank);
     let Some(offset) = out.pop() else {
         return;
     };
@@ -111,15 +186,26 @@ fn largest_left(sizes: &[u32], offsets: &[u32]) -> usize
     largest
 }
 
-// Carves a cell of each size, the largest first, and puts their offsets in the order of the sizes. There is room for all.
-fn carve_all(bins: &mut Vec<u8>, lists: &mut FreeLists, sizes: &[u32], out: &mut Vec<u32>)
+// Carves a cell of each size, the largest first, and puts their offsets in the order of the sizes. There is room for all: for the
+// offsets, and where no free cell has room for all cells together for a bin for each.
+fn carve_all(
+    bins: &mut BinRow,
+    lists: &mut FreeLists,
+    sizes: &[u32],
+    spares: &mut Vec<Spare>,
+    out: &mut Vec<u32>,
+)
     requires arena { IsIndexed bins.old.items lists.old }
+    requires split { IsSplit bins.old.items bins.old.parts }
     requires sizes { AreSizes sizes.now }
     requires each { AreCarvable sizes.now }
     requires limit { length bins.old.items + fresh_of sizes.now ≤ BINS_LIMIT }
-    requires reserved { AreReserved (length bins.old.items + fresh_of sizes.now) (vec_capacity bins.old) lists.old }
+    requires reserved { NoFit bins.old.items (total_of sizes.now) →
+        AreReserved (length bins.old.items + fresh_of sizes.now) bins.old.room lists.old
+        × AreSpare NONE sizes.now (replicate (length sizes.now) NONE) spares.old.items }
     requires room { vec_len out.old + length sizes.now + 1 ≤ vec_capacity out.old }
     ensures arena { IsIndexed bins.new.items lists.new }
+    ensures split { IsSplit bins.new.items bins.new.parts }
     ensures each { (offsets : List ℕ) × (out.new.items ≡ out.old.items ++ offsets)
         × EachFalling bins.old.items bins.new.items sizes.now offsets
         × AreNew (cell_at bins.old.items) (cell_at bins.new.items) offsets sizes.now }
@@ -130,21 +216,26 @@ fn carve_all(bins: &mut Vec<u8>, lists: &mut FreeLists, sizes: &[u32], out: &mut
     let _ = out.resize(from + sizes.len(), NONE);
     for _turn in 0..sizes.len() {
         let place = largest_left(sizes, &out[from..]);
-        carve_to(bins, lists, sizes[place], out, from + place);
+        let blank = take_spare(spares, place);
+        carve_to(bins, lists, sizes[place], out, from + place, blank);
     }
 }
 
 // Carves a cell of each size, the largest first. All memory is asked for, and the limit is seen to, before the first.
 pub fn carve_cells(
-    bins: &mut Vec<u8>,
+    alloc: Global,
+    bins: &mut BinRow,
     lists: &mut FreeLists,
     sizes: &[u32],
     out: &mut Vec<u32>,
 ) -> Result<(), ArenaFault>
     requires arena { IsIndexed bins.old.items lists.old }
+    requires split { IsSplit bins.old.items bins.old.parts }
     requires sizes { AreSizes sizes.now }
     requires each { AreCarvable sizes.now }
+    requires some { 0 < length sizes.now }
     ensures arena { IsIndexed bins.new.items lists.new }
+    ensures split { IsSplit bins.new.items bins.new.parts }
     ensures ok { OnOk result ((offsets : List ℕ) × (out.new.items ≡ out.old.items ++ offsets)
         × EachFalling bins.old.items bins.new.items sizes.now offsets
         × AreNew (cell_at bins.old.items) (cell_at bins.new.items) offsets sizes.now) }
@@ -159,9 +250,9 @@ pub fn carve_cells(
     if out.reserve(sizes.len() + 1).is_err() {
         return Err(ArenaFault::Memory);
     }
-    if reserve_bins(bins, lists, fresh).is_err() {
+    let Ok(mut spares) = spares_for(alloc, bins, lists, sizes, fresh) else {
         return Err(ArenaFault::Memory);
-    }
-    carve_all(bins, lists, sizes, out);
+    };
+    carve_all(bins, lists, sizes, &mut spares, out);
     Ok(())
 }

@@ -4,7 +4,7 @@ ghost use Rattle.reg_heap.specs.declared.limits.TheConstants.{NONE};
 ghost use Rattle.reg_arena.specs.Internal.SizeTables.{AreBits, first_put, first_taken, size_or_none};
 
 use crate::bitmap::{clear_bit, set_bit};
-use crate::words::word_at;
+use reg_bins::BinRow;
 use reg_heap::limits::NONE;
 
 /// From this size on, free cells stand in the last list, in any order.
@@ -40,19 +40,19 @@ pub fn note_put(firsts: &mut Vec<u32>, words: &mut Vec<u64>, previous: u32, cell
 }
 
 // The size of a free cell, or 0 where there is none.
-fn size_of_next(bins: &Vec<u8>, cell: u32) -> u32
+fn size_of_next(bins: &BinRow, cell: u32) -> u32
     requires { (cell ≡ NONE → ⊥) → cell + 4 ≤ length bins.now.items }
     ensures { result ≡ size_or_none bins.now.items cell }
 {
     if cell == NONE {
         return 0;
     }
-    word_at(bins, cell as usize)
+    bins.word_at(cell as usize)
 }
 
 // A cell of a size, which stood before `next`, goes.
 pub fn note_taken(
-    bins: &Vec<u8>,
+    bins: &BinRow,
     firsts: &mut Vec<u32>,
     words: &mut Vec<u64>,
     cell: u32,

@@ -14,7 +14,7 @@ use crate::firsts::{LARGE, first_of, note_put, note_taken};
 use crate::large::find_large;
 use crate::links::{link_in, unlink};
 use crate::tables::{lengthen, lengthen_words, mark_last};
-use crate::words::word_at;
+use reg_bins::{BinRow, PageTables};
 use reg_heap::limits::NONE;
 use std::alloc::{AllocError, Global};
 use std::marker::Model;
@@ -47,7 +47,7 @@ pub struct FreeLists {
     // For each eight bytes a number. At a free cell's first it is the cell before it in its list, or `NONE`, with the lowest bit
     // set; at its last, where those are not its first, the offset of its first; elsewhere 0. Offsets are even, so that both have
     // one table.
-    marks: Vec<u32>,
+    marks: PageTables,
     // How many cells the last list has.
     large: usize,
     // All free cells have fewer bytes.
@@ -81,7 +81,7 @@ impl FreeLists {
             heads: [NONE; 24],
             firsts: Vec::new(alloc),
             words: Vec::new(alloc),
-            marks: Vec::new(alloc),
+            marks: PageTables::new(alloc),
             large: 0,
             top: 0,
         }
@@ -98,7 +98,7 @@ impl FreeLists {
     {
         lengthen(&mut self.firsts, SIZES, NONE)?;
         lengthen_words(&mut self.words, WORDS)?;
-        lengthen(&mut self.marks, units, 0)
+        self.marks.lengthen(units)
     }
 
     // The free cell that ends where a cell begins, or 0.
@@ -108,17 +108,18 @@ impl FreeLists {
         ensures { result ≡ start_in self.now.marks (cell - 8) }
     {
         let last = cell - 8;
-        let mark = self.marks[last as usize / 8];
+        let mark = self.marks.get(last as usize / 8);
         // A free cell of eight bytes begins and ends there.
         if mark % 2 == 1 { last } else { mark }
     }
 
     // Makes bytes a free cell, unless `size` is 0. It takes no memory, and constant time.
-    pub fn insert(&mut self, bins: &mut Vec<u8>, cell: u32, size: u32)
+    pub fn insert(&mut self, bins: &mut BinRow, cell: u32, size: u32)
         requires { HasPlace bins.old.items self.old cell size }
         ensures adds { (sizes : ℕ → ℕ) → IsListed bins.old.items sizes self.old → IsFreeOf sizes cell size →
             Adds sizes cell size bins.old.items bins.new.items self.new }
-        ensures capacity { vec_capacity bins.new ≡ vec_capacity bins.old }
+        ensures room { bins.new.room ≡ bins.old.room }
+        ensures parts { bins.new.parts ≡ bins.old.parts }
         ensures keeps { KeepsTables self.old self.new }
     {
         if size == 0 {
@@ -142,11 +143,12 @@ impl FreeLists {
     }
 
     // Takes a free cell out of its list, unless `size` is 0. It takes no memory, and constant time.
-    pub fn remove(&mut self, bins: &mut Vec<u8>, cell: u32, size: u32)
+    pub fn remove(&mut self, bins: &mut BinRow, cell: u32, size: u32)
         requires { HasCell bins.old.items self.old cell size }
         ensures drops { (sizes : ℕ → ℕ) → IsListed bins.old.items sizes self.old → sizes cell ≡ size →
             Drops sizes cell bins.old.items bins.new.items self.new }
-        ensures capacity { vec_capacity bins.new ≡ vec_capacity bins.old }
+        ensures room { bins.new.room ≡ bins.old.room }
+        ensures parts { bins.new.parts ≡ bins.old.parts }
         ensures keeps { KeepsTables self.old self.new }
     {
         if size == 0 {
@@ -161,7 +163,7 @@ impl FreeLists {
 
     // A free cell that has room for `total` bytes: below 16,384 bytes one of the smallest that have, else the first that has.
     // It walks no list but the last one, and that only where no smaller cell has room.
-    pub fn best_fit(&mut self, bins: &Vec<u8>, total: u32) -> Option<Fit>
+    pub fn best_fit(&mut self, bins: &BinRow, total: u32) -> Option<Fit>
         requires lists { HasLists bins.now.items self.old }
         requires some { 0 < total }
         requires eights { total % 8 ≡ 0 }
@@ -182,7 +184,7 @@ impl FreeLists {
     }
 
     // The same, without a look at `top`.
-    fn look(&self, bins: &Vec<u8>, total: u32) -> Option<Fit>
+    fn look(&self, bins: &BinRow, total: u32) -> Option<Fit>
         requires lists { HasLists bins.now.items self.now }
         requires some { 0 < total }
         requires eights { total % 8 ≡ 0 }
@@ -200,7 +202,7 @@ impl FreeLists {
         };
         Some(Fit {
             cell,
-            size: word_at(bins, cell as usize),
+            size: bins.word_at(cell as usize),
         })
     }
 }

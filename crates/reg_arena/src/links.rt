@@ -6,11 +6,11 @@ ghost use Rattle.reg_heap.specs.ByteWords.{splice, word};
 ghost use Rattle.reg_arena.specs.Internal.SizeTables.{marked, head_linked, following, linked, freed, tagged, untagged};
 
 use crate::tables::{mark, with_tag, without_tag};
-use crate::words::{put_word, word_at};
+use reg_bins::{BinRow, PageTables};
 use reg_heap::limits::NONE;
 
 // The cell behind one, or where there is none the list's first.
-fn next_of(bins: &Vec<u8>, heads: &[u32], class: usize, cell: u32) -> u32
+fn next_of(bins: &BinRow, heads: &[u32], class: usize, cell: u32) -> u32
     requires class { class < length heads.now }
     requires cell { (cell ≡ NONE → ⊥) → cell + 8 ≤ length bins.now.items }
     ensures { result ≡ following bins.now.items heads.now class cell }
@@ -18,39 +18,41 @@ fn next_of(bins: &Vec<u8>, heads: &[u32], class: usize, cell: u32) -> u32
     if cell == NONE {
         return heads[class];
     }
-    word_at(bins, cell as usize + 4)
+    bins.word_at(cell as usize + 4)
 }
 
 // Sets the link behind a cell, or where there is none the head.
-fn set_link(bins: &mut Vec<u8>, heads: &mut [u32], class: usize, cell: u32, value: u32)
+fn set_link(bins: &mut BinRow, heads: &mut [u32], class: usize, cell: u32, value: u32)
     requires class { class < length heads.old }
     requires cell { (cell ≡ NONE → ⊥) → cell + 8 ≤ length bins.old.items }
     ensures bytes { bins.new.items ≡ linked cell value bins.old.items }
     ensures heads { heads.new ≡ head_linked class cell value heads.old }
-    ensures capacity { vec_capacity bins.new ≡ vec_capacity bins.old }
+    ensures room { bins.new.room ≡ bins.old.room }
+    ensures parts { bins.new.parts ≡ bins.old.parts }
 {
     if cell == NONE {
         heads[class] = value;
     } else {
-        put_word(bins, cell as usize + 4, value);
+        bins.put_word(cell as usize + 4, value);
     }
 }
 
 // The two words of a free cell.
-pub fn put_free(bins: &mut Vec<u8>, at: u32, size: u32, next: u32)
+pub fn put_free(bins: &mut BinRow, at: u32, size: u32, next: u32)
     requires { at + 8 ≤ length bins.old.items }
     ensures bytes { bins.new.items ≡ freed at size next bins.old.items }
-    ensures capacity { vec_capacity bins.new ≡ vec_capacity bins.old }
+    ensures room { bins.new.room ≡ bins.old.room }
+    ensures parts { bins.new.parts ≡ bins.old.parts }
 {
-    put_word(bins, at as usize, size);
-    put_word(bins, at as usize + 4, next);
+    bins.put_word(at as usize, size);
+    bins.put_word(at as usize + 4, next);
 }
 
 // Makes bytes a free cell, and puts it behind another of its list, or to the front. Its mark is the link back to that one.
 pub fn link_in(
-    bins: &mut Vec<u8>,
+    bins: &mut BinRow,
     heads: &mut [u32],
-    marks: &mut Vec<u32>,
+    marks: &mut PageTables,
     class: usize,
     previous: u32,
     cell: u32,
@@ -67,21 +69,22 @@ pub fn link_in(
         set (marked (following bins.old.items heads.old class previous) (tagged cell) marks.old.items) (cell / 8) (tagged previous) }
     ensures heads { heads.new ≡ head_linked class previous cell heads.old }
     ensures short { following bins.old.items heads.old class previous < 4294967296 }
-    ensures capacity { vec_capacity bins.new ≡ vec_capacity bins.old }
+    ensures room { bins.new.room ≡ bins.old.room }
+    ensures parts { bins.new.parts ≡ bins.old.parts }
     ensures long { length marks.new.items ≡ length marks.old.items }
 {
     let next = next_of(bins, heads, class, previous);
     set_link(bins, heads, class, previous, cell);
     put_free(bins, cell, size, next);
     mark(marks, next, with_tag(cell));
-    marks[cell as usize / 8] = with_tag(previous);
+    marks.set(cell as usize / 8, with_tag(previous));
 }
 
 // Takes a cell out of its list, with its mark, and answers the cell behind it.
 pub fn unlink(
-    bins: &mut Vec<u8>,
+    bins: &mut BinRow,
     heads: &mut [u32],
-    marks: &mut Vec<u32>,
+    marks: &mut PageTables,
     class: usize,
     cell: u32,
 ) -> u32
@@ -96,13 +99,14 @@ pub fn unlink(
         set (marked (word bins.old.items (cell + 4)) (tagged (untagged (get_or marks.old.items (cell / 8) 0))) marks.old.items) (cell / 8) 0 }
     ensures heads { heads.new ≡ head_linked class (untagged (get_or marks.old.items (cell / 8) 0)) (word bins.old.items (cell + 4)) heads.old }
     ensures next { result ≡ word bins.old.items (cell + 4) }
-    ensures capacity { vec_capacity bins.new ≡ vec_capacity bins.old }
+    ensures room { bins.new.room ≡ bins.old.room }
+    ensures parts { bins.new.parts ≡ bins.old.parts }
     ensures long { length marks.new.items ≡ length marks.old.items }
 {
-    let previous = without_tag(marks[cell as usize / 8]);
-    let next = word_at(bins, cell as usize + 4);
+    let previous = without_tag(marks.get(cell as usize / 8));
+    let next = bins.word_at(cell as usize + 4);
     set_link(bins, heads, class, previous, next);
     mark(marks, next, with_tag(previous));
-    marks[cell as usize / 8] = 0;
+    marks.set(cell as usize / 8, 0);
     next
 }

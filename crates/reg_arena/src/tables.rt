@@ -3,28 +3,29 @@ ghost use Rattle.std.specs.Prelude.{◌≡◌, ℕ, ◌+◌, ◌-◌, ◌/◌, �
 ghost use Rattle.reg_heap.specs.declared.limits.TheConstants.{NONE};
 ghost use Rattle.reg_arena.specs.Internal.SizeTables.{marked, ended, tagged, untagged};
 
+use reg_bins::PageTables;
 use reg_heap::limits::NONE;
 use std::alloc::AllocError;
 
 // Sets the number at a cell's first eight bytes, if there is a cell.
-pub fn mark(table: &mut Vec<u32>, cell: u32, value: u32)
+pub fn mark(table: &mut PageTables, cell: u32, value: u32)
     requires { (cell ≡ NONE → ⊥) → cell / 8 < length table.old.items }
     ensures table { table.new.items ≡ marked cell value table.old.items }
     ensures long { length table.new.items ≡ length table.old.items }
 {
     if cell != NONE {
-        table[cell as usize / 8] = value;
+        table.set(cell as usize / 8, value);
     }
 }
 
 // Sets the number at a cell's last eight bytes, where those are not its first.
-pub fn mark_last(table: &mut Vec<u32>, cell: u32, size: u32, value: u32)
+pub fn mark_last(table: &mut PageTables, cell: u32, size: u32, value: u32)
     requires { 8 < size → (cell + size - 8) / 8 < length table.old.items }
     ensures table { table.new.items ≡ ended cell size value table.old.items }
     ensures long { length table.new.items ≡ length table.old.items }
 {
     if size > 8 {
-        table[(cell as usize + size as usize - 8) / 8] = value;
+        table.set((cell as usize + size as usize - 8) / 8, value);
     }
 }
 

@@ -6,23 +6,24 @@ ghost use Rattle.reg_arena.specs.Cells.{cells_of, is_allocated_in};
 ghost use Rattle.reg_arena.specs.Internal.CellWalks.{IsRowOfBins, IsTiled, PushesCells};
 
 use crate::bin::HEADER_SIZE;
-use crate::words::{size_at, word_at};
+use crate::words::size_at;
 use crate::{ArenaFault, Cell};
+use reg_bins::BinRow;
 use std::alloc::Global;
 
-fn is_allocated_at(bins: &[u8], at: usize) -> bool
-    requires { at + 4 ≤ length bins.now }
-    ensures { result ≡ is_allocated_in (word bins.now at) }
+fn is_allocated_at(bins: &BinRow, at: usize) -> bool
+    requires { at + 4 ≤ length bins.now.items }
+    ensures { result ≡ is_allocated_in (word bins.now.items at) }
 {
-    word_at(bins, at) >= 0x8000_0000
+    bins.word_at(at) >= 0x8000_0000
 }
 
 // Puts the cells from `from` to `stop` behind those of `cells`.
-fn list_bin(bins: &[u8], from: usize, stop: usize, cells: &mut Vec<Cell>) -> Result<(), ArenaFault>
-    requires tiled { IsTiled bins.now from stop }
-    requires within { stop ≤ length bins.now }
-    requires small { length bins.now ≤ BINS_LIMIT }
-    ensures ok { OnOk result (PushesCells bins.now from stop cells.old.items cells.new.items) }
+fn list_bin(bins: &BinRow, from: usize, stop: usize, cells: &mut Vec<Cell>) -> Result<(), ArenaFault>
+    requires tiled { IsTiled bins.now.items from stop }
+    requires within { stop ≤ length bins.now.items }
+    requires small { length bins.now.items ≤ BINS_LIMIT }
+    ensures ok { OnOk result (PushesCells bins.now.items from stop cells.old.items cells.new.items) }
     ensures fault { IfErr result (λ fault. fault ≡ ArenaFault.Memory) }
 {
     let mut at = from;
@@ -42,16 +43,16 @@ fn list_bin(bins: &[u8], from: usize, stop: usize, cells: &mut Vec<Cell>) -> Res
 }
 
 // The cells of all bins.
-pub fn list_cells(alloc: Global, bins: &[u8]) -> Result<Vec<Cell>, ArenaFault>
-    requires bins { IsRowOfBins bins.now }
-    requires small { length bins.now ≤ BINS_LIMIT }
-    ensures ok { IfOk result (λ cells. cells_of bins.now ≡ Some cells.items) }
+pub fn list_cells(alloc: Global, bins: &BinRow) -> Result<Vec<Cell>, ArenaFault>
+    requires bins { IsRowOfBins bins.now.items }
+    requires small { length bins.now.items ≤ BINS_LIMIT }
+    ensures ok { IfOk result (λ cells. cells_of bins.now.items ≡ Some cells.items) }
     ensures fault { IfErr result (λ fault. fault ≡ ArenaFault.Memory) }
 {
     let mut cells = Vec::new(alloc);
     let mut at = 0;
     while at < bins.len() {
-        let size = word_at(bins, at + 8) as usize;
+        let size = bins.word_at(at + 8) as usize;
         list_bin(bins, at + HEADER_SIZE as usize, at + size, &mut cells)?;
         at += size;
     }

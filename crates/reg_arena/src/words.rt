@@ -1,42 +1,22 @@
-//! Numbers of four bytes in the bins.
-ghost use Rattle.std.specs.Prelude.{◌≡◌, ◌+◌, ◌≤◌, length, vec_capacity};
-ghost use Rattle.byteorder.specs.Endian.{little_bytes};
-ghost use Rattle.reg_heap.specs.ByteWords.{splice, word};
+//! Sizes in the bins.
+ghost use Rattle.std.specs.Prelude.{◌≡◌, ◌+◌, ◌≤◌, length};
+ghost use Rattle.reg_heap.specs.ByteWords.{word};
 ghost use Rattle.reg_arena.specs.Cells.{size_in};
 
-use byteorder::{ByteOrder, LittleEndian};
-
-#[tactic(auto, unfolding(reg_heap::specs::ByteWords::word))]
-pub fn word_at(bins: &[u8], at: usize) -> u32
-    requires { at + 4 ≤ length bins.now }
-    ensures { result ≡ word bins.now at }
-{
-    LittleEndian::read_u32(&bins[at..])
-}
-
-#[tactic(auto, unfolding(reg_heap::specs::ByteWords::splice))]
-fn set_word(bins: &mut [u8], at: usize, n: u32)
-    requires { at + 4 ≤ length bins.old }
-    ensures { bins.new ≡ splice at (little_bytes 4 n) bins.old }
-{
-    LittleEndian::write_u32(&mut bins[at..], n);
-}
-
-#[tactic(auto, unfolding(reg_heap::specs::ByteWords::splice))]
-pub fn put_word(bins: &mut Vec<u8>, at: usize, n: u32)
-    requires { at + 4 ≤ length bins.old.items }
-    ensures bytes { bins.new.items ≡ splice at (little_bytes 4 n) bins.old.items }
-    ensures capacity { vec_capacity bins.new ≡ vec_capacity bins.old }
-{
-    set_word(bins, at, n);
-}
+use reg_bins::BinRow;
 
 // The size that the size field at a place gives: an allocated cell's is negative.
-pub fn size_at(bins: &[u8], at: usize) -> u32
-    requires { at + 4 ≤ length bins.now }
-    ensures { result ≡ size_in (word bins.now at) }
+pub fn size_at(bins: &BinRow, at: usize) -> u32
+    requires { at + 4 ≤ length bins.now.items }
+    ensures { result ≡ size_in (word bins.now.items at) }
 {
-    let field = word_at(bins, at);
+    field_size(bins.word_at(at))
+}
+
+// The size that a size field gives.
+pub fn field_size(field: u32) -> u32
+    ensures { result ≡ size_in field }
+{
     if field < 0x8000_0000 {
         field
     } else {

@@ -14,11 +14,13 @@ use Rattle.reg_arena.specs.NewCells.{unused}
 use Rattle.reg_arena.specs.Carves.{or_else}
 use Rattle.reg_arena.specs.declared.free_lists.FreeLists.{FreeLists}
 use Rattle.reg_arena.specs.Internal.SizeTables.{freed}
-use Rattle.reg_arena.specs.Internal.ListedCells.{free_size, sized, IsListed, HasRoom, LacksCell}
+use Rattle.reg_arena.specs.Internal.BinParts.{IsSplit}
+use Rattle.reg_arena.specs.Internal.ListedCells.{free_size, sized, IsListed, IsIndexed, HasRoom, IsAdded}
 use Rattle.reg_arena.proofs.Contents.ByteSplices.{word-at}
 use Rattle.reg_arena.proofs.Carving.NewBinBytes.{says_bin, length-new_bin, appended}
 use Rattle.reg_arena.proofs.Carving.CarveWhole.{free-size, free-flag}
 use Rattle.reg_arena.proofs.Tiling.Tilings.{IsCell-same, IsCell-eight, cells_of-AreBins, cell_at-AreBins, Tiles-le}
+use Rattle.reg_arena.proofs.Tiling.BinParts.{split-more}
 use Rattle.reg_arena.proofs.Tiling.CellPositions.{stands}
 use Rattle.reg_arena.proofs.Tiling.ArenaInvariant.{AreBins-pages}
 use Rattle.reg_arena.proofs.Contents.CellContents.{content_in-append}
@@ -109,11 +111,6 @@ extends-append old more = record {
 pub size-eights : (size : ℕ) → size % 4096 ≡ 0 → (size - 32) % 8 ≡ 0
 size-eights size e = omega (arith, e)
 
--- what a new bin leaves
-pub record Grown (old new : List ℕ) (lists : FreeLists) (at size total : ℕ) : Type 0 where
-  pub lacks : LacksCell new lists (at + 32) (size - 32)
-  pub appends : AppendsBin old new total
-
 -- the lists have all free cells but the new bin's
 grown-listed : (old more : List ℕ) (lists : FreeLists) (size : ℕ) (a : IsArena old) → IsListed old (free_size (cells_in a.layout)) lists → size % 4096 ≡ 0 → length more ≡ size → 40 ≤ size →
     length old + size ≤ 268435456 → HasRoom ((length old + size) / 8) lists →
@@ -135,8 +132,37 @@ grown-listed old more lists size a w pages is wide room units =
     same cells at away x (inl e) = ap (free_size cells) e ∙ size-none at cells away ∙ sym (sized-here at 0 (free_size (cells ++ unused at (size - 32) ∷ [])) x e)
     same cells at away x (inr o) = sym (sized-other at 0 (free_size (cells ++ unused at (size - 32) ∷ [])) x o ∙ size-before x cells (unused at (size - 32) ∷ []) ((λ e. o (sym e)), tt))
 
+-- a bin with one free cell
+abbrev fresh : ℕ → ℕ → Bin
+fresh start size = record { start = start; size = size; cells = unused (start + 32) (size - 32) ∷ [] }
+
+-- the bins with the new one
+grown-tiled : (old : List ℕ) (link size : ℕ) (a : IsArena old) → size % 4096 ≡ 0 → 40 ≤ size → length old + size ≤ 268435456 → link < 4294967296 →
+    AreBins (old ++ new_bin (length old) size link) 0 (a.layout ++ fresh (length old) size ∷ [])
+grown-tiled old link size a pages wide room small =
+    let start : ℕ = length old in
+    let new : List ℕ = old ++ new_bin start size link in
+    let at : ℕ = start + 32 in
+    let n : ℕ = size - 32 in
+    let long : length new ≡ start + size = omega (arith, length-append old (new_bin start size link), length-new_bin start size link wide) in
+    let says = says_bin old start size link refl (omega arith) small in
+    let s = extends-append old (new_bin start size link) in
+    let bin : Bin = fresh start size in
+    let header : IsHeader new bin = record { signature = says.signature; place = says.place; size = says.size_is; positive = omega arith; pages = pages; within = omega arith } in
+    let end : at + n ≡ start + size = omega arith in
+    let cell : IsCell new (start + size) (unused at n) = record {
+      size = rw says.free (free-size n (omega arith));
+      allocated =
+          rw says.free (free-flag n (omega arith));
+      positive = omega arith;
+      eights = size-eights size pages;
+      within = omega arith;
+    } in
+    let last : AreBins new start (bin ∷ []) = (refl, header, (refl, cell, end), sym long) in
+    AreBins-extends s 0 a.layout (bin ∷ []) a.tiled last
+
 pub grown : (old : List ℕ) (lists : FreeLists) (link size total : ℕ) (a : IsArena old) → IsListed old (free_size (cells_in a.layout)) lists → IsBinSize size total → 0 < total →
-    length old + size ≤ 268435456 → link < 4294967296 → HasRoom ((length old + size) / 8) lists → Grown old (old ++ new_bin (length old) size link) lists (length old) size total
+    length old + size ≤ 268435456 → link < 4294967296 → HasRoom ((length old + size) / 8) lists → IsAdded old (old ++ new_bin (length old) size link) lists (length old + 32) (size - 32) total
 grown old lists link size total a w least some room small units =
     let start : ℕ = length old in
     let new : List ℕ = old ++ new_bin start size link in
@@ -146,20 +172,9 @@ grown old lists link size total a w least some room small units =
     let long : length new ≡ start + size = omega (arith, length-append old (new_bin start size link), length-new_bin start size link wide) in
     let says = says_bin old start size link refl (omega arith) small in
     let s = extends-append old (new_bin start size link) in
-    let bin : Bin = record { start = start; size = size; cells = unused at n ∷ [] } in
-    let header : IsHeader new bin = record { signature = says.signature; place = says.place; size = says.size_is; positive = omega arith; pages = least.pages; within = omega arith } in
+    let bin : Bin = fresh start size in
     let cells = cells_in a.layout in
-    let end : at + n ≡ start + size = omega arith in
-    let cell : IsCell new (start + size) (unused at n) = record {
-      size = rw says.free (free-size n (omega arith));
-      allocated =
-          rw says.free (free-flag n (omega arith));
-      positive = omega arith;
-      eights = size-eights size least.pages;
-      within = omega arith;
-    } in
-    let last : AreBins new start (bin ∷ []) = (refl, header, (refl, cell, end), sym long) in
-    let tiled : AreBins new 0 (a.layout ++ bin ∷ []) = AreBins-extends s 0 a.layout (bin ∷ []) a.tiled last in
+    let tiled : AreBins new 0 (a.layout ++ bin ∷ []) = grown-tiled old link size a least.pages wide room small in
     let cells' : cells_in (a.layout ++ bin ∷ []) ≡ cells ++ unused at n ∷ [] = cells_in-append a.layout (bin ∷ []) in
     let all = ends-from old a.layout a.tiled (λ c. IsCell old (length old) c) (λ c h. h) [] cells refl in
     let ends = ends-from old a.layout a.tiled (λ (c : Cell). c.offset + c.size < at) (λ c h. omega (arith, h.within)) [] cells refl in
@@ -194,10 +209,20 @@ grown old lists link size total a w least some room small units =
     }
 
 -- what the writes of a new bin leave
-pub added : (old long b2 b3 : List ℕ) (lists : FreeLists) (link at size total : ℕ) (a : IsArena old) → IsListed old (free_size (cells_in a.layout)) lists → IsBinSize size total → 0 < total →
-    at ≡ length old → length old + size ≤ 268435456 → link < 4294967296 → HasRoom ((at + size) / 8) lists → long ≡ old ++ replicate size 0 → b2 ≡ headed at size long →
-    b3 ≡ freed (at + 32) (size - 32) link b2 → Grown old b3 lists at size total
-added old long b2 b3 lists link at size total a w least some start room small units e f g =
-    let wide : 40 ≤ size = omega (arith, least.pages, least.holds) in
-    let all : b3 ≡ old ++ new_bin at size link = g ∙ ap (freed (at + 32) (size - 32) link) (f ∙ ap (headed at size) e) ∙ appended old at size link start wide in
-    rw (all, start) (grown old lists link size total a w least some room small (subst (λ k. HasRoom ((k + size) / 8) lists) start units))
+written : (old long b2 b3 : List ℕ) (link at size : ℕ) → at ≡ length old → 40 ≤ size → long ≡ old ++ replicate size 0 → b2 ≡ headed at size long →
+    b3 ≡ freed (at + 32) (size - 32) link b2 → b3 ≡ old ++ new_bin at size link
+written old long b2 b3 link at size start wide e f g =
+    g ∙ ap (freed (at + 32) (size - 32) link) (f ∙ ap (headed at size) e) ∙ appended old at size link start wide
+
+pub added : (old long b2 b3 : List ℕ) (lists : FreeLists) (link at size total : ℕ) → at ≡ length old → length old + size ≤ 268435456 → link < 4294967296 →
+    40 ≤ size → long ≡ old ++ replicate size 0 → b2 ≡ headed at size long → b3 ≡ freed (at + 32) (size - 32) link b2 →
+    IsIndexed old lists → HasRoom ((length old + size) / 8) lists → IsBinSize size total → 0 < total → IsAdded old b3 lists (at + 32) (size - 32) total
+added old long b2 b3 lists link at size total start room small wide e f g i units least some =
+    rw (written old long b2 b3 link at size start wide e f g, start) (grown old lists link size total i.arena i.listed least some room small units)
+
+pub added-split : (old long b2 b3 parts : List ℕ) (link at size : ℕ) → at ≡ length old → length old + size ≤ 268435456 → link < 4294967296 →
+    40 ≤ size → size % 4096 ≡ 0 → long ≡ old ++ replicate size 0 → b2 ≡ headed at size long → b3 ≡ freed (at + 32) (size - 32) link b2 →
+    IsArena old → IsSplit old parts → IsSplit b3 (parts ++ size ∷ [])
+added-split old long b2 b3 parts link at size start room small wide pages e f g a split =
+    rw (written old long b2 b3 link at size start wide e f g, start)
+    (split-more old (old ++ new_bin (length old) size link) parts a.layout (fresh (length old) size) a.tiled split refl (grown-tiled old link size a pages wide room small))

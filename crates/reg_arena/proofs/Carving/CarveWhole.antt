@@ -8,7 +8,7 @@ use Rattle.std.specs.List.{AllByRecursion}
 use Rattle.reg_heap.specs.ByteWords.{word, SameOutside}
 use Rattle.reg_arena.specs.declared.Cell.{Cell}
 use Rattle.reg_arena.specs.declared.free_lists.FreeLists.{FreeLists}
-use Rattle.reg_arena.specs.Cells.{Bin, IsCell, Tiles, AreBins, cells_in, content_in, cell_at, size_in, is_allocated_in}
+use Rattle.reg_arena.specs.Cells.{Bin, IsCell, Tiles, AreBins, bins_of, cells_in, content_in, cell_at, size_in, is_allocated_in}
 use Rattle.reg_arena.specs.Free.{AreApart}
 use Rattle.reg_arena.specs.Arena.{IsArena, AreBlank}
 use Rattle.reg_arena.specs.NewCells.{total_of, AreSizes, carved, offsets_of, zeroed, unused}
@@ -16,6 +16,7 @@ use Rattle.reg_arena.specs.Carves.{rest_of, or_else, IsInNoFree, Carves}
 use Rattle.reg_arena.specs.Internal.ListedCells.{free_size, sized, added, IsPiece, IsFreeOf, IsListed, IsIndexed, LacksCell, Adds, Drops}
 use Rattle.reg_arena.proofs.Contents.ByteSplices.{same-trans}
 use Rattle.reg_arena.proofs.Tiling.Tilings.{with_cells, AreBins-edit, cells_of-AreBins, cell_at-AreBins, Tiles-append, Tiles-same_above}
+use Rattle.reg_arena.proofs.Tiling.BinPlaces.{places-edited}
 use Rattle.reg_arena.proofs.Tiling.CellPositions.{stands}
 use Rattle.reg_arena.proofs.Tiling.BlankHeaders.{blank-edit}
 use Rattle.reg_arena.proofs.Tiling.ArenaInvariant.{AreBins-eights}
@@ -114,6 +115,7 @@ pub record Carving (old new : List ℕ) (cell size : ℕ) (ss : List ℕ) (xs ys
   pub arena : IsArena new
   pub cells_are : cells_in arena.layout ≡ xs ++ ((carved cell ss ++ rest_of (cell + total_of ss) (size - total_of ss)) ++ ys)
   pub carves : Carves old new ss (offsets_of cell ss)
+  pub bins : bins_of new ≡ bins_of old
 
 rest-tiles : (bytes : List ℕ) (at n hi : ℕ) → at + n ≡ hi → n % 8 ≡ 0 → n ≤ 268435456 → (0 < n → word bytes at ≡ n) → Tiles bytes at hi (rest_of at n)
 rest-tiles bytes at zero hi e f l w = omega arith
@@ -194,7 +196,7 @@ carving old s1 s2 s3 a cell size ss p oks positive fits r region field cut =
         kept = λ k h.
             let at = all-at (λ (d : Cell). d.allocated ≡ false → (k < d.offset) ⊎ (d.offset + d.size ≤ k)) xs c ys h in
             same-beside s k (at refl) ∙ r.kept k (subst (IsInNoFree k) (sym p.cells_are) h);
-      };
+      };      bins = places-edited old s3 layout q.ps q.b q.qs (q.us ++ (mid ++ q.vs)) q.bins a.tiled tiled';
     }
 
 -- ---- with the lists
@@ -266,7 +268,8 @@ rest-field s2 S lists at n listed h = let z = added-here at n S h in listed.fiel
 -- the cut of a cell that has its place
 cut-placed : (old s2 s3 : List ℕ) (lists : FreeLists) (cell size : ℕ) (ss : List ℕ) (a : IsArena old) (p : Place old a.layout cell size) → AreSizes ss →
     0 < total_of ss → total_of ss ≤ size → (adds : Adds (others a.layout cell) (cell + total_of ss) (size - total_of ss) old s2 lists) →
-    Relinked old adds.mid a.layout → CutTo s2 s3 cell ss → IsIndexed s3 lists × Carves old s3 ss (offsets_of cell ss)
+    Relinked old adds.mid a.layout → CutTo s2 s3 cell ss →
+    IsIndexed s3 lists × Carves old s3 ss (offsets_of cell ss) × (bins_of s3 ≡ bins_of old)
 cut-placed old s2 s3 lists cell size ss a p oks positive fits adds r cut =
     by (carving old adds.mid s2 s3 a cell size ss p oks positive fits r region field cut)
   where
@@ -279,17 +282,17 @@ cut-placed old s2 s3 lists cell size ss a p oks positive fits adds r cut =
     field : 0 < size - total_of ss → word s2 (cell + total_of ss) ≡ size - total_of ss
     field = rest-field s2 (others a.layout cell) lists (cell + total_of ss) (size - total_of ss) adds.listed
 
-    by : Carving old s3 cell size ss p.xs p.ys → IsIndexed s3 lists × Carves old s3 ss (offsets_of cell ss)
-    by c = (cut-listed old s2 s3 lists a.layout cell size (size - total_of ss) ss p positive (omega arith) adds.listed cut.region c.arena c.cells_are, c.carves)
+    by : Carving old s3 cell size ss p.xs p.ys → IsIndexed s3 lists × Carves old s3 ss (offsets_of cell ss) × (bins_of s3 ≡ bins_of old)
+    by c = (cut-listed old s2 s3 lists a.layout cell size (size - total_of ss) ss p positive (omega arith) adds.listed cut.region c.arena c.cells_are, c.carves, c.bins)
 
 pub cut-whole : (old s2 s3 : List ℕ) (lists lists' : FreeLists) (cell size total : ℕ) (ss : List ℕ) (l : LacksCell old lists cell size) → AreSizes ss → total ≡ total_of ss →
     0 < total → total ≤ size → Adds (others l.arena.layout cell) (cell + total) (size - total) old s2 lists' → CutTo s2 s3 cell ss →
-    IsIndexed s3 lists' × Carves old s3 ss (offsets_of cell ss)
+    IsIndexed s3 lists' × Carves old s3 ss (offsets_of cell ss) × (bins_of s3 ≡ bins_of old)
 cut-whole old s2 s3 lists lists' cell size total ss l oks e positive fits adds cut =
     by (place old l.arena.layout cell size l.arena.tiled l.there l.some) (subst (λ k. Adds (others l.arena.layout cell) (cell + k) (size - k) old s2 lists') e adds)
   where
     by : Place old l.arena.layout cell size → Adds (others l.arena.layout cell) (cell + total_of ss) (size - total_of ss) old s2 lists' →
-        IsIndexed s3 lists' × Carves old s3 ss (offsets_of cell ss)
+        IsIndexed s3 lists' × Carves old s3 ss (offsets_of cell ss) × (bins_of s3 ≡ bins_of old)
     by p adds' =
         let r = relinked old adds'.mid l.arena.layout (others l.arena.layout cell) l.arena.tiled (sub-free l.arena.layout cell) adds'.relinks in
         cut-placed old s2 s3 lists' cell size ss l.arena p oks (omega (arith, e)) (omega (arith, e)) adds' r cut

@@ -40,7 +40,7 @@ all-back : (P : Cell → Type 0) (xs ys : List Cell) → AllByRecursion P (xs ++
 all-back P [] ys all = all
 all-back P (x ∷ xs) ys all = all-back P xs ys all.1
 
-no_fit-larger : (bytes : List ℕ) (a b : ℕ) → a ≤ b → NoFit bytes a → NoFit bytes b
+pub no_fit-larger : (bytes : List ℕ) (a b : ℕ) → a ≤ b → NoFit bytes a → NoFit bytes b
 no_fit-larger bytes a b l none cells e = all-larger a b cells l (none cells e)
 
 rest-small : (at left rest : ℕ) → 0 < rest → AllByRecursion (IsUnder rest) (rest_of at left) → left < rest
@@ -51,7 +51,7 @@ some-same : (x y : List Cell) → ◌≡◌ {A = Option (List Cell)} (Some x) (S
 some-same x y e = cc (e)
 
 -- where no free cell is left for the rest, there was none for the cell that was cut and the rest
-fit-before : (old new offsets : List ℕ) (size rest : ℕ) → 0 < rest → Carves old new (size ∷ []) offsets → NoFit new rest → NoFit old (size + rest)
+pub fit-before : (old new offsets : List ℕ) (size rest : ℕ) → 0 < rest → Carves old new (size ∷ []) offsets → NoFit new rest → NoFit old (size + rest)
 fit-before old new offsets size rest some c none cells e =
     subst (AllByRecursion (IsUnder (size + rest))) (some-same _ _ (sym c.was ∙ e)) (all-append (IsUnder (size + rest)) c.before _ before ((λ free. here), after))
   where

@@ -1,6 +1,7 @@
 -- Room that is kept from one step to the next.
-use Rattle.std.proofs.Common.{ℕ, arith}
+use Rattle.std.proofs.Common.{ℕ, ◌/◌, arith}
 use Rattle.reg_arena.specs.declared.free_lists.FreeLists.{FreeLists}
+use Rattle.reg_arena.specs.Internal.ListedCells.{HasRoom}
 use Rattle.reg_arena.specs.Internal.Reserved.{AreReserved, KeepsTables, KeepsRoom}
 
 pub tables-then : (a b c : FreeLists) → KeepsTables a b → KeepsTables b c → KeepsTables a c
@@ -32,3 +33,6 @@ reserved-then limit capacity a b k r = record {
   firsts_long = omega (arith, k.firsts_long, r.firsts_long);
   words_long = omega (arith, k.words_long, r.words_long);
 }
+
+pub reserved-room : (limit capacity : ℕ) (lists : FreeLists) → AreReserved limit capacity lists → HasRoom (limit / 8) lists
+reserved-room limit capacity lists r = record { marks = omega (arith, r.marks_long); firsts = r.firsts_long; words = r.words_long }

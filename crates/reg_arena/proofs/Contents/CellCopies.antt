@@ -9,7 +9,7 @@ use Rattle.reg_arena.specs.declared.free_lists.FreeLists.{FreeLists}
 use Rattle.reg_arena.specs.Internal.ListedCells.{IsIndexed}
 use Rattle.reg_arena.proofs.Contents.CellWrites.{found, wrote, Wrote}
 
-part-of : (xs : List ℕ) (p m k n : ℕ) → k + n ≤ m → p + m ≤ length xs → take n (drop k (take m (drop p xs))) ≡ take n (drop (p + k) xs)
+pub part-of : (xs : List ℕ) (p m k n : ℕ) → k + n ≤ m → p + m ≤ length xs → take n (drop k (take m (drop p xs))) ≡ take n (drop (p + k) xs)
 part-of xs p m k n a b =
     let one : length (take n (drop k (take m (drop p xs)))) ≡ n = simp (length-take, length-drop) (omega arith) in
     let two : length (take n (drop (p + k) xs)) ≡ n = simp (length-take, length-drop) (omega arith) in

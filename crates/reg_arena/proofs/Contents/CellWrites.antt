@@ -8,7 +8,8 @@ use Rattle.reg_heap.specs.ByteWords.{word, splice, SameOutside}
 use Rattle.reg_heap.specs.Heaps.{Writes}
 use Rattle.reg_heap.proofs.CellFrame.{writes_one}
 use Rattle.reg_arena.specs.declared.Cell.{Cell}
-use Rattle.reg_arena.specs.Cells.{Bin, IsCell, Tiles, AreBins, cells_in, content_in, size_in, cell_at, cells_of}
+use Rattle.reg_arena.specs.Cells.{Bin, IsCell, Tiles, AreBins, cells_in, content_in, size_in, cell_at, cells_of, bins_of}
+use Rattle.reg_arena.proofs.Tiling.BinPlaces.{places-same}
 use Rattle.reg_arena.specs.Arena.{IsArena}
 use Rattle.reg_arena.specs.declared.free_lists.FreeLists.{FreeLists}
 use Rattle.reg_arena.specs.Internal.ListedCells.{IsListed, IsIndexed, IsFreeOf, free_size}
@@ -98,6 +99,7 @@ pub record Wrote (old new : List ℕ) (lists : FreeLists) (cell at : ℕ) (piece
   pub long : length new ≡ length old
   pub contents : (offset : ℕ) → cell_at new offset ≡ cond (eqb offset cell) (Some (splice at piece (unwrap_or (cell_at old cell) []))) (cell_at old offset)
   pub writes : Writes (cell_at old) (cell_at new) (cell ∷ [])
+  pub bins : bins_of new ≡ bins_of old
 
 contents-by : (old new : List ℕ) (xs : List Cell) (c : Cell) (ys : List Cell) (value : List ℕ) (offset : ℕ) → c.allocated ≡ true →
     take (c.size - 4) (drop (c.offset + 4) new) ≡ value → content_in new xs offset ≡ content_in old xs offset →
@@ -165,6 +167,7 @@ wrote-by old lists at piece a listed xs c ys e used content fits =
       long = s.long;
       contents = contents;
       writes = writes_one (cell_at old) (cell_at new) c.offset _ (ap is_some content) contents;
+      bins = places-same old new a.layout a.tiled tiled;
     }
   where
     free : IsFreeOf (free_size (cells_in a.layout)) c.offset c.size

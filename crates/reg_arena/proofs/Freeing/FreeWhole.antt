@@ -7,7 +7,7 @@ use lib.Dec.{ltb}
 use Rattle.reg_heap.specs.ByteWords.{word, SameOutside}
 use Rattle.reg_arena.specs.declared.Cell.{Cell}
 use Rattle.reg_arena.specs.declared.free_lists.FreeLists.{FreeLists}
-use Rattle.reg_arena.specs.Cells.{Bin, cells_in, cell_at, content_in, cells_of}
+use Rattle.reg_arena.specs.Cells.{Bin, bins_of, cells_in, cell_at, content_in, cells_of}
 use Rattle.reg_arena.specs.Arena.{IsArena}
 use Rattle.reg_arena.specs.NewCells.{used, unused}
 use Rattle.reg_arena.specs.Carves.{or_else}
@@ -37,6 +37,7 @@ record FreedRow (old new : List ℕ) (lo n cell : ℕ) (xs ys : List Cell) : Typ
   long : length new ≡ length old
   now : cells_of new ≡ Some (xs ++ unused lo n ∷ ys)
   contents : (offset : ℕ) → cell_at new offset ≡ cond (eqb offset cell) None (cell_at old offset)
+  bins : bins_of new ≡ bins_of old
 
 -- what is there before the last step
 record Before (old s new : List ℕ) (a : IsArena old) (xs mid ys : List Cell) (cell lo hi : ℕ) : Type 0 where
@@ -63,7 +64,7 @@ freed-core old s new a xs m ms ys cell lo hi b start total =
     let f = freeing old s new a.layout xs m ms ys cell a.tiled r.tiled (r.blank a.blank) (omega (arith, r.long, a.small)) r.long r.contents a.apart
     b.cells_are b.row ends (omega (arith, b.in_lo)) (omega (arith, b.in_hi, total)) b.only region field in
     subst (λ k. FreedRow old new lo k cell xs ys) size (subst (λ k. FreedRow old new k (sizes (m ∷ ms)) cell xs ys) start
-    (record { arena = f.arena; cells_are = f.cells_are; long = f.long; now = f.now; contents = f.contents }))
+    (record { arena = f.arena; cells_are = f.cells_are; long = f.long; now = f.now; contents = f.contents; bins = f.bins }))
 
 freed-row : (old s new : List ℕ) (a : IsArena old) (xs ls rs ys : List Cell) (cell size lo hi : ℕ) →
     IsFreePiece lo cell ls → IsFreePiece (cell + size) hi rs → Before old s new a xs (ls ++ used cell size ∷ rs) ys cell lo hi → FreedRow old new lo (hi - lo) cell xs ys
@@ -127,7 +128,7 @@ pub free-whole : (old s1 s2 s3 : List ℕ) (lists l1 l2 l3 : FreeLists) (cell si
     left ≡ start_in lists.marks (cell - 8) → IsRight old (cell + size) right → Drops (free_size (cells_in i.arena.layout)) (cell + size) old s1 l1 →
     Drops (sized (cell + size) 0 (free_size (cells_in i.arena.layout))) (start_of left cell) s1 s2 l2 →
     Adds (gone i.arena.layout (start_of left cell) (cell + size)) (start_of left cell) (cell + size + right - start_of left cell) s2 s3 l3 →
-    IsIndexed s3 l3 × Frees old s3 cell × ((offset : ℕ) → cell_at s3 offset ≡ cond (eqb offset cell) None (cell_at old offset))
+    IsIndexed s3 l3 × Frees old s3 cell × ((offset : ℕ) → cell_at s3 offset ≡ cond (eqb offset cell) None (cell_at old offset)) × (bins_of s3 ≡ bins_of old)
 free-whole old s1 s2 s3 lists l1 l2 l3 cell size left right i s e h d1 d2 ad =
     let a = i.arena in
     let layout = a.layout in
@@ -184,6 +185,7 @@ free-whole old s1 s2 s3 lists l1 l2 l3 cell size left right i s e h d1 d2 ad =
         long = f.long;
       },
       f.contents,
+      f.bins,
     )
   where
     added-here : (r n : ℕ) (S : ℕ → ℕ) → 0 < n → added r n S r ≡ n

@@ -3,13 +3,14 @@ use Rattle.std.proofs.Common.{◌≡◌, ℕ, ◌+◌, ◌<◌, ◌≤◌, ◌%�
 use Rattle.std.proofs.lemmas.Bool.{cases_eq, eq-eqb, ne_eqb}
 use Rattle.std.specs.List.{AllByRecursion}
 use Rattle.reg_heap.specs.ByteWords.{word, SameOutside}
-use Rattle.reg_arena.specs.Cells.{Bin, IsCell, Tiles, AreBins, cells_in, content_in, cells_of, cell_at}
+use Rattle.reg_arena.specs.Cells.{Bin, IsCell, Tiles, AreBins, bins_of, cells_in, content_in, cells_of, cell_at}
 use Rattle.reg_arena.specs.Free.{Touch, AreApart}
 use Rattle.reg_arena.specs.Arena.{IsArena, AreBlank}
 use Rattle.reg_arena.specs.declared.Cell.{Cell}
 use Rattle.reg_arena.specs.NewCells.{unused}
 use Rattle.reg_arena.specs.Carves.{or_else}
 use Rattle.reg_arena.proofs.Tiling.Tilings.{sizes, with_cells, AreBins-edit, cells_of-AreBins, cell_at-AreBins, Tiles-back, Tiles-front, Tiles-le, IsCell-eight}
+use Rattle.reg_arena.proofs.Tiling.BinPlaces.{places-edited}
 use Rattle.reg_arena.proofs.Tiling.CellPositions.{AreBins-at}
 use Rattle.reg_arena.proofs.Tiling.BlankHeaders.{blank-edit}
 use Rattle.reg_arena.proofs.Contents.CellContents.{IsBeside, content_in-append, content_in-beside, AreOrdered, AreOrdered-AreBins, AreOrdered-back, besides-before, beside-after}
@@ -103,6 +104,7 @@ pub record Freeing (old new : List ℕ) (lo cell : ℕ) (xs mid ys : List Cell) 
   pub long : length new ≡ length old
   pub now : cells_of new ≡ Some (xs ++ unused lo (sizes mid) ∷ ys)
   pub contents : (offset : ℕ) → cell_at new offset ≡ cond (eqb offset cell) None (cell_at old offset)
+  pub bins : bins_of new ≡ bins_of old
 
 contents-free : (x m y : Option (List ℕ)) (offset cell : ℕ) → ((offset ≡ cell → ⊥) → m ≡ None) → (offset ≡ cell → (x ≡ None) × (y ≡ None)) →
     (offset ≡ cell) ⊎ (offset ≡ cell → ⊥) → or_else x y ≡ cond (eqb offset cell) None (or_else x (or_else m y))
@@ -163,5 +165,5 @@ freeing old s1 new layout xs m ms ys cell tiled0 tiled blank small long same apa
           (λ e. (content_in-none lo hi s1 xs offset before (omega arith) (omega arith), content_in-none lo hi s1 ys offset after (omega arith) (omega arith))) (cases_eq offset cell)
           ∙ ap (λ o. cond (eqb offset cell) None o) (sym (ap (or_else (content_in s1 xs offset)) (content_in-append s1 mid ys offset)) ∙
           sym (content_in-append s1 xs (mid ++ ys) offset) ∙ sym (ap (λ cs. content_in s1 cs offset) cells_are) ∙ same offset ∙
-          sym (cell_at-AreBins old layout offset tiled0));
+          sym (cell_at-AreBins old layout offset tiled0));      bins = places-edited old new layout p.ps p.b p.qs (p.us ++ ((free ∷ []) ++ p.vs)) p.bins tiled0 tiled';
     }

@@ -1,6 +1,6 @@
 -- Which fault an answer is.
 use Rattle.std.proofs.Common.{◌≡◌, ℕ, List, Ok, Err, arith}
-use Rattle.std.specs.Prelude.{IfErr, OnErr}
+use Rattle.std.specs.Prelude.{IfErr, OnErr, OnOk}
 use Rattle.std.specs.declared.result.Result.{Result}
 use Rattle.reg_arena.specs.declared.ArenaFault.{ArenaFault}
 use Rattle.reg_arena.specs.NewBin.{PassesLimit, HasRoomForBin}
@@ -17,3 +17,7 @@ room-or-not bytes total room h = (let fits = room h.size h.least in omega (arith
 pub on_err : {A E : Type 0} (result : Result A E) (P : Type 0) → P → OnErr result P
 on_err (Ok x) P p = tt
 on_err (Err e) P p = p
+
+pub on_ok : {A E : Type 0} (result : Result A E) (P : Type 0) → P → OnOk result P
+on_ok (Ok x) P p = p
+on_ok (Err e) P p = tt

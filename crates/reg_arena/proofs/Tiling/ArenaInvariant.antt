@@ -6,6 +6,8 @@ use Rattle.reg_arena.specs.Cells.{Bin, Tiles, AreBins, cells_in}
 use Rattle.reg_arena.specs.Arena.{IsArena}
 use Rattle.reg_arena.specs.declared.free_lists.FreeLists.{FreeLists}
 use Rattle.reg_arena.specs.Internal.CellWalks.{IsRowOfBins}
+use Rattle.reg_bins.specs.Rows.{Row}
+use Rattle.reg_arena.specs.Internal.BinParts.{IsSplit}
 use Rattle.reg_arena.specs.Internal.ListedCells.{IsIndexed, IsKept}
 use Rattle.reg_arena.proofs.Contents.CellWrites.{all-append}
 
@@ -29,10 +31,14 @@ row_of_bins bytes a = record { layout = a.layout; tiled = a.tiled }
 
 -- ---- the invariant's one word
 
-pub opened : (bytes : List ℕ) (lists : FreeLists) → IsKept bytes lists → IsIndexed bytes lists
+pub opened : (bins : Row) (lists : FreeLists) → IsKept bins lists → IsIndexed bins.items lists
 unfolding IsKept
-opened bytes lists kept = kept
+opened bins lists kept = kept.indexed
 
-pub closed : (bytes : List ℕ) (lists : FreeLists) → IsIndexed bytes lists → IsKept bytes lists
+pub apart : (bins : Row) (lists : FreeLists) → IsKept bins lists → IsSplit bins.items bins.parts
 unfolding IsKept
-closed bytes lists indexed = indexed
+apart bins lists kept = kept.split
+
+pub closed : (bins : Row) (lists : FreeLists) → IsIndexed bins.items lists → IsSplit bins.items bins.parts → IsKept bins lists
+unfolding IsKept
+closed bins lists indexed split = record { indexed = indexed; split = split }

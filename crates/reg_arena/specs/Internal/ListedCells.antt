@@ -6,7 +6,10 @@ use Rattle.reg_heap.specs.ByteWords.{word, splice, SameOutside}
 use Rattle.reg_arena.specs.declared.Cell.{Cell}
 use Rattle.reg_arena.specs.declared.free_lists.FreeLists.{FreeLists}
 use Rattle.reg_arena.specs.declared.free_lists.Fit.{Fit}
+use Rattle.reg_bins.specs.Rows.{Row}
 use Rattle.reg_arena.specs.Arena.{IsArena}
+use Rattle.reg_arena.specs.NewBin.{AppendsBin}
+use Rattle.reg_arena.specs.Internal.BinParts.{IsSplit}
 use Rattle.reg_arena.specs.Cells.{cells_in}
 use Rattle.reg_arena.specs.Classes.{class_of}
 use Rattle.reg_arena.specs.Internal.CellThreads.{AreThreads}
@@ -124,9 +127,14 @@ pub record IsIndexed (bytes : List ℕ) (lists : FreeLists) : Type 0 where
   pub arena : IsArena bytes
   pub listed : IsListed bytes (free_size (cells_in arena.layout)) lists
 
+-- an arena, with its free cells in lists, and each bin in a vector of its own
+pub record IsStored (bins : Row) (lists : FreeLists) : Type 0 where
+  pub indexed : IsIndexed bins.items lists
+  pub split : IsSplit bins.items bins.parts
+
 -- the same as one word: what every arena keeps
-unfoldable pub IsKept : List ℕ → FreeLists → Type 0
-IsKept bytes lists = IsIndexed bytes lists
+unfoldable pub IsKept : Row → FreeLists → Type 0
+IsKept bins lists = IsStored bins lists
 
 -- an arena, with its free cells in lists, and one that fits
 pub record HasFit (bytes : List ℕ) (lists : FreeLists) (total : ℕ) (fit : Fit) : Type 0 where
@@ -139,3 +147,8 @@ pub record LacksCell (bytes : List ℕ) (lists : FreeLists) (cell size : ℕ) : 
   pub there : free_size (cells_in arena.layout) cell ≡ size
   pub some : 0 < size
   pub listed : IsListed bytes (sized cell 0 (free_size (cells_in arena.layout))) lists
+
+-- a bin was appended whose one free cell is in no list
+pub record IsAdded (old new : List ℕ) (lists : FreeLists) (cell size total : ℕ) : Type 0 where
+  pub lacks : LacksCell new lists cell size
+  pub appends : AppendsBin old new total

@@ -1,5 +1,6 @@
 -- Room for bins to come: capacity for their bytes, and tables that reach as far.
-use Rattle.std.specs.Prelude.{ℕ, ◌*◌, ◌≤◌, length}
+use Rattle.std.specs.Prelude.{◌≡◌, ℕ, ◌*◌, ◌≤◌, List, length, replicate}
+use Rattle.reg_arena.specs.NewBin.{IsBinSize}
 use Rattle.reg_arena.specs.declared.free_lists.FreeLists.{FreeLists}
 
 -- the bins may have so many bytes in all before memory is asked for
@@ -19,3 +20,8 @@ pub record KeepsTables (old new : FreeLists) : Type 0 where
 pub record KeepsRoom (capacity : ℕ) (old : FreeLists) (capacity' : ℕ) (new : FreeLists) : Type 0 where
   pub bytes : capacity ≤ capacity'
   pub tables : KeepsTables old new
+
+-- zeros for a bin of the least size that has room for so many bytes of cells
+pub record IsBlank (blank : List ℕ) (total : ℕ) : Type 0 where
+  pub zeros : blank ≡ replicate (length blank) 0
+  pub least : IsBinSize (length blank) total

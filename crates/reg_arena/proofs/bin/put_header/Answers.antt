@@ -7,10 +7,10 @@ use Rattle.reg_arena.proofs.bin.put_header.Goals as goal
 pub put_word-requires-2 : goal.put_word-requires-2
 put_word-requires-2 c =
     let one = length-splice c.args.at (little_bytes 4 1852400232) c.args.bins.now.items (omega arith) in
-    rw c.put_word.ensures.bytes (omega arith)
+    rw c.put_word.ensures.items (omega arith)
 
 pub put_word-requires-3 : goal.put_word-requires-3
 put_word-requires-3 c =
     let one = length-splice c.args.at (little_bytes 4 1852400232) c.args.bins.now.items (omega arith) in
     let two = length-splice (c.args.at + 4) (little_bytes 4 c.args.at) (splice c.args.at (little_bytes 4 1852400232) c.args.bins.now.items) (omega arith) in
-    rw (c.put_word-2.ensures.bytes, c.put_word.ensures.bytes) (omega arith)
+    rw (c.put_word-2.ensures.items, c.put_word.ensures.items) (omega arith)

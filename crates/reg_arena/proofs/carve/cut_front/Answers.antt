@@ -1,6 +1,8 @@
-use Rattle.std.proofs.Common.{arith}
+use Rattle.std.proofs.Common.{arith, ◌∙◌}
 use Rattle.reg_arena.proofs.Carving.CarveCuts.{CutTo}
 use Rattle.reg_arena.proofs.Carving.CarveWhole.{rest-place, cut-whole, adds-long}
+use Rattle.reg_arena.proofs.Tiling.BinPlaces.{split-kept}
+use Rattle.reg_arena.proofs.Tiling.BinParts.{free-part}
 use Rattle.reg_arena.proofs.carve.cut_front.Goals as goal
 
 pub overflow_add-fit : goal.overflow_add-fit
@@ -38,3 +40,15 @@ returns-clause-carves c =
     let cut : CutTo c.insert.new.bins.items c.cut.new.bins.items c.args.fit.cell c.args.sizes.now =
     record { region = c.cut.ensures.region; tiles = c.cut.ensures.tiles; zero = c.cut.ensures.zero } in
     (cut-whole _ _ _ _ _ _ _ _ _ c.requires.lacks c.requires.sizes c.requires.total c.requires.positive c.requires.fits (c.insert.ensures.adds _ c.requires.lacks.listed r.3) cut).1
+
+pub cut-requires-clause-part : goal.cut-requires-clause-part
+cut-requires-clause-part c = rw (c.insert.ensures.parts, ← c.requires.total) (free-part _ _ _ _ _ c.requires.lacks c.requires.split c.args.fit.cell c.args.total (omega arith) (omega (arith, c.requires.fits)))
+
+pub returns-clause-split : goal.returns-clause-split
+returns-clause-split c =
+    let r = rest-place _ _ _ _ _ _ c.requires.lacks c.requires.sizes c.requires.total c.requires.fits in
+    let cut : CutTo c.insert.new.bins.items c.cut.new.bins.items c.args.fit.cell c.args.sizes.now =
+    record { region = c.cut.ensures.region; tiles = c.cut.ensures.tiles; zero = c.cut.ensures.zero } in
+    let whole = cut-whole _ _ _ _ _ _ _ _ _ c.requires.lacks c.requires.sizes c.requires.total c.requires.positive c.requires.fits
+    (c.insert.ensures.adds _ c.requires.lacks.listed r.3) cut in
+    split-kept _ _ _ _ whole.2 (c.cut.ensures.parts ∙ c.insert.ensures.parts) c.requires.split

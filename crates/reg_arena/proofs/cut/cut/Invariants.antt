@@ -9,6 +9,7 @@ invariant-loop-size l = record {
   at : l.at ≡ l.cell + total_of (take l.size-index l.sizes);
   out : l.out.items ≡ l.initial.out.items ++ offsets_of l.cell (take l.size-index l.sizes);
   room : vec_len l.out + (length l.sizes - l.size-index) ≤ vec_capacity l.out;
-  capacity : vec_capacity l.bins ≡ vec_capacity l.initial.bins;
+  bins_room : l.bins.room ≡ l.initial.bins.room;
+  parts : l.bins.parts ≡ l.initial.bins.parts;
   out_capacity : vec_capacity l.initial.out ≤ vec_capacity l.out;
 }

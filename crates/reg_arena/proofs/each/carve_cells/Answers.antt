@@ -2,24 +2,14 @@ use Rattle.std.proofs.Common.{◌∙◌, ◌++◌, ap}
 use Rattle.reg_heap.specs.Heaps.{AreNew}
 use Rattle.reg_arena.specs.Cells.{cell_at}
 use Rattle.reg_arena.specs.EachCell.{EachFalling}
-use Rattle.reg_arena.specs.Internal.ListedCells.{IsIndexed}
 use Rattle.reg_arena.proofs.each.carve_cells.Goals as goal
-
-pub returns-then-is_err-2-clause-arena : goal.returns-then-is_err-2-clause-arena
-returns-then-is_err-2-clause-arena c =
-    let i = c.requires.arena in
-    let now : IsIndexed c.args.bins.now.items c.reserve_bins.new.lists = record { arena = i.arena; listed = c.reserve_bins.ensures.listed _ i.listed } in
-    rw c.reserve_bins.ensures.bytes now
-
-pub carve_all-requires-clause-arena : goal.carve_all-requires-clause-arena
-carve_all-requires-clause-arena c =
-    let i = c.requires.arena in
-    let now : IsIndexed c.args.bins.now.items c.reserve_bins.new.lists = record { arena = i.arena; listed = c.reserve_bins.ensures.listed _ i.listed } in
-    rw c.reserve_bins.ensures.bytes now
 
 pub returns-clause-ok : goal.returns-clause-ok
 returns-clause-ok c =
     let each = c.carve_all.ensures.each in
-    let falling : EachFalling c.args.bins.now.items c.carve_all.new.bins.items c.args.sizes.now each.0 = rw (← c.reserve_bins.ensures.bytes) each.2 in
-    let new : AreNew (cell_at c.args.bins.now.items) (cell_at c.carve_all.new.bins.items) each.0 c.args.sizes.now = rw (← c.reserve_bins.ensures.bytes) each.3 in
+    let falling : EachFalling c.args.bins.now.items c.carve_all.new.bins.items c.args.sizes.now each.0 = rw (← c.spares_for.ensures.items) each.2 in
+    let new : AreNew (cell_at c.args.bins.now.items) (cell_at c.carve_all.new.bins.items) each.0 c.args.sizes.now = rw (← c.spares_for.ensures.items) each.3 in
     (each.0, each.1 ∙ ap (λ items. items ++ each.0) c.reserve.ensures.items, falling, new)
+
+pub carve_all-requires-clause-reserved : goal.carve_all-requires-clause-reserved
+carve_all-requires-clause-reserved c = rw c.spares_for.ensures.items c.in-Ok.ensures.ok

@@ -1,6 +1,7 @@
-use Rattle.reg_heap.specs.declared.limits.TheConstants.{BINS_LIMIT}
+use Rattle.std.proofs.Common.{arith}
+use Rattle.reg_arena.specs.Internal.Reserved.{IsBlank}
 use Rattle.reg_arena.proofs.FreeList.ListedArenas.{no-fit}
-use Rattle.reg_arena.proofs.Carving.FreshBins.{fresh-least, fresh-room}
+use Rattle.reg_arena.proofs.Carving.FreshBins.{fresh-is}
 use Rattle.reg_arena.proofs.Carving.ReservedRoom.{reserved-then, tables-first}
 use Rattle.reg_arena.proofs.Carving.EachCarve.{one-carved}
 use Rattle.reg_arena.proofs.each.carve_one.Goals as goal
@@ -8,28 +9,42 @@ use Rattle.reg_arena.proofs.each.carve_one.Goals as goal
 pub best_fit-requires-clause-lists : goal.best_fit-requires-clause-lists
 best_fit-requires-clause-lists c = record { sizes = _; listed = c.requires.arena.listed }
 
-pub carve_bin-requires-clause-arena : goal.carve_bin-requires-clause-arena
-carve_bin-requires-clause-arena c = record { arena = c.requires.arena.arena; listed = c.best_fit.ensures.listed _ c.requires.arena.listed }
-
-pub carve_bin-requires-clause-none : goal.carve_bin-requires-clause-none
-carve_bin-requires-clause-none c = no-fit _ _ _ c.requires.arena (c.in_default.ensures.fit _ c.requires.arena.listed)
-
-pub carve_bin-requires-clause-room : goal.carve_bin-requires-clause-room
-carve_bin-requires-clause-room c = fresh-room c.args.bins.now.items BINS_LIMIT c.args.size c.requires.limit
-
 pub carve_found-requires-clause-fit : goal.carve_found-requires-clause-fit
 carve_found-requires-clause-fit c = record {
   indexed = record { arena = c.requires.arena.arena; listed = c.best_fit.ensures.listed _ c.requires.arena.listed };
   fit_is = c.in-Some.ensures.fit _ c.requires.arena.listed;
 }
 
-pub returns-in_default-clause-carves : goal.returns-in_default-clause-carves
-returns-in_default-clause-carves c =
-    let room = reserved-then _ _ _ _ c.best_fit.ensures.keeps c.requires.reserved in
-    one-carved c.carve_bin.result _ _ _ _ _ (c.carve_bin.ensures.succeeds _ (fresh-least c.args.size) room c.requires.room) c.carve_bin.ensures.ok
-
-pub returns-in_default-clause-keeps : goal.returns-in_default-clause-keeps
-returns-in_default-clause-keeps c = tables-first _ _ _ _ _ c.best_fit.ensures.keeps c.carve_bin.ensures.keeps
-
 pub returns-clause-keeps : goal.returns-clause-keeps
 returns-clause-keeps c = tables-first _ _ _ _ _ c.best_fit.ensures.keeps c.carve_found.ensures.keeps
+
+pub returns-in_default-blank-clause-arena : goal.returns-in_default-blank-clause-arena
+returns-in_default-blank-clause-arena c = record { arena = c.requires.arena.arena; listed = c.best_fit.ensures.listed _ c.requires.arena.listed }
+
+pub returns-in_default-blank-clause-carves : goal.returns-in_default-blank-clause-carves
+returns-in_default-blank-clause-carves c =
+    let none = no-fit _ _ _ c.requires.arena (c.in_default.ensures.fit _ c.requires.arena.listed) in
+    absurd (rw c.in_default-blank.is at (c.requires.spare none))
+
+pub carve_blank-requires-clause-arena : goal.carve_blank-requires-clause-arena
+carve_blank-requires-clause-arena c = record { arena = c.requires.arena.arena; listed = c.best_fit.ensures.listed _ c.requires.arena.listed }
+
+pub carve_blank-requires-clause-none : goal.carve_blank-requires-clause-none
+carve_blank-requires-clause-none c = no-fit _ _ _ c.requires.arena (c.in_default.ensures.fit _ c.requires.arena.listed)
+
+pub carve_blank-requires-clause-blank : goal.carve_blank-requires-clause-blank
+carve_blank-requires-clause-blank c =
+    let none = no-fit _ _ _ c.requires.arena (c.in_default.ensures.fit _ c.requires.arena.listed) in
+    rw c.in-Some-blank.is at (c.requires.spare none)
+
+pub carve_blank-requires-clause-limit : goal.carve_blank-requires-clause-limit
+carve_blank-requires-clause-limit c =
+    let none = no-fit _ _ _ c.requires.arena (c.in_default.ensures.fit _ c.requires.arena.listed) in
+    let blank : IsBlank c.in-Some-blank.bytes.items c.args.size = rw c.in-Some-blank.is at (c.requires.spare none) in
+    omega (arith, fresh-is _ _ blank.least, c.requires.limit)
+
+pub carve_blank-requires-clause-reserved : goal.carve_blank-requires-clause-reserved
+carve_blank-requires-clause-reserved c =
+    let none = no-fit _ _ _ c.requires.arena (c.in_default.ensures.fit _ c.requires.arena.listed) in
+    let blank : IsBlank c.in-Some-blank.bytes.items c.args.size = rw c.in-Some-blank.is at (c.requires.spare none) in
+    rw (fresh-is _ _ blank.least) (reserved-then _ _ _ _ c.best_fit.ensures.keeps (c.requires.reserved none))

@@ -1,5 +1,6 @@
-use Rattle.reg_arena.proofs.Tiling.BinPieces.{in_bin-within}
+use Rattle.reg_arena.proofs.Tiling.ArenaInvariant.{apart}
+use Rattle.reg_arena.proofs.Tiling.BinParts.{piece-part}
 use Rattle.reg_arena.proofs.arena.Arena.bytes.Goals as goal
 
-pub bytes_part-requires : goal.bytes_part-requires
-bytes_part-requires c = rw c.deref.ensures.value (in_bin-within _ _ _ (rw (← c.self.view_is) at c.requires))
+pub slice-requires : goal.slice-requires
+slice-requires c = piece-part _ _ _ _ (apart _ _ c.self.invariant) (rw (← c.self.view_is) at c.requires)

@@ -3,7 +3,7 @@ use Rattle.std.proofs.lemmas.Bool.{eqb-false}
 use Rattle.reg_arena.proofs.FreeList.ListedArenas.{total-positive, no-fit, fit-some}
 use Rattle.reg_arena.proofs.Carving.CarveWhole.{total-eights}
 use Rattle.reg_arena.proofs.Tiling.ArenaFaults.{not-full, room-or-not}
-use Rattle.reg_arena.proofs.Tiling.ArenaInvariant.{closed, opened}
+use Rattle.reg_arena.proofs.Tiling.ArenaInvariant.{apart, closed, opened}
 use Rattle.reg_arena.proofs.arena.Arena.carve.Goals as goal
 
 pub best_fit-requires-clause-lists : goal.best_fit-requires-clause-lists
@@ -18,7 +18,7 @@ pub best_fit-requires-clause-eights : goal.best_fit-requires-clause-eights
 best_fit-requires-clause-eights c = rw c.sum_of-total.ensures (total-eights c.args.sizes.now c.requires.sizes)
 
 pub invariant_of-self : goal.invariant_of-self
-invariant_of-self c = closed _ _ (record { arena = (opened _ _ c.self.invariant).arena; listed = c.best_fit.ensures.listed _ (opened _ _ c.self.invariant).listed })
+invariant_of-self c = closed _ _ (record { arena = (opened _ _ c.self.invariant).arena; listed = c.best_fit.ensures.listed _ (opened _ _ c.self.invariant).listed }) (apart _ _ c.self.invariant)
 
 pub returns-then-passes_limit-clause-full : goal.returns-then-passes_limit-clause-full
 returns-then-passes_limit-clause-full c =
@@ -73,7 +73,13 @@ pub passes_limit-requires-clause-small : goal.passes_limit-requires-clause-small
 passes_limit-requires-clause-small c = (opened _ _ c.self.invariant).arena.small
 
 pub invariant_of-self-in_default : goal.invariant_of-self-in_default
-invariant_of-self-in_default c = closed _ _ c.carve_bin.ensures.arena
+invariant_of-self-in_default c = closed _ _ c.carve_bin.ensures.arena c.carve_bin.ensures.split
 
 pub invariant_of-self-2 : goal.invariant_of-self-2
-invariant_of-self-2 c = closed _ _ c.carve_found.ensures.arena
+invariant_of-self-2 c = closed _ _ c.carve_found.ensures.arena c.carve_found.ensures.split
+
+pub carve_bin-requires-clause-split : goal.carve_bin-requires-clause-split
+carve_bin-requires-clause-split c = apart _ _ c.self.invariant
+
+pub carve_found-requires-clause-split : goal.carve_found-requires-clause-split
+carve_found-requires-clause-split c = apart _ _ c.self.invariant

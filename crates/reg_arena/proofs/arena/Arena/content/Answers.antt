@@ -1,15 +1,22 @@
+use Rattle.std.proofs.Common.{arith, ◌∙◌, sym}
 use Rattle.reg_arena.proofs.Contents.CellWrites.{found}
-use Rattle.reg_arena.proofs.Tiling.ArenaInvariant.{opened}
+use Rattle.reg_arena.proofs.Tiling.ArenaInvariant.{apart, opened}
+use Rattle.reg_arena.proofs.Tiling.BinParts.{rest-cell}
 use Rattle.reg_arena.proofs.arena.Arena.content.Goals as goal
 
-pub content_part-requires-clause-eight : goal.content_part-requires-clause-eight
-content_part-requires-clause-eight c = rw c.deref.ensures.value (found _ c.args.cell (opened _ _ c.self.invariant).arena (rw (← c.self.view_is) at c.requires)).eight
+pub rest-requires : goal.rest-requires
+rest-requires c =
+    let f = found _ c.args.cell (opened _ _ c.self.invariant).arena (rw (← c.self.view_is) at c.requires) in
+    omega (arith, f.eight, f.within)
 
-pub content_part-requires-clause-within : goal.content_part-requires-clause-within
-content_part-requires-clause-within c = rw c.deref.ensures.value (found _ c.args.cell (opened _ _ c.self.invariant).arena (rw (← c.self.view_is) at c.requires)).within
+pub content_of-requires-clause-eight : goal.content_of-requires-clause-eight
+content_of-requires-clause-eight c =
+    rw c.rest.ensures.bytes (rest-cell _ _ c.args.cell (opened _ _ c.self.invariant).arena (apart _ _ c.self.invariant) (rw (← c.self.view_is) at c.requires) c.rest.ensures.end).eight
+
+pub content_of-requires-clause-within : goal.content_of-requires-clause-within
+content_of-requires-clause-within c =
+    rw c.rest.ensures.bytes (rest-cell _ _ c.args.cell (opened _ _ c.self.invariant).arena (apart _ _ c.self.invariant) (rw (← c.self.view_is) at c.requires) c.rest.ensures.end).within
 
 pub returns : goal.returns
-returns c = rw (c.content_part.ensures, c.deref.ensures.value, ← c.self.view_is) (found _ c.args.cell (opened _ _ c.self.invariant).arena (rw (← c.self.view_is) at c.requires)).content
-
-pub content_part-requires-clause-small : goal.content_part-requires-clause-small
-content_part-requires-clause-small c = rw c.deref.ensures.value (opened _ _ c.self.invariant).arena.small
+returns c = rw (c.content_of.ensures, c.rest.ensures.bytes, ← c.self.view_is)
+    (rest-cell _ _ c.args.cell (opened _ _ c.self.invariant).arena (apart _ _ c.self.invariant) (rw (← c.self.view_is) at c.requires) c.rest.ensures.end).content

@@ -1,37 +1,40 @@
 use Rattle.reg_arena.proofs.Contents.CellCopies.{copied}
-use Rattle.reg_arena.proofs.Contents.CellWrites.{write_fits}
-use Rattle.reg_arena.proofs.Tiling.ArenaInvariant.{closed, opened}
+use Rattle.reg_arena.proofs.Tiling.BinPlaces.{split-kept}
+use Rattle.reg_arena.proofs.Tiling.BinParts.{content-part}
+use Rattle.reg_arena.proofs.Tiling.ArenaInvariant.{apart, closed, opened}
 use Rattle.reg_arena.proofs.arena.Arena.copy.Goals as goal
 
-pub move_part-requires-clause-source : goal.move_part-requires-clause-source
-move_part-requires-clause-source c = write_fits _ c.args.source c.args.from c.args.len (opened _ _ c.self.invariant).arena
+pub copy-requires-clause-source : goal.copy-requires-clause-source
+copy-requires-clause-source c = content-part _ _ c.args.source c.args.from c.args.len (opened _ _ c.self.invariant).arena (apart _ _ c.self.invariant)
     (rw (← c.self.view_is) at c.requires.source) (rw (← c.self.view_is) at c.requires.within)
 
-pub move_part-requires-clause-fits : goal.move_part-requires-clause-fits
-move_part-requires-clause-fits c = write_fits _ c.args.cell c.args.at c.args.len (opened _ _ c.self.invariant).arena
+pub copy-requires-clause-fits : goal.copy-requires-clause-fits
+copy-requires-clause-fits c = content-part _ _ c.args.cell c.args.at c.args.len (opened _ _ c.self.invariant).arena (apart _ _ c.self.invariant)
     (rw (← c.self.view_is) at c.requires.exists) (rw (← c.self.view_is) at c.requires.fits)
 
 pub invariant_of-self : goal.invariant_of-self
-invariant_of-self c = closed _ _ ((copied _ _ _ c.args.source c.args.from c.args.cell c.args.at c.args.len (opened _ _ c.self.invariant) (rw (← c.self.view_is) at c.requires.source)
+invariant_of-self c =
+    let w = copied _ _ _ c.args.source c.args.from c.args.cell c.args.at c.args.len (opened _ _ c.self.invariant) (rw (← c.self.view_is) at c.requires.source)
     (rw (← c.self.view_is) at c.requires.exists) (rw (← c.self.view_is) at c.requires.within)
-    (rw (← c.self.view_is) at c.requires.fits) c.move_part.ensures).indexed)
+    (rw (← c.self.view_is) at c.requires.fits) c.copy.ensures.items in
+    closed _ _ w.indexed (split-kept _ _ _ _ w.bins c.copy.ensures.parts (apart _ _ c.self.invariant))
 
 pub returns-clause-written : goal.returns-clause-written
 returns-clause-written c = rw (← c.self.view_is) (copied _ _ _ c.args.source c.args.from c.args.cell c.args.at c.args.len (opened _ _ c.self.invariant)
     (rw (← c.self.view_is) at c.requires.source) (rw (← c.self.view_is) at c.requires.exists) (rw (← c.self.view_is) at c.requires.within)
-    (rw (← c.self.view_is) at c.requires.fits) c.move_part.ensures).contents
+    (rw (← c.self.view_is) at c.requires.fits) c.copy.ensures.items).contents
 
 pub returns-clause-cells : goal.returns-clause-cells
 returns-clause-cells c = rw (← c.self.view_is) (copied _ _ _ c.args.source c.args.from c.args.cell c.args.at c.args.len (opened _ _ c.self.invariant)
     (rw (← c.self.view_is) at c.requires.source) (rw (← c.self.view_is) at c.requires.exists) (rw (← c.self.view_is) at c.requires.within)
-    (rw (← c.self.view_is) at c.requires.fits) c.move_part.ensures).cells
+    (rw (← c.self.view_is) at c.requires.fits) c.copy.ensures.items).cells
 
 pub returns-clause-writes : goal.returns-clause-writes
 returns-clause-writes c = rw (← c.self.view_is) (copied _ _ _ c.args.source c.args.from c.args.cell c.args.at c.args.len (opened _ _ c.self.invariant)
     (rw (← c.self.view_is) at c.requires.source) (rw (← c.self.view_is) at c.requires.exists) (rw (← c.self.view_is) at c.requires.within)
-    (rw (← c.self.view_is) at c.requires.fits) c.move_part.ensures).writes
+    (rw (← c.self.view_is) at c.requires.fits) c.copy.ensures.items).writes
 
 pub returns-clause-long : goal.returns-clause-long
 returns-clause-long c = rw (← c.self.view_is) (copied _ _ _ c.args.source c.args.from c.args.cell c.args.at c.args.len (opened _ _ c.self.invariant)
     (rw (← c.self.view_is) at c.requires.source) (rw (← c.self.view_is) at c.requires.exists) (rw (← c.self.view_is) at c.requires.within)
-    (rw (← c.self.view_is) at c.requires.fits) c.move_part.ensures).long
+    (rw (← c.self.view_is) at c.requires.fits) c.copy.ensures.items).long

@@ -1,4 +1,4 @@
-use Rattle.reg_arena.proofs.Tiling.ArenaInvariant.{opened, closed}
+use Rattle.reg_arena.proofs.Tiling.ArenaInvariant.{apart, opened, closed}
 use Rattle.reg_heap.proofs.CellFrame.{gives_up_one}
 use Rattle.reg_arena.specs.Cells.{cell_at}
 use Rattle.reg_arena.proofs.arena.Arena.free.Goals as goal
@@ -11,4 +11,7 @@ pub free_cell-requires-clause-arena : goal.free_cell-requires-clause-arena
 free_cell-requires-clause-arena c = opened _ _ c.self.invariant
 
 pub invariant_of-self : goal.invariant_of-self
-invariant_of-self c = closed _ _ c.free_cell.ensures.arena
+invariant_of-self c = closed _ _ c.free_cell.ensures.arena c.free_cell.ensures.split
+
+pub free_cell-requires-clause-split : goal.free_cell-requires-clause-split
+free_cell-requires-clause-split c = apart _ _ c.self.invariant

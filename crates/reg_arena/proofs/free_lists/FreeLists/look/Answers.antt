@@ -32,6 +32,6 @@ word_at-requires c =
 
 pub returns : goal.returns
 returns c = rw (← c.self.view_is) (λ sizes w.
-    let e = rw c.deref.ensures.value at c.word_at.ensures in
+    let e = c.word_at.ensures in
     rw e (large-fit _ _ _ _ _ _ _ _ w c.self.invariant c.args.total _ _ c.requires.eights c.requires.some c.in_default.ensures
     (get_or_default c.self.inside.heads 23 0 4294967295 (let z = w.heads_long in omega arith)) c.in-Some-find_large.ensures))
