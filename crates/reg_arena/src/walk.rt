@@ -19,7 +19,12 @@ fn is_allocated_at(bins: &BinRow, at: usize) -> bool
 }
 
 // Puts the cells from `from` to `stop` behind those of `cells`.
-fn list_bin(bins: &BinRow, from: usize, stop: usize, cells: &mut Vec<Cell>) -> Result<(), ArenaFault>
+fn list_bin(
+    bins: &BinRow,
+    from: usize,
+    stop: usize,
+    cells: &mut Vec<Cell>,
+) -> Result<(), ArenaFault>
     requires tiled { IsTiled bins.now.items from stop }
     requires within { stop ≤ length bins.now.items }
     requires small { length bins.now.items ≤ BINS_LIMIT }

@@ -196,7 +196,8 @@ carving old s1 s2 s3 a cell size ss p oks positive fits r region field cut =
         kept = λ k h.
             let at = all-at (λ (d : Cell). d.allocated ≡ false → (k < d.offset) ⊎ (d.offset + d.size ≤ k)) xs c ys h in
             same-beside s k (at refl) ∙ r.kept k (subst (IsInNoFree k) (sym p.cells_are) h);
-      };      bins = places-edited old s3 layout q.ps q.b q.qs (q.us ++ (mid ++ q.vs)) q.bins a.tiled tiled';
+      };
+      bins = places-edited old s3 layout q.ps q.b q.qs (q.us ++ (mid ++ q.vs)) q.bins a.tiled tiled';
     }
 
 -- ---- with the lists

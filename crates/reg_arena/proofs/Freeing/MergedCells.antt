@@ -165,5 +165,6 @@ freeing old s1 new layout xs m ms ys cell tiled0 tiled blank small long same apa
           (λ e. (content_in-none lo hi s1 xs offset before (omega arith) (omega arith), content_in-none lo hi s1 ys offset after (omega arith) (omega arith))) (cases_eq offset cell)
           ∙ ap (λ o. cond (eqb offset cell) None o) (sym (ap (or_else (content_in s1 xs offset)) (content_in-append s1 mid ys offset)) ∙
           sym (content_in-append s1 xs (mid ++ ys) offset) ∙ sym (ap (λ cs. content_in s1 cs offset) cells_are) ∙ same offset ∙
-          sym (cell_at-AreBins old layout offset tiled0));      bins = places-edited old new layout p.ps p.b p.qs (p.us ++ ((free ∷ []) ++ p.vs)) p.bins tiled0 tiled';
+          sym (cell_at-AreBins old layout offset tiled0));
+      bins = places-edited old new layout p.ps p.b p.qs (p.us ++ ((free ∷ []) ++ p.vs)) p.bins tiled0 tiled';
     }

@@ -20,7 +20,6 @@ use Rattle.reg_arena.proofs.Contents.ByteSplices.{word-at}
 use Rattle.reg_arena.proofs.Contents.CellWrites.{found}
 use Rattle.reg_arena.proofs.Contents.CellCopies.{part-of}
 
-
 -- ---- a bin more
 
 heads : {x y : BinPlace} {xs ys : List BinPlace} → x ∷ xs ≡ y ∷ ys → x ≡ y
