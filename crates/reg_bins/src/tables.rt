@@ -70,7 +70,8 @@ impl PageTables {
         ensures ok { OnOk result (long ≤ length self.new.items) }
         ensures succeeds { long ≤ length self.old.items → IsOk result }
     {
-        while self.pages.len() * PAGE < long {
+        let pages = (long + PAGE - 1) / PAGE;
+        while self.pages.len() < pages {
             let mut numbers = Vec::new(self.alloc);
             numbers.resize(PAGE, 0)?;
             self.pages.push(PageTable { numbers })?;
