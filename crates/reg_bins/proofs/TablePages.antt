@@ -12,6 +12,10 @@ length-pages (p ∷ ps) h =
     let rest = length-pages ps h.1 in
     length-append p.numbers.items (numbers_of ps) ∙ omega (arith, h.0, rest)
 
+-- the page of a place
+pub page_of : (pages : List PageTable) (place : ℕ) → AreWhole pages → place < length (numbers_of pages) → place / 512 < length pages
+page_of pages place h l = omega (arith, length-pages pages h)
+
 -- each page that is named is whole
 pub whole-at : (pages : List PageTable) (q : ℕ) (page : PageTable) → AreWhole pages → q < length pages → page ≡ get_or pages q page → length page.numbers.items ≡ 512
 whole-at [] q page h l e = absurd (omega arith)
@@ -40,27 +44,10 @@ number-set (p ∷ ps) place (suc q) r n page new h e k l is made =
     ap (λ xs. p.numbers.items ++ xs) (number-set ps (place - 512) q r n page new h.1 (omega arith) k (omega arith) is made) ∙
     sym (set-append_right p.numbers.items (numbers_of ps) 512 place n h.0 (omega arith))
 
--- the pages stay whole
-pub whole-set : (pages : List PageTable) (q : ℕ) (new : PageTable) → AreWhole pages → length new.numbers.items ≡ 512 → AreWhole (set pages q new)
-whole-set [] q new h l = h
-whole-set (p ∷ ps) zero new h l = (l, h.1)
-whole-set (p ∷ ps) (suc q) new h l = (h.0, whole-set ps q new h.1 l)
-
--- a page more
-whole-and : (pages : List PageTable) (page : PageTable) → AreWhole pages → length page.numbers.items ≡ 512 → AreWhole (pages ++ page ∷ [])
-whole-and [] page h l = (l, h)
-whole-and (p ∷ ps) page h l = (h.0, whole-and ps page h.1 l)
-
-pub whole-append : (pages more : List PageTable) (page : PageTable) → more ≡ pages ++ page ∷ [] → AreWhole pages → length page.numbers.items ≡ 512 → AreWhole more
-whole-append pages more page is h l = rw is (whole-and pages page h l)
-
+-- a page more at the end
 numbers-append : (pages : List PageTable) (page : PageTable) → numbers_of (pages ++ page ∷ []) ≡ numbers_of pages ++ page.numbers.items
 numbers-append [] page = append-nil page.numbers.items
 numbers-append (p ∷ ps) page = ap (λ xs. p.numbers.items ++ xs) (numbers-append ps page) ∙ sym (append_assoc p.numbers.items (numbers_of ps) page.numbers.items)
-
--- the page of a place
-pub page_of : (pages : List PageTable) (place : ℕ) → AreWhole pages → place < length (numbers_of pages) → place / 512 < length pages
-page_of pages place h l = omega (arith, length-pages pages h)
 
 -- zeros behind numbers show no more than there was
 zeros-at : (n place : ℕ) → ◌≡◌ {A = ℕ} (get_or (replicate n 0) place 0) 0
