@@ -50,7 +50,8 @@ impl PageTables {
         requires { place < length self.now.items }
         ensures { result ≡ get_or self.now.items place 0 }
     {
-        self.pages[place / PAGE].numbers[place % PAGE]
+        let page = &self.pages[place / PAGE];
+        page.numbers[place % PAGE]
     }
 
     /// Sets the number at a place.

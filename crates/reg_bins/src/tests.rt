@@ -41,8 +41,7 @@ fn push_twice(row: &mut BinRow, size: usize) -> Result<(), AllocError>
 
 // Bins of one page, of two and of one.
 fn three_bins(alloc: Global) -> Result<BinRow, AllocError>
-    ensures parts { IfOk result (λ row. row.parts ≡ 4096 ∷ 8192 ∷ 4096 ∷ []) }
-    ensures long { IfOk result (λ row. length row.items ≡ 16384) }
+    ensures { IfOk result (λ row. row.parts ≡ 4096 ∷ 8192 ∷ 4096 ∷ []) }
 {
     let mut row = BinRow::new(alloc);
     push_twice(&mut row, 4096)?;
@@ -58,16 +57,28 @@ fn assert_bytes(rt: &impl Abort, row: &BinRow, at: usize, bytes: &[u8])
 }
 
 fn words_of_three(rt: &impl Abort, row: &mut BinRow)
-    requires parts { row.old.parts ≡ 4096 ∷ 8192 ∷ 4096 ∷ [] }
-    requires long { length row.old.items ≡ 16384 }
+    requires { row.old.parts ≡ 4096 ∷ 8192 ∷ 4096 ∷ [] }
 {
-    assert_eq!(rt; (row.len(), row.rest(4096).len(), row.rest(12287).len()), (16384, 8192, 1));
+    assert!(rt; row.len() == 16384);
+    assert_eq!(rt;
+        (
+            row.rest(0).len(),
+            row.rest(4096).len(),
+            row.rest(12287).len()
+        ),
+        (4096, 8192, 1)
+    );
     row.put_word(8192, 0x04030201);
+    assert!(rt; row.len() == 16384);
     row.put_word(4093, 0x08070605);
+    assert!(rt; row.len() == 16384);
     assert_bytes(rt, row, 8191, &[0, 1, 2, 3, 4, 0]);
     assert_bytes(rt, row, 4092, &[0, 5, 6, 7]);
     assert_bytes(rt, row, 4096, &[8, 0]);
-    assert_eq!(rt; (row.word_at(8192), row.word_at(4093)), (0x04030201, 0x08070605));
+    assert_eq!(rt;
+        (row.word_at(8192), row.word_at(4093)),
+        (0x04030201, 0x08070605)
+    );
 }
 
 #[test]
@@ -110,6 +121,14 @@ fn numbers_of_pages(rt: HostRuntime) -> Result<(), Fail> {
         assert_eq!(rt; (tables.get(511), tables.get(512)), (7, 8));
         tables.lengthen(2049)?;
     }
-    assert_eq!(rt; [tables.get(510), tables.get(511), tables.get(512), tables.get(2048)], [0, 7, 8, 0]);
+    assert_eq!(rt;
+        [
+            tables.get(510),
+            tables.get(511),
+            tables.get(512),
+            tables.get(2048)
+        ],
+        [0, 7, 8, 0]
+    );
     Ok(())
 }
