@@ -12,6 +12,8 @@
 
 mod row;
 mod tables;
+#[cfg(test)]
+mod tests;
 
 pub use row::BinRow;
 pub use tables::PageTables;

@@ -50,7 +50,8 @@ impl PageTables {
         requires { place < length self.now.items }
         ensures { result ≡ get_or self.now.items place 0 }
     {
-        self.pages[place / PAGE].numbers[place % PAGE]
+        let page = &self.pages[place / PAGE];
+        page.numbers[place % PAGE]
     }
 
     /// Sets the number at a place.
@@ -70,7 +71,8 @@ impl PageTables {
         ensures ok { OnOk result (long ≤ length self.new.items) }
         ensures succeeds { long ≤ length self.old.items → IsOk result }
     {
-        while self.pages.len() * PAGE < long {
+        let pages = (long + PAGE - 1) / PAGE;
+        while self.pages.len() < pages {
             let mut numbers = Vec::new(self.alloc);
             numbers.resize(PAGE, 0)?;
             self.pages.push(PageTable { numbers })?;
