@@ -208,12 +208,12 @@ impl BinRow {
 
     /// Appends a bin. There is room for it.
     pub fn push(&mut self, bytes: Vec<u8>)
-        requires some { 0 < length bytes.now.items }
-        requires pages { length bytes.now.items % 4096 ≡ 0 }
-        requires limit { length self.old.items + length bytes.now.items ≤ BINS_LIMIT }
-        requires room { length self.old.items + length bytes.now.items ≤ self.old.room }
-        ensures items { self.new.items ≡ self.old.items ++ bytes.now.items }
-        ensures parts { self.new.parts ≡ self.old.parts ++ length bytes.now.items ∷ [] }
+        requires some { 0 < length bytes.items }
+        requires pages { length bytes.items % 4096 ≡ 0 }
+        requires limit { length self.old.items + length bytes.items ≤ BINS_LIMIT }
+        requires room { length self.old.items + length bytes.items ≤ self.old.room }
+        ensures items { self.new.items ≡ self.old.items ++ bytes.items }
+        ensures parts { self.new.parts ≡ self.old.parts ++ length bytes.items ∷ [] }
         ensures room { self.new.room ≡ self.old.room }
     {
         let start = self.len();

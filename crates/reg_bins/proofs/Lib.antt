@@ -1,0 +1,2 @@
+pub mod BinBytes
+pub mod Bins
