@@ -1,5 +1,5 @@
 -- Where a byte of bins in a row lies, and what a change of its bin makes of the row.
-use Rattle.std.proofs.Common.{◌≡◌, ℕ, zero, suc, ◌+◌, ◌-◌, ◌*◌, ◌/◌, ◌%◌, ◌<◌, ◌≤◌, ◌⊎◌, inl, inr, List, [], ◌∷◌, ◌++◌, length, get_or, set, take, drop, replicate, refl, sym, ap, ◌∙◌, subst, arith, append_assoc, length-append}
+use Rattle.std.proofs.Common.{◌≡◌, ℕ, zero, suc, ◌+◌, ◌-◌, ◌*◌, ◌/◌, ◌%◌, ◌<◌, ◌≤◌, ◌⊎◌, inl, inr, List, [], ◌∷◌, ◌++◌, length, get_or, set, take, drop, replicate, refl, sym, ap, ◌∙◌, subst, arith, append_assoc, length-append, Vec, Global, vec_len}
 use Rattle.std.proofs.lemmas.Bool.{cases_lt}
 use Rattle.std.proofs.lemmas.Bool.Decides.{nat_tests}
 use Rattle.std.proofs.lemmas.List.{length-replicate, get_or-replicate, get_or_append_left, get_or-append_right, get_or_at, get_or_read, set_at, append-nil}
@@ -126,15 +126,11 @@ pub record IsBin (parts : List Part) (pages : List ℕ) (at number : ℕ) (part 
   pub put : (piece : List ℕ) (new : Part) → at - part.start + length piece ≤ length part.bytes.items → new.start ≡ part.start
       → new.bytes.items ≡ splice (at - part.start) piece part.bytes.items → IsPut parts pages at piece (set parts number new)
 
-pub in-pages : (parts : List Part) (pages : List ℕ) (at : ℕ) → ArePlaced 0 0 parts pages → at < length (bytes_of parts) → at / 4096 < length pages
-in-pages parts pages at p l = (find 0 0 parts pages at at p (omega arith) l).page
-
-pub in-parts : (parts : List Part) (pages : List ℕ) (at number : ℕ) → ArePlaced 0 0 parts pages → at < length (bytes_of parts) → number ≡ get_or pages (at / 4096) number → number < length parts
-in-parts parts pages at number p l n =
-    let f = find 0 0 parts pages at at p (omega arith) l in
-    let e : number ≡ get_or pages (at / 4096) 0 = get_or_read pages (at / 4096) number f.page n 0 in
-    let long : length parts ≡ length f.before + suc (length f.behind) = ap length f.split ∙ length-append f.before (f.part ∷ f.behind) in
-    omega (arith, f.index)
+-- the bytes from there on to the bin's end
+pub rest-read : (parts : List Part) (pages : List ℕ) (at number : ℕ) (part : Part) (bytes : List ℕ) → IsBin parts pages at number part → bytes ≡ part.bytes.items
+    → take (length bytes - (at - part.start)) (drop (at - part.start) bytes) ≡ take (end_from 0 (sizes_of parts) at - at) (drop at (bytes_of parts))
+rest-read parts pages at number part bytes b e =
+    rw e (b.read (length part.bytes.items - (at - part.start)) (omega (arith, b.from, b.to)) ∙ ap (λ n. take n (drop at (bytes_of parts))) (omega (arith, b.from, b.to, b.ends)))
 
 bin-of : (before : List Part) (part : Part) (behind : List Part) (pages : List ℕ) (at : ℕ)
     → part.start ≡ length (bytes_of before) → part.start ≤ at → at < part.start + length part.bytes.items
@@ -170,17 +166,31 @@ bin-of before part behind pages at begins from to ends placed =
           };
     }
 
-pub bin : (parts : List Part) (pages : List ℕ) (at number : ℕ) (part : Part) → ArePlaced 0 0 parts pages → at < length (bytes_of parts)
-    → number ≡ get_or pages (at / 4096) number → part ≡ get_or parts number part → IsBin parts pages at number part
-bin parts pages at number part p l n e =
-    let f = find 0 0 parts pages at at p (omega arith) l in
-    let here : number ≡ length f.before = get_or_read pages (at / 4096) number f.page n 0 ∙ f.index ∙ omega arith in
-    let same : part ≡ f.part = e ∙ ap (λ ps. get_or ps number part) f.split ∙ get_or_at f.before f.part f.behind part number (sym here) in
-    subst (λ ps. IsBin ps pages at number part) (sym f.split)
-    (subst (λ k. IsBin (f.before ++ f.part ∷ f.behind) pages at k part) (sym here)
-      (subst (IsBin (f.before ++ f.part ∷ f.behind) pages at (length f.before)) (sym same)
-        (bin-of f.before f.part f.behind pages at (f.begins ∙ omega arith) f.from f.to
-          (ap (λ ps. end_from 0 (sizes_of ps) at) (sym f.split) ∙ f.ends) f.placed)))
+module _ (parts : Vec Part Global) (pages : Vec ℕ Global) (placed : ArePlaced 0 0 parts.items pages.items) (at : ℕ) (inside : at < length (bytes_of parts.items)) where
+  found-of : Found 0 0 parts.items pages.items at at
+  found-of = find 0 0 parts.items pages.items at at placed (omega arith) inside
+
+  pub in-pages : at / 4096 < vec_len pages
+  in-pages = omega (arith, found-of.page, pages.ok.0)
+
+  module _ (number : ℕ) (numbered : number ≡ get_or pages.items (at / 4096) number) where
+    here : number ≡ length found-of.before
+    here = get_or_read pages.items (at / 4096) number found-of.page numbered 0 ∙ found-of.index ∙ omega arith
+
+    pub in-parts : number < vec_len parts
+    in-parts =
+        let long : length parts.items ≡ length found-of.before + suc (length found-of.behind) = ap length found-of.split ∙ length-append found-of.before (found-of.part ∷ found-of.behind) in
+        omega (arith, here, parts.ok.0)
+
+    pub bin : (part : Part) → part ≡ get_or parts.items number part → IsBin parts.items pages.items at number part
+    bin part e =
+        let f = found-of in
+        let same : part ≡ f.part = e ∙ ap (λ ps. get_or ps number part) f.split ∙ get_or_at f.before f.part f.behind part number (sym here) in
+        subst (λ ps. IsBin ps pages.items at number part) (sym f.split)
+        (subst (λ k. IsBin (f.before ++ f.part ∷ f.behind) pages.items at k part) (sym here)
+          (subst (IsBin (f.before ++ f.part ∷ f.behind) pages.items at (length f.before)) (sym same)
+            (bin-of f.before f.part f.behind pages.items at (f.begins ∙ omega arith) f.from f.to
+              (ap (λ ps. end_from 0 (sizes_of ps) at) (sym f.split) ∙ f.ends) f.placed)))
 
 -- each page has a number
 pub pages-long : (number start : ℕ) (parts : List Part) (pages : List ℕ) → ArePlaced number start parts pages → length pages * 4096 ≡ length (bytes_of parts)

@@ -1,38 +1,31 @@
-use Rattle.std.proofs.Common.{rules, ◌≡◌, ◌+◌, ◌-◌, ◌≤◌, ◌<◌, ◌%◌, ◌/◌, ◌*◌, ◌++◌, ◌∷◌, [], length, take, drop, replicate, OnOk, OnErr, IfOk, ℕ, Bool, true, false, nat_eq, nat_lt, List, slice_index_or, slice_set, bit_and, bit_or, Fits, w8, w32, w64, Bor, MutBor}
-use Rattle.byteorder.specs.Endian.{little_bytes}
-use Rattle.reg_heap.specs.ByteWords.{splice, word}
-use Rattle.reg_heap.specs.declared.limits.TheConstants.{BINS_LIMIT}
-use Rattle.reg_bins.specs.Rows.{end_from, IsInPart}
+use Rattle.std.proofs.Common.{arith, ◌∙◌, ap, ap₂, take}
+use Rattle.reg_bins.proofs.Bins.{IsBin, in-pages, in-parts, bin, rest-read}
+use Rattle.reg_bins.proofs.row.BinRow.rest.Goals.{After-deref}
 use Rattle.reg_bins.proofs.row.BinRow.rest.Goals as goal
 
--- src/row.rt:81:32
 pub index-requires : goal.index-requires
-index-requires c = ?
+index-requires c = in-pages c.self.inside.parts c.self.inside.pages c.self.invariant.0 c.args.at (rw (← c.self.view_is) at c.requires)
 
--- src/row.rt:81:21
 pub index-part-requires : goal.index-part-requires
-index-part-requires c = ?
+index-part-requires c = in-parts c.self.inside.parts c.self.inside.pages c.self.invariant.0 c.args.at (rw (← c.self.view_is) at c.requires) _ c.index.ensures
 
--- src/row.rt:82:21
+found : (c : goal.After-deref) → IsBin c.self.inside.parts.items c.self.inside.pages.items c.args.at c.index.result.now c.index-part.result.now
+found c = bin c.self.inside.parts c.self.inside.pages c.self.invariant.0 c.args.at (rw (← c.self.view_is) at c.requires) _ c.index.ensures _ c.index-part.ensures
+
 pub overflow_sub-result : goal.overflow_sub-result
-overflow_sub-result c = ?
+overflow_sub-result c = (found c).from
 
--- src/row.rt:82:9
 pub slice_bounds-result-count : goal.slice_bounds-result-count
-slice_bounds-result-count c = ?
+slice_bounds-result-count c = let b = found c in omega (arith, b.to, c.deref.ensures.len, c.index-part.result.now.bytes.ok.0)
 
--- src/row.rt:82:9
 pub slice_bounds-result-start : goal.slice_bounds-result-start
-slice_bounds-result-start c = ?
+slice_bounds-result-start c = let b = found c in omega (arith, b.to, c.deref.ensures.len, c.index-part.result.now.bytes.ok.0)
 
--- src/row.rt:75:5
 pub returns-clause-within : goal.returns-clause-within
-returns-clause-within c = ?
+returns-clause-within c = let b = found (goal.at.returns-clause-within c).After-deref in rw (← c.self.view_is) (omega (arith, b.to, b.ends))
 
--- src/row.rt:75:5
 pub returns-clause-end : goal.returns-clause-end
-returns-clause-end c = ?
+returns-clause-end c = let b = found (goal.at.returns-clause-end c).After-deref in rw (← c.self.view_is) (omega (arith, b.within, b.ends))
 
--- src/row.rt:75:5
 pub returns-clause-bytes : goal.returns-clause-bytes
-returns-clause-bytes c = ?
+returns-clause-bytes c = let b = found (goal.at.returns-clause-bytes c).After-deref in rw (← c.self.view_is) (rest-read _ _ _ _ _ _ b c.deref.ensures.value)
