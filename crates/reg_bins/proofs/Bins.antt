@@ -6,7 +6,7 @@ use Rattle.std.proofs.lemmas.List.{length-replicate, get_or-replicate, get_or_ap
 use Rattle.std.proofs.lemmas.Grind.{common_steps}
 use Rattle.reg_heap.specs.ByteWords.{splice}
 use Rattle.reg_bins.specs.declared.row.Part.{Part}
-use Rattle.reg_bins.specs.Rows.{end_from}
+use Rattle.reg_bins.specs.Rows.{end_from, IsInPart}
 use Rattle.reg_bins.specs.Internal.{bytes_of, sizes_of, ArePlaced}
 use Rattle.reg_bins.proofs.BinBytes.{take-middle, splice-middle, length-splice}
 
@@ -191,6 +191,13 @@ module _ (parts : Vec Part Global) (pages : Vec ℕ Global) (placed : ArePlaced 
           (subst (IsBin (f.before ++ f.part ∷ f.behind) pages.items at (length f.before)) (sym same)
             (bin-of f.before f.part f.behind pages.items at (f.begins ∙ omega arith) f.from f.to
               (ap (λ ps. end_from 0 (sizes_of ps) at) (sym f.split) ∙ f.ends) f.placed)))
+
+-- some bytes from there on that lie in one bin
+pub is-inside : (parts : List Part) (at len : ℕ) → IsInPart (sizes_of parts) at len → 0 < len → at < length (bytes_of parts)
+is-inside parts at len h some = let l : at + len ≤ end_from 0 (sizes_of parts) at = h some in let i = end-in 0 parts at (omega arith) in omega (arith, i)
+
+pub fits-bin : {parts : List Part} {pages : List ℕ} {at number : ℕ} {part : Part} → IsBin parts pages at number part → (len : ℕ) → IsInPart (sizes_of parts) at len → 0 < len → at - part.start + len ≤ length part.bytes.items
+fits-bin {parts = parts} {at = at} b len h some = let l : at + len ≤ end_from 0 (sizes_of parts) at = h some in omega (arith, b.from, b.ends)
 
 -- each page has a number
 pub pages-long : (number start : ℕ) (parts : List Part) (pages : List ℕ) → ArePlaced number start parts pages → length pages * 4096 ≡ length (bytes_of parts)

@@ -31,10 +31,12 @@ pub struct BinRow {
     parts: Vec<Part>,
     /// For each page of all bins the number of the bin in which it lies.
     pages: Vec<u32>,
+    /// For how many pages both tables have room.
+    room: usize,
 }
 
 impl Model for BinRow {
-    ghost use Rattle.std.specs.Prelude.{◌*◌, ◌≤◌, length, min, vec_capacity};
+    ghost use Rattle.std.specs.Prelude.{◌*◌, ◌≤◌, length, vec_capacity};
     ghost use Rattle.reg_heap.specs.declared.limits.TheConstants.{BINS_LIMIT};
     ghost use Rattle.reg_bins.specs.Rows.{Row};
     ghost use Rattle.reg_bins.specs.Internal.{bytes_of, sizes_of, ArePlaced};
@@ -44,10 +46,10 @@ impl Model for BinRow {
     ghost view = { λ r. record {
       items = bytes_of r.parts.items;
       parts = sizes_of r.parts.items;
-      room = min (4096 * vec_capacity r.pages) (4096 * vec_capacity r.parts);
+      room = 4096 * r.room;
     } };
 
-    ghost invariant = { λ r. (ArePlaced 0 0 r.parts.items r.pages.items) × (length (bytes_of r.parts.items) ≤ BINS_LIMIT) };
+    ghost invariant = { λ r. (ArePlaced 0 0 r.parts.items r.pages.items) × (length (bytes_of r.parts.items) ≤ BINS_LIMIT) × (r.room ≤ vec_capacity r.pages) × (r.room ≤ vec_capacity r.parts) };
 }
 
 impl BinRow {
@@ -60,6 +62,7 @@ impl BinRow {
             alloc,
             parts: Vec::new(alloc),
             pages: Vec::new(alloc),
+            room: 0,
         }
     }
 
@@ -90,7 +93,7 @@ impl BinRow {
         if len == 0 {
             return &[];
         }
-        &self.rest(at)[..len]
+        part_slice(&self.parts[self.pages[at / PAGE] as usize], at, len)
     }
 
     /// The number of four bytes at `at`, the lowest first. They may lie in two bins.
@@ -132,10 +135,22 @@ impl BinRow {
         ensures room { self.new.room ≡ self.old.room }
     {
         let bytes = n.to_le_bytes();
-        if self.rest(at).len() >= 4 {
-            self.write(at, &bytes);
+        let number = self.pages[at / PAGE] as usize;
+        let part = &mut self.parts[number];
+        if part.bytes.len() - (at - part.start) >= 4 {
+            write_part(part, at, &bytes);
             return;
         }
+        self.put_apart(at, &bytes);
+    }
+
+    // Writes four bytes that may lie in two bins.
+    fn put_apart(&mut self, at: usize, bytes: &[u8; 4])
+        requires { at + 4 ≤ length self.old.items }
+        ensures items { self.new.items ≡ splice at bytes.now self.old.items }
+        ensures parts { self.new.parts ≡ self.old.parts }
+        ensures room { self.new.room ≡ self.old.room }
+    {
         for i in 0..4 {
             self.write(at + i, &bytes[i..i + 1]);
         }
@@ -173,13 +188,14 @@ impl BinRow {
             move_part(&mut self.parts[source], from, to, len);
             return;
         }
-        // The target's bytes are taken out for the copy, since both bins are of one vector.
-        let none = Vec::new(self.alloc);
-        let mut bytes = mem::replace(&mut self.parts[target].bytes, none);
-        let first = from - self.parts[source].start;
-        let place = to - self.parts[target].start;
-        bytes[place..place + len].copy_from_slice(&self.parts[source].bytes[first..first + len]);
-        self.parts[target].bytes = bytes;
+        // The target is taken out for the copy, since both bins are of one vector.
+        let none = Part {
+            start: 0,
+            bytes: Vec::new(self.alloc),
+        };
+        let mut part = mem::replace(&mut self.parts[target], none);
+        write_part(&mut part, to, part_slice(&self.parts[source], from, len));
+        self.parts[target] = part;
     }
 
     /// The bytes of a bin to come, all zeros.
@@ -203,7 +219,9 @@ impl BinRow {
         self.pages.reserve(more)?;
         // No bin is less than a page.
         let parts = self.pages.len() - self.parts.len() + more;
-        self.parts.reserve(parts)
+        self.parts.reserve(parts)?;
+        self.room = self.pages.capacity().min(self.parts.capacity());
+        Ok(())
     }
 
     /// Appends a bin. There is room for it.
@@ -222,6 +240,15 @@ impl BinRow {
         let _ = self.pages.resize(pages, number);
         let _ = self.parts.push(Part { start, bytes });
     }
+}
+
+fn part_slice(part: &Part, at: usize, len: usize) -> &[u8]
+    requires from { part.now.start ≤ at }
+    requires to { at - part.now.start + len ≤ length part.now.bytes.items }
+    ensures { result.now ≡ take len (drop (at - part.now.start) part.now.bytes.items) }
+{
+    let from = at - part.start;
+    &part.bytes[from..from + len]
 }
 
 #[tactic(auto, unfolding(reg_heap::specs::ByteWords::splice))]
