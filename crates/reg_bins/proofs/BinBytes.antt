@@ -1,6 +1,6 @@
 -- A piece of bytes in the middle of others: what is read of it, and what a change of it makes.
 use Rattle.std.proofs.Common.{◌≡◌, ℕ, zero, suc, ◌+◌, ◌-◌, ◌≤◌, ◌<◌, List, [], ◌∷◌, ◌++◌, length, take, drop, refl, sym, ap, ◌∙◌, arith, append_assoc, length-append, length-take, length-drop}
-use Rattle.std.proofs.lemmas.List.{length-take-le, drop-drop, drop_all, drop_at, take_at, drop-append-le, take-append-le, take_all}
+use Rattle.std.proofs.lemmas.List.{length-take-le, drop-drop, drop_all, drop_at, take_at, drop-append-le, take-append-le, take-append-drop, nil_from_length}
 use Rattle.std.proofs.Math.Seq.{take-append-add, drop-append-add}
 use Rattle.std.proofs.lemmas.Grind.{common_steps}
 use Rattle.reg_heap.specs.ByteWords.{splice}
@@ -34,9 +34,12 @@ splice-middle front piece behind bytes at h l =
     rw (first, last) (simp append_assoc)
 
 -- no bytes written over
-pub splice-none : (at : ℕ) (bytes : List ℕ) → splice at [] bytes ≡ bytes
+pub splice-none : (at : ℕ) (piece bytes : List ℕ) → length piece ≡ 0 → bytes ≡ splice at piece bytes
 unfolding splice
-splice-none at bytes = grind (arith, common_steps)
+splice-none at piece bytes h =
+    let e : piece ≡ [] = nil_from_length piece h in
+    let k : at + 0 ≡ at = omega arith in
+    rw (e, k) (sym (take-append-drop at bytes))
 
 -- the length stays
 pub length-splice : (at : ℕ) (piece bytes : List ℕ) → at + length piece ≤ length bytes → length (splice at piece bytes) ≡ length bytes

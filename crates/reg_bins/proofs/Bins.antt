@@ -166,6 +166,14 @@ bin-of before part behind pages at begins from to ends placed =
           };
     }
 
+-- so many bytes from a place on in one bin, as the page table gives it
+pub record IsPiece (parts : List Part) (pages : List ℕ) (at len number : ℕ) (part : Part) : Type 0 where
+  pub from : part.start ≤ at
+  pub fits : at - part.start + len ≤ length part.bytes.items
+  pub read : take len (drop (at - part.start) part.bytes.items) ≡ take len (drop at (bytes_of parts))
+  pub put : (piece : List ℕ) (new : Part) → length piece ≡ len → new.start ≡ part.start → new.bytes.items ≡ splice (at - part.start) piece part.bytes.items
+      → IsPut parts pages at piece (set parts number new)
+
 module _ (parts : Vec Part Global) (pages : Vec ℕ Global) (placed : ArePlaced 0 0 parts.items pages.items) (at : ℕ) (inside : at < length (bytes_of parts.items)) where
   found-of : Found 0 0 parts.items pages.items at at
   found-of = find 0 0 parts.items pages.items at at placed (omega arith) inside
@@ -192,12 +200,28 @@ module _ (parts : Vec Part Global) (pages : Vec ℕ Global) (placed : ArePlaced 
             (bin-of f.before f.part f.behind pages.items at (f.begins ∙ omega arith) f.from f.to
               (ap (λ ps. end_from 0 (sizes_of ps) at) (sym f.split) ∙ f.ends) f.placed)))
 
--- some bytes from there on that lie in one bin
-pub is-inside : (parts : List Part) (at len : ℕ) → IsInPart (sizes_of parts) at len → 0 < len → at < length (bytes_of parts)
-is-inside parts at len h some = let l : at + len ≤ end_from 0 (sizes_of parts) at = h some in let i = end-in 0 parts at (omega arith) in omega (arith, i)
+-- some bytes that lie in one bin, and that bin
+module _ (parts : Vec Part Global) (pages : Vec ℕ Global) (placed : ArePlaced 0 0 parts.items pages.items) (at len : ℕ) (one : IsInPart (sizes_of parts.items) at len) (some : 0 < len) where
+  is-inside : at < length (bytes_of parts.items)
+  is-inside = let l : at + len ≤ end_from 0 (sizes_of parts.items) at = one some in let i = end-in 0 parts.items at (omega arith) in omega (arith, i)
 
-pub fits-bin : {parts : List Part} {pages : List ℕ} {at number : ℕ} {part : Part} → IsBin parts pages at number part → (len : ℕ) → IsInPart (sizes_of parts) at len → 0 < len → at - part.start + len ≤ length part.bytes.items
-fits-bin {parts = parts} {at = at} b len h some = let l : at + len ≤ end_from 0 (sizes_of parts) at = h some in omega (arith, b.from, b.ends)
+  pub piece-in-pages : at / 4096 < vec_len pages
+  piece-in-pages = in-pages parts pages placed at is-inside
+
+  pub piece-in-parts : (number : ℕ) → number ≡ get_or pages.items (at / 4096) number → number < vec_len parts
+  piece-in-parts number n = in-parts parts pages placed at is-inside number n
+
+  pub piece-bin : (number : ℕ) → number ≡ get_or pages.items (at / 4096) number → (part : Part) → part ≡ get_or parts.items number part → IsPiece parts.items pages.items at len number part
+  piece-bin number n part e =
+      let b = bin parts pages placed at is-inside number n part e in
+      let l : at + len ≤ end_from 0 (sizes_of parts.items) at = one some in
+      let fits : at - part.start + len ≤ length part.bytes.items = omega (arith, b.from, b.ends) in
+      record {
+        from = b.from;
+        fits = fits;
+        read = b.read len fits;
+        put = λ piece new k s w. b.put piece new (rw k fits) s w;
+      }
 
 -- each page has a number
 pub pages-long : (number start : ℕ) (parts : List Part) (pages : List ℕ) → ArePlaced number start parts pages → length pages * 4096 ≡ length (bytes_of parts)

@@ -1,5 +1,5 @@
 //! Bins in a row, each in a vector of its own.
-ghost use Rattle.std.specs.Prelude.{◌≡◌, ◌+◌, ◌-◌, ◌≤◌, ◌<◌, ◌%◌, ◌/◌, ◌*◌, ◌++◌, ◌∷◌, [], length, take, drop, replicate, OnOk, OnErr, IfOk};
+ghost use Rattle.std.specs.Prelude.{◌≡◌, ◌+◌, ◌-◌, ◌≤◌, ◌<◌, ◌%◌, ◌/◌, ◌*◌, ◌++◌, ◌∷◌, [], length, get_or, take, drop, replicate, OnOk, OnErr, IfOk, vec_len, vec_capacity};
 ghost use Rattle.byteorder.specs.Endian.{little_bytes};
 ghost use Rattle.reg_heap.specs.ByteWords.{splice, word};
 ghost use Rattle.reg_heap.specs.declared.limits.TheConstants.{BINS_LIMIT};
@@ -101,16 +101,24 @@ impl BinRow {
         requires { at + 4 ≤ length self.now.items }
         ensures { result ≡ word self.now.items at }
     {
-        let rest = self.rest(at);
-        if rest.len() >= 4 {
-            return LittleEndian::read_u32(rest);
+        let part = &self.parts[self.pages[at / PAGE] as usize];
+        let from = at - part.start;
+        if part.bytes.len() - from >= 4 {
+            return LittleEndian::read_u32(&part.bytes[from..]);
         }
         u32::from_le_bytes([
-            rest[0],
-            self.rest(at + 1)[0],
-            self.rest(at + 2)[0],
-            self.rest(at + 3)[0],
+            self.byte_at(at),
+            self.byte_at(at + 1),
+            self.byte_at(at + 2),
+            self.byte_at(at + 3),
         ])
+    }
+
+    fn byte_at(&self, at: usize) -> u8
+        requires { at < length self.now.items }
+        ensures { result ≡ get_or self.now.items at 0 }
+    {
+        self.rest(at)[0]
     }
 
     /// Writes `bytes` over those from `at` on, which lie in one bin.
@@ -236,10 +244,27 @@ impl BinRow {
     {
         let start = self.len();
         let number = self.parts.len() as u32;
-        let pages = self.pages.len() + bytes.len() / PAGE;
-        let _ = self.pages.resize(pages, number);
-        let _ = self.parts.push(Part { start, bytes });
+        add_pages(&mut self.pages, bytes.len() / PAGE, number);
+        add_part(&mut self.parts, Part { start, bytes });
     }
+}
+
+// Room is there for both, so neither can fail.
+fn add_pages(pages: &mut Vec<u32>, more: usize, number: u32)
+    requires { vec_len pages.old + more ≤ vec_capacity pages.old }
+    ensures items { pages.new.items ≡ pages.old.items ++ replicate more number }
+    ensures room { vec_capacity pages.old ≤ vec_capacity pages.new }
+{
+    let pages_then = pages.len() + more;
+    let _ = pages.resize(pages_then, number);
+}
+
+fn add_part(parts: &mut Vec<Part>, part: Part)
+    requires { vec_len parts.old < vec_capacity parts.old }
+    ensures items { parts.new.items ≡ parts.old.items ++ part ∷ [] }
+    ensures room { vec_capacity parts.old ≤ vec_capacity parts.new }
+{
+    let _ = parts.push(part);
 }
 
 fn part_slice(part: &Part, at: usize, len: usize) -> &[u8]

@@ -1,38 +1,39 @@
-use Rattle.std.proofs.Common.{rules, ◌≡◌, ◌+◌, ◌-◌, ◌≤◌, ◌<◌, ◌%◌, ◌/◌, ◌*◌, ◌++◌, ◌∷◌, [], length, take, drop, replicate, OnOk, OnErr, IfOk, ℕ, Bool, true, false, nat_eq, nat_lt, List, slice_index_or, slice_set, bit_and, bit_or, Fits, w8, w32, w64, Bor, MutBor}
-use Rattle.byteorder.specs.Endian.{little_bytes}
-use Rattle.reg_heap.specs.ByteWords.{splice, word}
-use Rattle.reg_heap.specs.declared.limits.TheConstants.{BINS_LIMIT}
-use Rattle.reg_bins.specs.Rows.{end_from, IsInPart}
+use Rattle.std.proofs.Common.{arith, length, refl, replicate, set}
+use Rattle.std.proofs.lemmas.Bool.Decides.{nat_tests}
+use Rattle.reg_bins.proofs.BinBytes.{splice-none}
+use Rattle.reg_bins.proofs.Bins.{IsPiece, IsPut, piece-in-pages, piece-in-parts, piece-bin}
+use Rattle.reg_bins.proofs.row.BinRow.write.Goals.{After-index_mut, After-write_part}
 use Rattle.reg_bins.proofs.row.BinRow.write.Goals as goal
 
--- src/row.rt:124:13
 pub returns-then-is_empty-clause-items : goal.returns-then-is_empty-clause-items
-returns-then-is_empty-clause-items c = ?
+returns-then-is_empty-clause-items c = splice-none c.args.at (c.args.bytes.now) c.args.self.now.items (grind (arith, nat_tests))
 
--- src/row.rt:126:22
 pub index-requires : goal.index-requires
-index-requires c = ?
+index-requires c = piece-in-pages c.self.inside.parts c.self.inside.pages c.self.invariant.0 c.args.at (length c.args.bytes.now) (rw (← c.self.view_is) at c.requires) (grind (arith, nat_tests))
 
--- src/row.rt:127:25
 pub index_mut-requires : goal.index_mut-requires
-index_mut-requires c = ?
+index_mut-requires c = piece-in-parts c.self.inside.parts c.self.inside.pages c.self.invariant.0 c.args.at (length c.args.bytes.now) (rw (← c.self.view_is) at c.requires) (grind (arith, nat_tests)) _ c.index.ensures
 
--- src/row.rt:127:9
+found : (c : goal.After-index_mut) → IsPiece c.self.inside.parts.items c.self.inside.pages.items c.args.at (length c.args.bytes.now) c.index.result.now c.index_mut.result.now
+found c = piece-bin c.self.inside.parts c.self.inside.pages c.self.invariant.0 c.args.at (length c.args.bytes.now) (rw (← c.self.view_is) at c.requires) (grind (arith, nat_tests)) _ c.index.ensures _ c.index_mut.ensures.value
+
 pub write_part-requires-clause-from : goal.write_part-requires-clause-from
-write_part-requires-clause-from c = ?
+write_part-requires-clause-from c = (found c).from
 
--- src/row.rt:127:9
 pub write_part-requires-clause-to : goal.write_part-requires-clause-to
-write_part-requires-clause-to c = ?
+write_part-requires-clause-to c = (found c).fits
 
--- src/row.rt:117:5
+made : (c : goal.After-write_part) → IsPiece c.self.inside.parts.items c.self.inside.pages.items c.args.at (length c.args.bytes.now) c.index.result.now c.index_mut.result.now
+    → IsPut c.self.inside.parts.items c.self.inside.pages.items c.args.at (c.args.bytes.now) (set c.self.inside.parts.items c.index.result.now c.write_part.new.part)
+made c b = b.put (c.args.bytes.now) c.write_part.new.part refl c.write_part.ensures.start c.write_part.ensures.bytes
+
 pub invariant_of-self : goal.invariant_of-self
-invariant_of-self c = ?
+invariant_of-self c =
+    let m = made (goal.at.invariant_of-self c).After-write_part (found (goal.at.invariant_of-self c).After-index_mut) in
+    (m.placed, omega (arith, m.long, c.self.invariant.1), c.self.invariant.2, c.self.invariant.3)
 
--- src/row.rt:117:5
 pub returns-clause-items : goal.returns-clause-items
-returns-clause-items c = ?
+returns-clause-items c = rw (← c.self.view_is) (made (goal.at.returns-clause-items c).After-write_part (found (goal.at.returns-clause-items c).After-index_mut)).bytes
 
--- src/row.rt:117:5
 pub returns-clause-parts : goal.returns-clause-parts
-returns-clause-parts c = ?
+returns-clause-parts c = rw (← c.self.view_is) (made (goal.at.returns-clause-parts c).After-write_part (found (goal.at.returns-clause-parts c).After-index_mut)).sizes
