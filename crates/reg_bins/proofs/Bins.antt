@@ -264,3 +264,21 @@ bytes-more (first ∷ parts) part = ap (λ bytes. first.bytes.items ++ bytes) (b
 pub sizes-more : (parts : List Part) (part : Part) → sizes_of (parts ++ part ∷ []) ≡ sizes_of parts ++ length part.bytes.items ∷ []
 sizes-more [] part = refl
 sizes-more (first ∷ parts) part = ap (λ sizes. length first.bytes.items ∷ sizes) (sizes-more parts part)
+
+-- a bin at the end, with its pages
+pub record IsPushed (old : List Part) (bytes : List ℕ) (parts : List Part) (pages : List ℕ) : Type 0 where
+  pub placed : ArePlaced 0 0 parts pages
+  pub items : bytes_of parts ≡ bytes_of old ++ bytes
+  pub sizes : sizes_of parts ≡ sizes_of old ++ length bytes ∷ []
+
+pub pushed : (old : Vec Part Global) (olds : List ℕ) → ArePlaced 0 0 old.items olds → (part : Part) (size number : ℕ) (parts : List Part) (pages : List ℕ)
+    → part.start ≡ length (bytes_of old.items) → 0 < length part.bytes.items → length part.bytes.items % 4096 ≡ 0 → size ≡ vec_len part.bytes → number ≡ vec_len old
+    → parts ≡ old.items ++ part ∷ [] → pages ≡ olds ++ replicate (size / 4096) number → IsPushed old.items part.bytes.items parts pages
+pushed old olds placed part size number parts pages s some whole e n a b =
+    let k : size / 4096 ≡ length part.bytes.items / 4096 = ap (λ x. x / 4096) (e ∙ part.bytes.ok.0) in
+    let j : number ≡ 0 + length old.items = omega (arith, n, old.ok.0) in
+    rw (a, b, k, j) record {
+      placed = placed-more 0 0 old.items olds part placed (omega arith) some whole;
+      items = bytes-more old.items part;
+      sizes = sizes-more old.items part;
+    }

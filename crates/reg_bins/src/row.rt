@@ -149,19 +149,21 @@ impl BinRow {
             write_part(part, at, &bytes);
             return;
         }
-        self.put_apart(at, &bytes);
+        self.put_byte(at, bytes[0]);
+        self.put_byte(at + 1, bytes[1]);
+        self.put_byte(at + 2, bytes[2]);
+        self.put_byte(at + 3, bytes[3]);
     }
 
-    // Writes four bytes that may lie in two bins.
-    fn put_apart(&mut self, at: usize, bytes: &[u8; 4])
-        requires { at + 4 ≤ length self.old.items }
-        ensures items { self.new.items ≡ splice at bytes.now self.old.items }
+    fn put_byte(&mut self, at: usize, byte: u8)
+        requires { at < length self.old.items }
+        ensures items { self.new.items ≡ splice at (byte ∷ []) self.old.items }
+        ensures long { length self.new.items ≡ length self.old.items }
         ensures parts { self.new.parts ≡ self.old.parts }
         ensures room { self.new.room ≡ self.old.room }
     {
-        for i in 0..4 {
-            self.write(at + i, &bytes[i..i + 1]);
-        }
+        let number = self.pages[at / PAGE] as usize;
+        write_part(&mut self.parts[number], at, &[byte]);
     }
 
     /// Writes zeros over `len` bytes from `at` on, which lie in one bin.

@@ -1,30 +1,33 @@
-use Rattle.std.proofs.Common.{rules, ◌≡◌, ◌+◌, ◌-◌, ◌≤◌, ◌<◌, ◌%◌, ◌/◌, ◌*◌, ◌++◌, ◌∷◌, [], length, get_or, take, drop, replicate, OnOk, OnErr, IfOk, vec_len, vec_capacity, ℕ, Bool, true, false, nat_eq, nat_lt, List, slice_set, bit_and, bit_or, Fits, w8, w32, w64, Bor, MutBor}
-use Rattle.byteorder.specs.Endian.{little_bytes}
-use Rattle.reg_heap.specs.ByteWords.{splice, word}
-use Rattle.reg_heap.specs.declared.limits.TheConstants.{BINS_LIMIT}
-use Rattle.reg_bins.specs.Rows.{end_from, IsInPart}
+use Rattle.std.proofs.Common.{arith, ◌∙◌, ap, sym, length, length-append}
+use Rattle.reg_bins.proofs.Bins.{IsPushed, pages-long, parts-few, pushed}
+use Rattle.reg_bins.proofs.row.BinRow.push.Goals.{After-add_part}
 use Rattle.reg_bins.proofs.row.BinRow.push.Goals as goal
 
--- src/row.rt:246:22
 pub overflow_cast-number : goal.overflow_cast-number
-overflow_cast-number c = ?
+overflow_cast-number c = omega (arith, pages-long 0 0 _ _ c.self.invariant.0, parts-few 0 0 _ _ c.self.invariant.0, c.self.inside.parts.ok.0, c.self.inside.pages.ok.0, c.self.invariant.1)
 
--- src/row.rt:247:9
 pub add_pages-requires : goal.add_pages-requires
-add_pages-requires c = ?
+add_pages-requires c =
+    let room = rw (← c.self.view_is) at c.requires.room in
+    omega (arith, room, pages-long 0 0 _ _ c.self.invariant.0, c.self.inside.pages.ok.0, c.args.bytes.ok.0, c.self.invariant.2)
 
--- src/row.rt:248:9
 pub add_part-requires : goal.add_part-requires
-add_part-requires c = ?
+add_part-requires c =
+    let room = rw (← c.self.view_is) at c.requires.room in
+    omega (arith, room, pages-long 0 0 _ _ c.self.invariant.0, parts-few 0 0 _ _ c.self.invariant.0, c.self.inside.pages.ok.0, c.self.inside.parts.ok.0, c.requires.some, c.self.invariant.3)
 
--- src/row.rt:236:5
+made : (c : goal.After-add_part) → IsPushed c.self.inside.parts.items c.args.bytes.items c.add_part.new.parts.items c.add_pages.new.pages.items
+made c = pushed c.self.inside.parts c.self.inside.pages.items c.self.invariant.0 _ c.len.result c.len-number.result _ _ (rw (← c.self.view_is) at c.len-start.ensures.long) c.requires.some c.requires.pages
+    c.len.ensures c.len-number.ensures c.add_part.ensures.items c.add_pages.ensures.items
+
 pub invariant_of-self : goal.invariant_of-self
-invariant_of-self c = ?
+invariant_of-self c =
+    let m = made c in
+    let limit = rw (← c.self.view_is) at c.requires.limit in
+    (m.placed, rw (m.items, length-append) limit, omega (arith, c.self.invariant.2, c.add_pages.ensures.room), omega (arith, c.self.invariant.3, c.add_part.ensures.room))
 
--- src/row.rt:236:5
 pub returns-clause-items : goal.returns-clause-items
-returns-clause-items c = ?
+returns-clause-items c = rw (← c.self.view_is) (made c).items
 
--- src/row.rt:236:5
 pub returns-clause-parts : goal.returns-clause-parts
-returns-clause-parts c = ?
+returns-clause-parts c = rw (← c.self.view_is) (made c).sizes
