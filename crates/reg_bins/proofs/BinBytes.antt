@@ -95,3 +95,8 @@ splice-four at a b c d bytes h =
     ap (λ bs. splice (at + 3) (d ∷ []) (splice (at + 2) (c ∷ []) bs)) (splice-two at (a ∷ []) (b ∷ []) bytes (omega arith))
     ∙ ap (splice (at + 3) (d ∷ [])) (splice-two at (a ∷ b ∷ []) (c ∷ []) bytes (omega arith))
     ∙ splice-two at (a ∷ b ∷ c ∷ []) (d ∷ []) bytes (omega arith)
+
+pub four-written : (at a b c d : ℕ) (piece old one two three four : List ℕ) → at + 4 ≤ length old → piece ≡ a ∷ b ∷ c ∷ d ∷ []
+    → one ≡ splice at (get_or piece 0 0 ∷ []) old → two ≡ splice (at + 1) (get_or piece 1 0 ∷ []) one → three ≡ splice (at + 2) (get_or piece 2 0 ∷ []) two
+    → four ≡ splice (at + 3) (get_or piece 3 0 ∷ []) three → four ≡ splice at (a ∷ b ∷ c ∷ d ∷ []) old
+four-written at a b c d piece old one two three four h e p q r s = rw (s, r, q, p, e) (splice-four at a b c d old h)

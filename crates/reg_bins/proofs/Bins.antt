@@ -2,7 +2,7 @@
 use Rattle.std.proofs.Common.{◌≡◌, ℕ, zero, suc, ◌+◌, ◌-◌, ◌*◌, ◌/◌, ◌%◌, ◌<◌, ◌≤◌, ◌⊎◌, inl, inr, List, [], ◌∷◌, ◌++◌, length, get_or, set, take, drop, replicate, refl, sym, ap, ◌∙◌, subst, arith, append_assoc, length-append, Vec, Global, vec_len}
 use Rattle.std.proofs.lemmas.Bool.{cases_lt}
 use Rattle.std.proofs.lemmas.Bool.Decides.{nat_tests}
-use Rattle.std.proofs.lemmas.List.{length-replicate, get_or-replicate, get_or_append_left, get_or-append_right, get_or_at, get_or_read, set_at, append-nil}
+use Rattle.std.proofs.lemmas.List.{length-replicate, get_or-replicate, get_or_append_left, get_or-append_right, get_or_at, get_or_read, set_at, set-get_or, append-nil}
 use Rattle.std.proofs.lemmas.Grind.{common_steps}
 use Rattle.reg_heap.specs.ByteWords.{splice}
 use Rattle.reg_bins.specs.declared.row.Part.{Part}
@@ -108,6 +108,10 @@ bytes-split (first ∷ before) part behind = ap (λ bytes. first.bytes.items ++ 
 pub sizes-same : (before : List Part) (old new : Part) (behind : List Part) → length new.bytes.items ≡ length old.bytes.items → sizes_of (before ++ new ∷ behind) ≡ sizes_of (before ++ old ∷ behind)
 sizes-same [] old new behind e = ap (λ n. n ∷ sizes_of behind) e
 sizes-same (first ∷ before) old new behind e = ap (λ sizes. length first.bytes.items ∷ sizes) (sizes-same before old new behind e)
+
+-- a bin put back as it was
+pub set-same : (parts : List Part) (number : ℕ) (part : Part) → part ≡ get_or parts number part → set parts number part ≡ parts
+set-same parts number part e = ap (set parts number) e ∙ set-get_or parts number part
 
 -- the row with some bytes of it written over
 pub record IsPut (parts : List Part) (pages : List ℕ) (at : ℕ) (piece : List ℕ) (new : List Part) : Type 0 where
