@@ -1,1 +1,3 @@
+pub mod BinBytes
+pub mod Bins
 pub mod TablePages

@@ -1,5 +1,5 @@
 //! Bins in a row, each in a vector of its own.
-ghost use Rattle.std.specs.Prelude.{◌≡◌, ◌+◌, ◌-◌, ◌≤◌, ◌<◌, ◌%◌, ◌/◌, ◌*◌, ◌++◌, ◌∷◌, [], length, take, drop, replicate, OnOk, OnErr, IfOk};
+ghost use Rattle.std.specs.Prelude.{◌≡◌, ◌+◌, ◌-◌, ◌≤◌, ◌<◌, ◌%◌, ◌/◌, ◌*◌, ◌++◌, ◌∷◌, [], length, get_or, take, drop, replicate, OnOk, OnErr, IfOk, vec_len, vec_capacity};
 ghost use Rattle.byteorder.specs.Endian.{little_bytes};
 ghost use Rattle.reg_heap.specs.ByteWords.{splice, word};
 ghost use Rattle.reg_heap.specs.declared.limits.TheConstants.{BINS_LIMIT};
@@ -31,10 +31,12 @@ pub struct BinRow {
     parts: Vec<Part>,
     /// For each page of all bins the number of the bin in which it lies.
     pages: Vec<u32>,
+    /// For how many pages both tables have room.
+    room: usize,
 }
 
 impl Model for BinRow {
-    ghost use Rattle.std.specs.Prelude.{◌*◌, ◌≤◌, length, min, vec_capacity};
+    ghost use Rattle.std.specs.Prelude.{◌*◌, ◌≤◌, length, vec_capacity};
     ghost use Rattle.reg_heap.specs.declared.limits.TheConstants.{BINS_LIMIT};
     ghost use Rattle.reg_bins.specs.Rows.{Row};
     ghost use Rattle.reg_bins.specs.Internal.{bytes_of, sizes_of, ArePlaced};
@@ -44,10 +46,10 @@ impl Model for BinRow {
     ghost view = { λ r. record {
       items = bytes_of r.parts.items;
       parts = sizes_of r.parts.items;
-      room = min (4096 * vec_capacity r.pages) (4096 * vec_capacity r.parts);
+      room = 4096 * r.room;
     } };
 
-    ghost invariant = { λ r. (ArePlaced 0 0 r.parts.items r.pages.items) × (length (bytes_of r.parts.items) ≤ BINS_LIMIT) };
+    ghost invariant = { λ r. (ArePlaced 0 0 r.parts.items r.pages.items) × (length (bytes_of r.parts.items) ≤ BINS_LIMIT) × (r.room ≤ vec_capacity r.pages) × (r.room ≤ vec_capacity r.parts) };
 }
 
 impl BinRow {
@@ -60,6 +62,7 @@ impl BinRow {
             alloc,
             parts: Vec::new(alloc),
             pages: Vec::new(alloc),
+            room: 0,
         }
     }
 
@@ -90,7 +93,7 @@ impl BinRow {
         if len == 0 {
             return &[];
         }
-        &self.rest(at)[..len]
+        part_slice(&self.parts[self.pages[at / PAGE] as usize], at, len)
     }
 
     /// The number of four bytes at `at`, the lowest first. They may lie in two bins.
@@ -98,16 +101,24 @@ impl BinRow {
         requires { at + 4 ≤ length self.now.items }
         ensures { result ≡ word self.now.items at }
     {
-        let rest = self.rest(at);
-        if rest.len() >= 4 {
-            return LittleEndian::read_u32(rest);
+        let part = &self.parts[self.pages[at / PAGE] as usize];
+        let from = at - part.start;
+        if part.bytes.len() - from >= 4 {
+            return LittleEndian::read_u32(&part.bytes[from..]);
         }
         u32::from_le_bytes([
-            rest[0],
-            self.rest(at + 1)[0],
-            self.rest(at + 2)[0],
-            self.rest(at + 3)[0],
+            self.byte_at(at),
+            self.byte_at(at + 1),
+            self.byte_at(at + 2),
+            self.byte_at(at + 3),
         ])
+    }
+
+    fn byte_at(&self, at: usize) -> u8
+        requires { at < length self.now.items }
+        ensures { result ≡ get_or self.now.items at 0 }
+    {
+        self.rest(at)[0]
     }
 
     /// Writes `bytes` over those from `at` on, which lie in one bin.
@@ -132,13 +143,27 @@ impl BinRow {
         ensures room { self.new.room ≡ self.old.room }
     {
         let bytes = n.to_le_bytes();
-        if self.rest(at).len() >= 4 {
-            self.write(at, &bytes);
+        let number = self.pages[at / PAGE] as usize;
+        let part = &mut self.parts[number];
+        if part.bytes.len() - (at - part.start) >= 4 {
+            write_part(part, at, &bytes);
             return;
         }
-        for i in 0..4 {
-            self.write(at + i, &bytes[i..i + 1]);
-        }
+        self.put_byte(at, bytes[0]);
+        self.put_byte(at + 1, bytes[1]);
+        self.put_byte(at + 2, bytes[2]);
+        self.put_byte(at + 3, bytes[3]);
+    }
+
+    fn put_byte(&mut self, at: usize, byte: u8)
+        requires { at < length self.old.items }
+        ensures items { self.new.items ≡ splice at (byte ∷ []) self.old.items }
+        ensures long { length self.new.items ≡ length self.old.items }
+        ensures parts { self.new.parts ≡ self.old.parts }
+        ensures room { self.new.room ≡ self.old.room }
+    {
+        let number = self.pages[at / PAGE] as usize;
+        write_part(&mut self.parts[number], at, &[byte]);
     }
 
     /// Writes zeros over `len` bytes from `at` on, which lie in one bin.
@@ -173,13 +198,14 @@ impl BinRow {
             move_part(&mut self.parts[source], from, to, len);
             return;
         }
-        // The target's bytes are taken out for the copy, since both bins are of one vector.
-        let none = Vec::new(self.alloc);
-        let mut bytes = mem::replace(&mut self.parts[target].bytes, none);
-        let first = from - self.parts[source].start;
-        let place = to - self.parts[target].start;
-        bytes[place..place + len].copy_from_slice(&self.parts[source].bytes[first..first + len]);
-        self.parts[target].bytes = bytes;
+        // The target is taken out for the copy, since both bins are of one vector.
+        let none = Part {
+            start: 0,
+            bytes: Vec::new(self.alloc),
+        };
+        let mut part = mem::replace(&mut self.parts[target], none);
+        write_part(&mut part, to, part_slice(&self.parts[source], from, len));
+        self.parts[target] = part;
     }
 
     /// The bytes of a bin to come, all zeros.
@@ -203,25 +229,53 @@ impl BinRow {
         self.pages.reserve(more)?;
         // No bin is less than a page.
         let parts = self.pages.len() - self.parts.len() + more;
-        self.parts.reserve(parts)
+        self.parts.reserve(parts)?;
+        self.room = self.pages.capacity().min(self.parts.capacity());
+        Ok(())
     }
 
     /// Appends a bin. There is room for it.
     pub fn push(&mut self, bytes: Vec<u8>)
-        requires some { 0 < length bytes.now.items }
-        requires pages { length bytes.now.items % 4096 ≡ 0 }
-        requires limit { length self.old.items + length bytes.now.items ≤ BINS_LIMIT }
-        requires room { length self.old.items + length bytes.now.items ≤ self.old.room }
-        ensures items { self.new.items ≡ self.old.items ++ bytes.now.items }
-        ensures parts { self.new.parts ≡ self.old.parts ++ length bytes.now.items ∷ [] }
+        requires some { 0 < length bytes.items }
+        requires pages { length bytes.items % 4096 ≡ 0 }
+        requires limit { length self.old.items + length bytes.items ≤ BINS_LIMIT }
+        requires room { length self.old.items + length bytes.items ≤ self.old.room }
+        ensures items { self.new.items ≡ self.old.items ++ bytes.items }
+        ensures parts { self.new.parts ≡ self.old.parts ++ length bytes.items ∷ [] }
         ensures room { self.new.room ≡ self.old.room }
     {
         let start = self.len();
         let number = self.parts.len() as u32;
-        let pages = self.pages.len() + bytes.len() / PAGE;
-        let _ = self.pages.resize(pages, number);
-        let _ = self.parts.push(Part { start, bytes });
+        add_pages(&mut self.pages, bytes.len() / PAGE, number);
+        add_part(&mut self.parts, Part { start, bytes });
     }
+}
+
+// Room is there for both, so neither can fail.
+fn add_pages(pages: &mut Vec<u32>, more: usize, number: u32)
+    requires { vec_len pages.old + more ≤ vec_capacity pages.old }
+    ensures items { pages.new.items ≡ pages.old.items ++ replicate more number }
+    ensures room { vec_capacity pages.old ≤ vec_capacity pages.new }
+{
+    let pages_then = pages.len() + more;
+    let _ = pages.resize(pages_then, number);
+}
+
+fn add_part(parts: &mut Vec<Part>, part: Part)
+    requires { vec_len parts.old < vec_capacity parts.old }
+    ensures items { parts.new.items ≡ parts.old.items ++ part ∷ [] }
+    ensures room { vec_capacity parts.old ≤ vec_capacity parts.new }
+{
+    let _ = parts.push(part);
+}
+
+fn part_slice(part: &Part, at: usize, len: usize) -> &[u8]
+    requires from { part.now.start ≤ at }
+    requires to { at - part.now.start + len ≤ length part.now.bytes.items }
+    ensures { result.now ≡ take len (drop (at - part.now.start) part.now.bytes.items) }
+{
+    let from = at - part.start;
+    &part.bytes[from..from + len]
 }
 
 #[tactic(auto, unfolding(reg_heap::specs::ByteWords::splice))]
