@@ -1,8 +1,8 @@
 -- Where a byte of bins in a row lies, and what a change of its bin makes of the row.
-use Rattle.std.proofs.Common.{◌≡◌, ℕ, zero, suc, ◌+◌, ◌-◌, ◌*◌, ◌/◌, ◌%◌, ◌<◌, ◌≤◌, ◌⊎◌, inl, inr, List, [], ◌∷◌, ◌++◌, length, get_or, set, take, drop, replicate, refl, sym, ap, ◌∙◌, subst, arith, append_assoc, length-append, Vec, Global, vec_len}
+use Rattle.std.proofs.Common.{◌≡◌, ℕ, zero, suc, ◌+◌, ◌-◌, ◌*◌, ◌/◌, ◌%◌, ◌<◌, ◌≤◌, ◌⊎◌, inl, inr, List, [], ◌∷◌, ◌++◌, length, get_or, set, take, drop, replicate, refl, sym, ap, ◌∙◌, subst, arith, append_assoc, length-append, length-drop, length-take-le, Vec, Global, vec_len}
 use Rattle.std.proofs.lemmas.Bool.{cases_lt}
 use Rattle.std.proofs.lemmas.Bool.Decides.{nat_tests}
-use Rattle.std.proofs.lemmas.List.{length-replicate, get_or-replicate, get_or_append_left, get_or-append_right, get_or_at, get_or_read, set_at, set-get_or, append-nil}
+use Rattle.std.proofs.lemmas.List.{length-replicate, get_or-replicate, get_or_append_left, get_or-append_right, get_or_at, get_or_read, get_or-set_other, set_at, set-get_or, set-set, append-nil}
 use Rattle.std.proofs.lemmas.Grind.{common_steps}
 use Rattle.reg_heap.specs.ByteWords.{splice}
 use Rattle.reg_bins.specs.declared.row.Part.{Part}
@@ -226,6 +226,32 @@ module _ (parts : Vec Part Global) (pages : Vec ℕ Global) (placed : ArePlaced 
         read = b.read len fits;
         put = λ piece new k s w. b.put piece new (rw k fits) s w;
       }
+
+pub piece-long : {parts : List Part} {pages : List ℕ} {at len number : ℕ} {part : Part} → IsPiece parts pages at len number part → length (take len (drop (at - part.start) part.bytes.items)) ≡ len
+piece-long {at = at} {len = len} {part = part} p = length-take-le len (drop (at - part.start) part.bytes.items) (rw length-drop (omega (arith, p.fits)))
+
+-- bytes of a bin written over others of it, and over those of another bin, which was taken out for it
+pub moved : {parts : List Part} {pages : List ℕ} {from to len number : ℕ} {part : Part} → IsPiece parts pages from len number part → IsPiece parts pages to len number part
+    → (new : Part) → new.start ≡ part.start → new.bytes.items ≡ splice (to - part.start) (take len (drop (from - part.start) part.bytes.items)) part.bytes.items
+    → IsPut parts pages to (take len (drop from (bytes_of parts))) (set parts number new)
+moved {parts = parts} {from = from} {to = to} {len = len} {part = part} f t new s w =
+    t.put (take len (drop from (bytes_of parts))) new
+    (ap length (sym f.read) ∙ piece-long f)
+    s (w ∙ ap (λ bytes. splice (to - part.start) bytes part.bytes.items) f.read)
+
+pub still-there : (parts : List Part) (other number : ℕ) (mid part : Part) → (number ≡ other → ⊥) → part ≡ get_or (set parts other mid) number part → part ≡ get_or parts number part
+still-there parts other number mid part n e = e ∙ get_or-set_other parts other number mid part n
+
+pub copied : {parts : List Part} {pages : List ℕ} {from to len source target : ℕ} {part here : Part} → IsPiece parts pages from len source part → IsPiece parts pages to len target here
+    → (piece : List ℕ) (mid old new : Part) → piece ≡ take len (drop (from - part.start) part.bytes.items) → old ≡ here
+    → new.start ≡ old.start → new.bytes.items ≡ splice (to - old.start) piece old.bytes.items
+    → IsPut parts pages to (take len (drop from (bytes_of parts))) (set (set parts target mid) target new)
+copied {parts = parts} {pages = pages} {from = from} {to = to} {len = len} {target = target} {part = part} {here = here} f t piece mid old new p o s w =
+    subst (IsPut parts pages to (take len (drop from (bytes_of parts)))) (sym (set-set parts target mid new))
+    (t.put (take len (drop from (bytes_of parts))) new
+      (ap length (sym f.read) ∙ piece-long f)
+      (s ∙ ap (λ (q : Part). q.start) o)
+      (w ∙ ap (λ (q : Part). splice (to - q.start) piece q.bytes.items) o ∙ ap (λ bytes. splice (to - here.start) bytes here.bytes.items) (p ∙ f.read)))
 
 -- each page has a number
 pub pages-long : (number start : ℕ) (parts : List Part) (pages : List ℕ) → ArePlaced number start parts pages → length pages * 4096 ≡ length (bytes_of parts)
