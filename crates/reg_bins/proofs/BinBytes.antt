@@ -27,11 +27,11 @@ pub splice-middle : (front piece behind bytes : List ℕ) (at : ℕ) → length 
 unfolding splice
 splice-middle front piece behind bytes at h l =
     let first : take at (front ++ (piece ++ behind)) ≡ front ++ take (at - length front) piece =
-        take-behind front (piece ++ behind) at h ∙ ap (λ t. front ++ t) (take-append-le (at - length front) piece behind (omega arith)) in
+    take-behind front (piece ++ behind) at h ∙ ap (λ t. front ++ t) (take-append-le (at - length front) piece behind (omega arith)) in
     let last : drop (at + length bytes) (front ++ (piece ++ behind)) ≡ drop (at - length front + length bytes) piece ++ behind =
-        drop-behind front (piece ++ behind) (at + length bytes) (omega arith)
-        ∙ ap (λ k. drop k (piece ++ behind)) (omega arith)
-        ∙ drop-append-le (at - length front + length bytes) piece behind l in
+    drop-behind front (piece ++ behind) (at + length bytes) (omega arith)
+    ∙ ap (λ k. drop k (piece ++ behind)) (omega arith)
+    ∙ drop-append-le (at - length front + length bytes) piece behind l in
     rw (first, last) (simp append_assoc)
 
 -- no bytes written over
@@ -83,9 +83,9 @@ splice-two at first second bytes h =
     let all : take at bytes ++ (first ++ rest) ≡ front ++ rest = sym (append_assoc (take at bytes) first rest) in
     let a : take (at + length first) (front ++ rest) ≡ front = take_at front rest (at + length first) long in
     let b : drop (at + length first + length second) (front ++ rest) ≡ drop (at + length (first ++ second)) bytes =
-        drop-behind front rest (at + length first + length second) (omega arith)
-        ∙ drop-drop (at + length first + length second - length front) (at + length first) bytes
-        ∙ ap (λ k. drop k bytes) (omega (arith, long, length-append first second)) in
+    drop-behind front rest (at + length first + length second) (omega arith)
+    ∙ drop-drop (at + length first + length second - length front) (at + length first) bytes
+    ∙ ap (λ k. drop k bytes) (omega (arith, long, length-append first second)) in
     rw (all, a, b) (simp append_assoc)
 
 -- four bytes, one by one

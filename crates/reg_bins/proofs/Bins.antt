@@ -78,12 +78,11 @@ found-next number start part parts more offset at s some whole e l f =
     }
 
 pub find : (number start : ℕ) (parts : List Part) (pages : List ℕ) (offset at : ℕ) → ArePlaced number start parts pages → at ≡ start + offset → offset < length (bytes_of parts) → Found number start parts pages offset at
-
 find number start [] pages offset at p e l = absurd (omega arith)
 find number start (part ∷ parts) pages offset at (s, some, whole, more, split, rest) e l =
     subst (λ ps. Found number start (part ∷ parts) ps offset at) (sym split)
     (elim (cases_lt offset (length part.bytes.items)) [
-      inl h ↦ found-here number start part parts more offset at s some whole rest e h
+      | inl h ↦ found-here number start part parts more offset at s some whole rest e h
       | inr h ↦ found-next number start part parts more offset at s some whole e h
           (find (suc number) (start + length part.bytes.items) parts more (offset - length part.bytes.items) at rest (omega arith) (omega (arith, length-append part.bytes.items (bytes_of parts))))
     ])
@@ -93,7 +92,7 @@ pub end-in : (start : ℕ) (parts : List Part) (at : ℕ) → at < end_from star
 end-in start [] at h = absurd (omega arith)
 end-in start (part ∷ parts) at h =
     elim (cases_lt at (start + length part.bytes.items)) [
-      inl l ↦ omega (arith, length-append part.bytes.items (bytes_of parts))
+      | inl l ↦ omega (arith, length-append part.bytes.items (bytes_of parts))
       | inr l ↦
           let e = end-behind start (length part.bytes.items) (sizes_of parts) at l in
           let n : at < start + length part.bytes.items + length (bytes_of parts) = end-in (start + length part.bytes.items) parts at (omega arith) in
@@ -144,7 +143,7 @@ bin-of : (before : List Part) (part : Part) (behind : List Part) (pages : List �
 bin-of before part behind pages at begins from to ends placed =
     let split = bytes-split before part behind in
     let within : part.start + length part.bytes.items ≤ length (bytes_of (before ++ part ∷ behind)) =
-        omega (arith, ap length split, length-append (bytes_of before) (part.bytes.items ++ bytes_of behind), length-append part.bytes.items (bytes_of behind)) in
+    omega (arith, ap length split, length-append (bytes_of before) (part.bytes.items ++ bytes_of behind), length-append part.bytes.items (bytes_of behind)) in
     record {
       from = from;
       to = to;
@@ -157,10 +156,10 @@ bin-of before part behind pages at begins from to ends placed =
       put = λ piece new l s e.
           let long : length new.bytes.items ≡ length part.bytes.items = ap length e ∙ length-splice (at - part.start) piece part.bytes.items l in
           let made : bytes_of (before ++ new ∷ behind) ≡ splice at piece (bytes_of (before ++ part ∷ behind)) =
-              bytes-split before new behind
-              ∙ ap (λ bytes. bytes_of before ++ (bytes ++ bytes_of behind)) (e ∙ ap (λ k. splice (at - k) piece part.bytes.items) begins)
-              ∙ splice-middle (bytes_of before) part.bytes.items (bytes_of behind) piece at (omega arith) (omega arith)
-              ∙ ap (splice at piece) (sym split) in
+          bytes-split before new behind
+          ∙ ap (λ bytes. bytes_of before ++ (bytes ++ bytes_of behind)) (e ∙ ap (λ k. splice (at - k) piece part.bytes.items) begins)
+          ∙ splice-middle (bytes_of before) part.bytes.items (bytes_of behind) piece at (omega arith) (omega arith)
+          ∙ ap (splice at piece) (sym split) in
           subst (IsPut (before ++ part ∷ behind) pages at piece) (sym (set_at before part behind new (length before) refl))
           record {
             placed = placed new s long;
@@ -200,9 +199,9 @@ module _ (parts : Vec Part Global) (pages : Vec ℕ Global) (placed : ArePlaced 
         let same : part ≡ f.part = e ∙ ap (λ ps. get_or ps number part) f.split ∙ get_or_at f.before f.part f.behind part number (sym here) in
         subst (λ ps. IsBin ps pages.items at number part) (sym f.split)
         (subst (λ k. IsBin (f.before ++ f.part ∷ f.behind) pages.items at k part) (sym here)
-          (subst (IsBin (f.before ++ f.part ∷ f.behind) pages.items at (length f.before)) (sym same)
-            (bin-of f.before f.part f.behind pages.items at (f.begins ∙ omega arith) f.from f.to
-              (ap (λ ps. end_from 0 (sizes_of ps) at) (sym f.split) ∙ f.ends) f.placed)))
+        (subst (IsBin (f.before ++ f.part ∷ f.behind) pages.items at (length f.before)) (sym same)
+        (bin-of f.before f.part f.behind pages.items at (f.begins ∙ omega arith) f.from f.to
+        (ap (λ ps. end_from 0 (sizes_of ps) at) (sym f.split) ∙ f.ends) f.placed)))
 
 -- some bytes that lie in one bin, and that bin
 module _ (parts : Vec Part Global) (pages : Vec ℕ Global) (placed : ArePlaced 0 0 parts.items pages.items) (at len : ℕ) (one : IsInPart (sizes_of parts.items) at len) (some : 0 < len) where
@@ -249,9 +248,9 @@ pub copied : {parts : List Part} {pages : List ℕ} {from to len source target :
 copied {parts = parts} {pages = pages} {from = from} {to = to} {len = len} {target = target} {part = part} {here = here} f t piece mid old new p o s w =
     subst (IsPut parts pages to (take len (drop from (bytes_of parts)))) (sym (set-set parts target mid new))
     (t.put (take len (drop from (bytes_of parts))) new
-      (ap length (sym f.read) ∙ piece-long f)
-      (s ∙ ap (λ (q : Part). q.start) o)
-      (w ∙ ap (λ (q : Part). splice (to - q.start) piece q.bytes.items) o ∙ ap (λ bytes. splice (to - here.start) bytes here.bytes.items) (p ∙ f.read)))
+    (ap length (sym f.read) ∙ piece-long f)
+    (s ∙ ap (λ (q : Part). q.start) o)
+    (w ∙ ap (λ (q : Part). splice (to - q.start) piece q.bytes.items) o ∙ ap (λ bytes. splice (to - here.start) bytes here.bytes.items) (p ∙ f.read)))
 
 -- each page has a number
 pub pages-long : (number start : ℕ) (parts : List Part) (pages : List ℕ) → ArePlaced number start parts pages → length pages * 4096 ≡ length (bytes_of parts)
@@ -259,7 +258,7 @@ pages-long number start [] pages p = rw p refl
 pages-long number start (part ∷ parts) pages (s, some, whole, more, split, rest) =
     let n = pages-long (suc number) (start + length part.bytes.items) parts more rest in
     let long : length pages ≡ length part.bytes.items / 4096 + length more =
-        ap length split ∙ length-append (replicate (length part.bytes.items / 4096) number) more ∙ ap (λ k. k + length more) (length-replicate (length part.bytes.items / 4096) number) in
+    ap length split ∙ length-append (replicate (length part.bytes.items / 4096) number) more ∙ ap (λ k. k + length more) (length-replicate (length part.bytes.items / 4096) number) in
     omega (arith, length-append part.bytes.items (bytes_of parts))
 
 -- no bin is less than a page
@@ -268,7 +267,7 @@ parts-few number start [] pages p = omega arith
 parts-few number start (part ∷ parts) pages (s, some, whole, more, split, rest) =
     let n = parts-few (suc number) (start + length part.bytes.items) parts more rest in
     let long : length pages ≡ length part.bytes.items / 4096 + length more =
-        ap length split ∙ length-append (replicate (length part.bytes.items / 4096) number) more ∙ ap (λ k. k + length more) (length-replicate (length part.bytes.items / 4096) number) in
+    ap length split ∙ length-append (replicate (length part.bytes.items / 4096) number) more ∙ ap (λ k. k + length more) (length-replicate (length part.bytes.items / 4096) number) in
     omega arith
 
 -- one bin more, at the end
@@ -283,9 +282,14 @@ placed-more number start (first ∷ parts) pages part (a, b, c, more, split, res
     let n : suc number + length parts ≡ number + suc (length parts) = omega arith in
     let k : ℕ = length part.bytes.items / 4096 in
     let last : List ℕ = replicate k (number + suc (length parts)) in
-    let next = placed-more (suc number) (start + length first.bytes.items) parts more part rest (omega (arith, length-append first.bytes.items (bytes_of parts))) some whole in
-    (a, b, c, more ++ last, ap (λ ps. ps ++ last) split ∙ append_assoc (replicate (length first.bytes.items / 4096) number) more last,
-      subst (λ j. ArePlaced (suc number) (start + length first.bytes.items) (parts ++ part ∷ []) (more ++ replicate k j)) n next)
+    let next = placed-more (suc number) (start + length first.bytes.items) parts more part rest (omega (arith, length-append first.bytes.items (bytes_of parts))) some whole in (
+      a,
+      b,
+      c,
+      more ++ last,
+      ap (λ ps. ps ++ last) split ∙ append_assoc (replicate (length first.bytes.items / 4096) number) more last,
+      subst (λ j. ArePlaced (suc number) (start + length first.bytes.items) (parts ++ part ∷ []) (more ++ replicate k j)) n next,
+    )
 
 pub bytes-more : (parts : List Part) (part : Part) → bytes_of (parts ++ part ∷ []) ≡ bytes_of parts ++ part.bytes.items
 bytes-more [] part = append-nil part.bytes.items

@@ -50,5 +50,5 @@ returns-clause-items c =
     let same = set-same c.self.inside.parts.items c.index.result.now c.index_mut-part.result.now c.index_mut-part.ensures.value in
     rw (← c.self.view_is)
     (four-written c.args.at _ _ _ _ c.to_le_bytes-bytes.result (bytes_of c.self.inside.parts.items) c.put_byte.new.self.items c.put_byte-2.new.self.items c.put_byte-3.new.self.items _
-      (rw (← c.self.view_is) at c.requires) c.to_le_bytes-bytes.ensures
-      (rw same at c.put_byte.ensures.items) c.put_byte-2.ensures.items c.put_byte-3.ensures.items c.put_byte-4.ensures.items)
+    (rw (← c.self.view_is) at c.requires) c.to_le_bytes-bytes.ensures
+    (rw same at c.put_byte.ensures.items) c.put_byte-2.ensures.items c.put_byte-3.ensures.items c.put_byte-4.ensures.items)
