@@ -9,7 +9,7 @@ ghost use Rattle.reg_command.specs.Internal.Steps.{IsScriptHive, SendStops};
 use crate::failure::Stop;
 use reg_callbacks::{Callback, NoCallback};
 use reg_calls::{Hive, NewFault};
-use reg_image::{image, write_image};
+use reg_image::write_hive;
 use reg_script::{run, run_to};
 use std::alloc::Global;
 use std::io;
@@ -66,7 +66,6 @@ pub fn run_script<R: Read, W: Write>(
 
 /// Writes the image of a hive.
 fn send_image<W: Write, C: Callback>(
-    alloc: Global,
     hive: &Hive<C>,
     moment: u64,
     sequence: u32,
@@ -76,11 +75,7 @@ fn send_image<W: Write, C: Callback>(
     ensures err { IfErr result (λ stop. SendStops (image_at (view_of hive.now) moment sequence) stop (W.contents output.old)
         (W.contents output.new)) }
 {
-    let bytes = match image(alloc, hive, moment, sequence) {
-        Ok(bytes) => bytes,
-        Err(_) => return Err(Stop::Memory),
-    };
-    match write_image(bytes.as_slice(), output) {
+    match write_hive(hive, moment, sequence, output) {
         Ok(()) => Ok(()),
         Err(cut) => Err(Stop::Write(cut.written)),
     }
@@ -101,7 +96,7 @@ fn image_after<R: Read, W: Write, C: Callback>(
 {
     let mut replies = io::sink();
     match run_to(alloc, input, &mut replies, hive) {
-        Ok(moment) => send_image(alloc, hive, moment, sequence, output),
+        Ok(moment) => send_image(hive, moment, sequence, output),
         Err(fault) => Err(Stop::Script(fault)),
     }
 }

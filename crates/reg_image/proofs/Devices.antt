@@ -7,3 +7,4 @@ pub mod BlockTests
 pub mod LoadedImages
 pub mod ReadFailures
 pub mod MadeImages
+pub mod WrittenBins

@@ -23,6 +23,7 @@ mod cells;
 mod data;
 mod first_keys;
 mod frames;
+mod hive_writing;
 mod input;
 mod key_parts;
 mod keys;
@@ -43,6 +44,7 @@ mod walk;
 mod writing;
 
 pub use block::checksum;
+pub use hive_writing::write_hive;
 pub use loading::load;
 use thiserror::Error;
 pub use writing::{ImageFault, WriteFault, image, write_image};

@@ -2,9 +2,10 @@
 //!
 //! Suhanov, Windows registry file format specification, section "Format of primary files".
 
-ghost use Rattle.std.specs.Prelude.{◌≡◌, ◌≤◌, ◌++◌, [], Ok, OnOk, IfOk, IfErr, MatchResult, length, take};
+ghost use Rattle.std.specs.Prelude.{◌≡◌, ◌≤◌, ◌+◌, ◌++◌, [], Ok, OnOk, IfOk, IfErr, MatchResult, length, take};
 ghost use Rattle.std.specs.Io.KnownBytes.{Appends};
 ghost use Rattle.byteorder.specs.Endian.{little_bytes};
+ghost use Rattle.reg_heap.specs.ByteWords.{splice};
 ghost use Rattle.reg_text.specs.Failures.{Stays, Fails};
 ghost use Rattle.reg_calls.specs.HiveView.{view_of};
 ghost use Rattle.reg_image.specs.BaseBlock.{block_of};
@@ -74,6 +75,26 @@ fn block_fields(size: u32, root: u32, moment: u64, sequence: u32) -> [u8; 48]
     ]
 }
 
+/// Writes a piece over bytes.
+#[tactic(auto, unfolding(reg_heap::specs::ByteWords::splice))]
+fn put(bytes: &mut [u8], at: usize, piece: &[u8])
+    requires { at + length piece.now ≤ length bytes.old }
+    ensures { bytes.new ≡ splice at piece.now bytes.old }
+{
+    bytes[at..at + piece.len()].copy_from_slice(piece);
+}
+
+/// The base block of an image of bins of a size.
+pub fn base_block(size: u32, root: u32, moment: u64, sequence: u32) -> [u8; 4096]
+    ensures { result ≡ block_of size root moment sequence }
+{
+    let mut block = [0; 4096];
+    put(&mut block, 0, &block_fields(size, root, moment, sequence));
+    let checksum = head_checksum(&block);
+    put(&mut block, 508, &word_bytes(checksum));
+    block
+}
+
 /// Makes the base block, in an empty vector.
 fn push_block(
     out: &mut Vec<u8>,
@@ -85,12 +106,7 @@ fn push_block(
     requires { out.old.items ≡ [] }
     ensures { OnOk result (out.new.items ≡ block_of size root moment sequence) }
 {
-    out.extend_from_slice(&block_fields(size, root, moment, sequence))?;
-    out.resize(508, 0)?;
-    let checksum = head_checksum(out.as_slice());
-    out.extend_from_slice(&word_bytes(checksum))?;
-    out.resize(4096, 0)?;
-    Ok(())
+    out.extend_from_slice(&base_block(size, root, moment, sequence))
 }
 
 /// Copies the bins, page by page.

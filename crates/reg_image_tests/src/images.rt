@@ -1,7 +1,7 @@
 //! Images as they are made and written. The wanted bytes come from the format's tables.
 use crate::support::{Imaged, assert_told, fresh_hive, image_of};
 use reg_fixtures::{Failure, FakeWriter, difference, digits, narrow, put_table, sum_of, wide};
-use reg_image::write_image;
+use reg_image::{WriteFault, write_image};
 use std::alloc::Global;
 use std::test::Fail;
 
@@ -79,15 +79,26 @@ fn checksums(rt: HostRuntime) -> Result<(), Fail> {
     Ok(())
 }
 
-/// What writing an image to a writer answers: how many bytes were written before it failed, if it did, and whether the writer has a
+/// What came of writing an image to a writer: how many bytes were written before it failed, if it did, and whether the writer has a
 /// front of the image, and how long that is.
-fn written(alloc: Global, bytes: &[u8], mut writer: FakeWriter) -> Result<String, Fail> {
-    let answer = match write_image(bytes, &mut writer) {
+fn outcome(
+    alloc: Global,
+    bytes: &[u8],
+    answer: Result<(), WriteFault>,
+    taken: &[u8],
+) -> Result<String, Fail> {
+    let written = match answer {
         Ok(()) => "all".to_string(alloc)?,
         Err(fault) => format!(in alloc; "{}", fault.written)?,
     };
-    let is_front = bytes.starts_with(&writer.taken);
-    Ok(format!(in alloc; "{} {is_front} {}; ", answer.as_str(), writer.taken.len())?)
+    let is_front = bytes.starts_with(taken);
+    Ok(format!(in alloc; "{} {is_front} {}; ", written.as_str(), taken.len())?)
+}
+
+/// The same of an image's bytes.
+fn written(alloc: Global, bytes: &[u8], mut writer: FakeWriter) -> Result<String, Fail> {
+    let answer = write_image(bytes, &mut writer);
+    outcome(alloc, bytes, answer, &writer.taken)
 }
 
 /// The same of writers that fail, or answer 0, after so many bytes.
@@ -133,5 +144,63 @@ fn writers_of_images_in_pieces(rt: HostRuntime) -> Result<(), Fail> {
         &rt,
         fresh_written(rt.alloc()),
         "all true 8192; 8192 true 8192; ",
+    )
+}
+
+/// The same of a hive that is written bin by bin to writers that fail, or answer 0, after so many bytes, and to one that takes one byte
+/// a call, beside its image.
+fn hive_within<H: Imaged>(alloc: Global, hive: &H, rooms: &[usize]) -> Result<String, Fail> {
+    let bytes = hive.imaged(alloc, 0, 1)?;
+    let mut text = String::new(alloc);
+    for room in rooms {
+        for failure in [Failure::Write, Failure::Zero] {
+            let mut writer = narrow(alloc, *room, failure);
+            let answer = hive.written_to(&mut writer);
+            let told = outcome(alloc, &bytes, answer, &writer.taken)?;
+            text.push_str(told.as_str())?;
+        }
+    }
+    let mut slow = wide(alloc);
+    slow.step = 1;
+    let answer = hive.written_to(&mut slow);
+    let told = outcome(alloc, &bytes, answer, &slow.taken)?;
+    text.push_str(told.as_str())?;
+    Ok(text)
+}
+
+/// The same of a fresh hive after a script.
+fn hive_within_after<H: Imaged>(
+    alloc: Global,
+    hive: &mut H,
+    script: &str,
+    rooms: &[usize],
+) -> Result<String, Fail> {
+    let _replies = hive.ran(alloc, script)?;
+    hive_within(alloc, hive, rooms)
+}
+
+/// The same of a fresh hive with a value of 10,000 bytes, for which there is a bin of three pages, or without it.
+fn binned_within(alloc: Global, has_value: bool, rooms: &[usize]) -> Result<String, Fail> {
+    let mut hive = fresh_hive(alloc)?;
+    let mut script = String::new(alloc);
+    if has_value {
+        let digits = "0a".repeat(alloc, 10_000)?;
+        write!(script, "root 983103\nset 0 =v 3 x{}\n", digits.as_str())?;
+    }
+    hive_within_after(alloc, &mut hive, script.as_str(), rooms)
+}
+
+#[test]
+fn hives_written_bin_by_bin(rt: HostRuntime) -> Result<(), Fail> {
+    let alloc = rt.alloc();
+    assert_told(
+        &rt,
+        binned_within(alloc, false, &[0, 100, 4096, 8191]),
+        "0 true 0; 0 true 0; 100 true 100; 100 true 100; 4096 true 4096; 4096 true 4096; 8191 true 8191; 8191 true 8191; all true 8192; ",
+    )?;
+    assert_told(
+        &rt,
+        binned_within(alloc, true, &[5000, 8192, 15_000, 20_480]),
+        "5000 true 5000; 5000 true 5000; 8192 true 8192; 8192 true 8192; 15000 true 15000; 15000 true 15000; all true 20480; all true 20480; all true 20480; ",
     )
 }

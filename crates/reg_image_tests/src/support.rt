@@ -3,7 +3,8 @@
 //! the more it does with a hive.
 use reg_callbacks::NoCallback;
 use reg_dump::dump;
-use reg_image::{image, load};
+use reg_fixtures::FakeWriter;
+use reg_image::{WriteFault, image, load, write_hive};
 use reg_registry::{PlainHive, Registry};
 use reg_script::run;
 use std::alloc::Global;
@@ -40,6 +41,9 @@ pub trait Imaged: Registry {
 
     /// Its image with a moment and a sequence number.
     fn imaged(&self, alloc: Global, moment: u64, sequence: u32) -> Result<Vec<u8>, Fail>;
+
+    /// Writes that with moment 0 and sequence 1, bin by bin.
+    fn written_to(&self, writer: &mut FakeWriter) -> Result<(), WriteFault>;
 }
 
 impl Imaged for PlainHive {
@@ -52,6 +56,10 @@ impl Imaged for PlainHive {
 
     fn imaged(&self, alloc: Global, moment: u64, sequence: u32) -> Result<Vec<u8>, Fail> {
         Ok(image(alloc, self, moment, sequence)?)
+    }
+
+    fn written_to(&self, writer: &mut FakeWriter) -> Result<(), WriteFault> {
+        write_hive(self, 0, 1, writer)
     }
 }
 

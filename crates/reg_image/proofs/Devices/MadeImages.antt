@@ -1,9 +1,11 @@
 -- An image as it is made: its base block, and then the bins, page by page.
-use Rattle.std.proofs.Common.{◌≡◌, ℕ, ◌+◌, ◌-◌, ◌*◌, ◌/◌, ◌<◌, ◌≤◌, ◌++◌, List, [], Ok, length, take, drop, replicate, sym, ap, ◌∙◌, arith}
-use Rattle.std.proofs.Common.{append_assoc}
+use Rattle.std.proofs.Common.{◌≡◌, ℕ, ◌+◌, ◌*◌, ◌/◌, ◌<◌, ◌≤◌, ◌++◌, List, [], Ok, length, take, drop, replicate, sym, ap, ◌∙◌, arith}
+use Rattle.std.proofs.Common.{append_assoc, refl}
 use Rattle.std.proofs.Math.Seq.{take-add, take-length}
+use Rattle.std.proofs.lemmas.List.{take-replicate, drop-replicate}
 use Rattle.byteorder.specs.Endian.{little_bytes}
-use Rattle.reg_arena.specs.Arena.{IsSound}
+use Rattle.reg_heap.specs.ByteWords.{splice}
+use Rattle.reg_arena.specs.Arena.{Bins, IsSound}
 use Rattle.reg_arena.specs.Cells.{IsInBin}
 use Rattle.reg_arena.proofs.Tiling.BinPieces.{page-in_bin}
 use Rattle.std.proofs.lemmas.Option.{same_Some}
@@ -15,22 +17,30 @@ use Rattle.reg_image.specs.Images.{image_of, loaded}
 use Rattle.reg_image.proofs.CleanWalks.WholeImages.{whole-loads}
 use Rattle.reg_image.specs.BaseBlock.{checksum_of, block_head, block_of}
 use Rattle.reg_image.specs.Internal.BlockFields.{block_fields}
+use Rattle.reg_image.proofs.Readers.BlockWords.{checksum-front}
 
 module _ (size root moment sequence : ℕ) where
-  -- the fields and zeros are what is written before the checksum
-  pub head-made : (a b : List ℕ) (k : ℕ) → a ≡ block_fields size root moment sequence → k ≡ length a →
-      b ≡ take 508 a ++ replicate (508 - k) 0 →
-      b ≡ block_head size root moment sequence
-  head-made a b k e l m = m ∙ (ap (λ n. take 508 a ++ replicate (508 - n) 0) l ∙ ap (λ xs. take 508 xs ++ replicate (508 - length xs) 0) e)
+  -- the fields over zeros
+  pub fields-put : (a : List ℕ) → a ≡ splice 0 (block_fields size root moment sequence) (replicate 4096 0) →
+      a ≡ block_fields size root moment sequence ++ replicate 4048 0
+  unfolding splice
+  fields-put a e = e ∙ ap (λ xs. block_fields size root moment sequence ++ xs) (drop-replicate 48 4096 0)
 
-  -- then its checksum and zeros
-  pub block-made : (head d e : List ℕ) (sum m : ℕ) → head ≡ block_head size root moment sequence → sum ≡ checksum_of head →
-      d ≡ head ++ little_bytes 4 sum → m ≡ length d → e ≡ take 4096 d ++ replicate (4096 - m) 0 → e ≡ block_of size root moment sequence
-  unfolding block_of
-  block-made head d e sum m h s p l q =
-      let whole : d ≡ block_head size root moment sequence ++ little_bytes 4 (checksum_of (block_head size root moment sequence)) =
-      p ∙ (ap (λ n. head ++ little_bytes 4 n) s ∙ ap (λ xs. xs ++ little_bytes 4 (checksum_of xs)) h) in
-      q ∙ (ap (λ n. take 4096 d ++ replicate (4096 - n) 0) l ∙ ap (λ xs. take 4096 xs ++ replicate (4096 - length xs) 0) whole)
+  pub head-put : (a : List ℕ) → a ≡ block_fields size root moment sequence ++ replicate 4048 0 → take 508 a ≡ block_head size root moment sequence
+  head-put a e = ap (take 508) e ∙ ap (λ xs. block_fields size root moment sequence ++ xs) (take-replicate 460 4048 0 (omega arith))
+
+  -- then the checksum
+  pub block-put : (a d : List ℕ) (sum : ℕ) → a ≡ block_fields size root moment sequence ++ replicate 4048 0 → sum ≡ checksum_of a →
+      d ≡ splice 508 (little_bytes 4 sum) a → d ≡ block_of size root moment sequence
+  unfolding splice block_of
+  block-put a d sum e s p =
+      let front = head-put a e in
+      let behind : drop 512 a ≡ replicate 3584 0 = ap (drop 512) e ∙ drop-replicate 464 4048 0 in
+      let said : sum ≡ checksum_of (block_head size root moment sequence) =
+      s ∙ (sym (checksum-front 508 a (omega arith)) ∙ ap checksum_of front) in
+      p ∙ (ap (λ xs. xs ++ (little_bytes 4 sum ++ drop 512 a)) front
+      ∙ (ap (λ xs. block_head size root moment sequence ++ (little_bytes 4 sum ++ xs)) behind
+      ∙ ap (λ n. block_head size root moment sequence ++ (little_bytes 4 n ++ replicate 3584 0)) said))
 
 module _ (bytes heads : List ℕ) (sound : IsSound bytes heads) where
   pub page-there : (page : ℕ) → page < length bytes / 4096 → IsInBin bytes (page * 4096) 4096
@@ -75,3 +85,11 @@ module _ (bins : List ℕ) (root moment sequence : ℕ) where
   image-loads all tree w l e =
       ap loaded e ∙ whole-loads bins root
       (record { cells = w.cells; cells_are = w.cells_are; whole = w.whole }) l moment sequence tree w.spells
+
+-- a hive's base block, and its bins behind it
+pub parts-image : (keys tree : Keys) (bins : Bins) (node : Node) (block : List ℕ) (size moment sequence : ℕ) → bins ≡ keys.bins → tree ≡ keys →
+    IsAt tree [] node → size ≡ length bins.bytes → block ≡ block_of size node.offset moment sequence →
+    block ++ bins.bytes ≡ image_of keys.bins.bytes keys.root moment sequence
+parts-image keys tree bins node block size moment sequence b t a s is =
+    image-made keys.bins.bytes keys.root moment sequence size node.offset block (block ++ bins.bytes) bins.bytes is refl
+    (ap (λ (held : Bins). held.bytes) b) s (root-is tree node a ∙ ap (λ (k : Keys). k.root) t)

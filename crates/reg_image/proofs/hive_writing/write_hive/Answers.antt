@@ -1,0 +1,26 @@
+use Rattle.std.proofs.Common.{◌≤◌, ℕ, List, OnOk, IfErr, length, take, refl, subst}
+use Rattle.std.specs.Io.KnownBytes.{Appends}
+use Rattle.reg_calls.specs.HiveView.{view_of}
+use Rattle.reg_image.proofs.Devices.MadeImages.{parts-image, image-loads}
+use Rattle.reg_image.proofs.hive_writing.write_hive.Goals as goal
+
+pub returns-clause-ok : goal.returns-clause-ok
+returns-clause-ok g c =
+    subst (λ (bytes : List ℕ). OnOk c.write_block_and_bins.result (Appends (g.W.Sink.contents c.args.writer.now)
+    (g.W.Sink.contents c.write_block_and_bins.new.writer) bytes))
+    (parts-image (view_of c.args.hive.now).keys _ _ c.root-root.result _ c.bins_size-size.result c.args.moment c.args.sequence c.arena-arena.ensures.bins
+    c.tree.ensures.keys c.root-root.ensures.at c.bins_size-size.ensures.size c.base_block-block.ensures)
+    c.write_block_and_bins.ensures.ok
+
+pub returns-clause-err : goal.returns-clause-err
+returns-clause-err g c =
+    subst (λ (bytes : List ℕ). IfErr c.write_block_and_bins.result (λ fault. (fault.written ≤ length bytes)
+    × Appends (g.W.Sink.contents c.args.writer.now) (g.W.Sink.contents c.write_block_and_bins.new.writer) (take fault.written bytes)))
+    (parts-image (view_of c.args.hive.now).keys _ _ c.root-root.result _ c.bins_size-size.result c.args.moment c.args.sequence c.arena-arena.ensures.bins
+    c.tree.ensures.keys c.root-root.ensures.at c.bins_size-size.ensures.size c.base_block-block.ensures)
+    c.write_block_and_bins.ensures.err
+
+pub returns-clause-loads : goal.returns-clause-loads
+returns-clause-loads g c =
+    let keys = (view_of c.args.hive.now).keys in
+    image-loads keys.bins.bytes keys.root c.args.moment c.args.sequence _ keys.tree c.arena-arena.ensures.whole c.arena-arena.ensures.sound.small refl
