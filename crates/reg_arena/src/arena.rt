@@ -226,8 +226,9 @@ impl Arena {
     /// to a multiple of 4096. No size: nothing happens.
     ///
     /// [`ArenaFault::Full`]: with all those bins there would be more than 268,435,456 bytes, whether they are needed or not;
-    /// a [`carve`](Arena::carve) of all sizes may still find room. [`ArenaFault::Memory`]: `out`, or the room for all those
-    /// bins, could not grow. After either the arena and `out` are as before.
+    /// a [`carve`](Arena::carve) of all sizes may still find room. [`ArenaFault::Memory`]: `out` could not grow, or no free cell
+    /// has room for all cells together and memory for all those bins was refused. After either the arena and `out` are as
+    /// before.
     ///
     /// Suhanov, Windows registry file format specification, sections "Hive bin" and "Cell".
     pub fn carve_each(&mut self, sizes: &[u32], out: &mut Vec<u32>) -> Result<(), ArenaFault>

@@ -11,7 +11,7 @@ ghost use Rattle.reg_arena.specs.Carves.{CarvesExactly, NoFit};
 ghost use Rattle.reg_arena.specs.EachCell.{fresh_bin, fresh_of, AreCarvable, EachFalling, IsCarvedBefore};
 ghost use Rattle.reg_arena.specs.Internal.ListedCells.{IsIndexed};
 ghost use Rattle.reg_arena.specs.Internal.BinParts.{IsSplit};
-ghost use Rattle.reg_arena.specs.Internal.Reserved.{AreReserved, IsBlank, KeepsRoom};
+ghost use Rattle.reg_arena.specs.Internal.Reserved.{AreReserved, IsRoomFor, KeepsRoom};
 ghost use Rattle.reg_arena.specs.Internal.Spares.{AreSpare};
 
 use crate::ArenaFault;
@@ -38,26 +38,28 @@ pub fn fresh_within(sizes: &[u32], limit: u32) -> Option<u32>
     Some(fresh)
 }
 
-// The bytes of a bin to come, until they are taken.
+// Memory for a bin to come, until it is taken. Nothing is written into it before, since most are given back unused.
 #[derive(Drop)]
 pub struct Spare {
-    pub blank: Option<Vec<u8>>,
+    pub memory: Option<Vec<u8>>,
 }
 
-// A bin to come for each cell.
-fn make_spares(alloc: Global, bins: &BinRow, sizes: &[u32]) -> Result<Vec<Spare>, AllocError>
+// Memory for a bin for each cell.
+fn make_spares(alloc: Global, sizes: &[u32]) -> Result<Vec<Spare>, AllocError>
     requires { AreCarvable sizes.now }
     ensures { IfOk result (λ spares. AreSpare NONE sizes.now (replicate (length sizes.now) NONE) spares.items) }
 {
     let mut spares = Vec::new(alloc);
     for size in sizes {
-        let blank = Some(bins.blank(bin_size(*size) as usize)?);
-        spares.push(Spare { blank })?;
+        let memory = Vec::with_capacity(alloc, bin_size(*size) as usize)?;
+        spares.push(Spare {
+            memory: Some(memory),
+        })?;
     }
     Ok(spares)
 }
 
-// Room for a bin for each cell, and those bins; nothing where one free cell has room for all of them, since then no bin is needed.
+// Room for a bin for each cell, and memory for it; nothing where one free cell has room for all of them, since then no bin is needed.
 fn spares_for(
     alloc: Global,
     bins: &mut BinRow,
@@ -84,20 +86,31 @@ fn spares_for(
     }
     lists.make_room((bins.len() + fresh as usize + 7) / 8)?;
     bins.reserve(fresh as usize)?;
-    make_spares(alloc, bins, sizes)
+    make_spares(alloc, sizes)
 }
 
-// Takes the bin for a place, where there is one.
+// Takes the memory for a place's bin, where there is some.
 fn take_spare(spares: &mut Vec<Spare>, place: usize) -> Option<Vec<u8>>
     ensures taken { (sizes offsets : List ℕ) → AreSpare NONE sizes offsets spares.old.items → place < length sizes → get_or offsets place 0 ≡ NONE →
-        MatchOption result ⊥ (λ blank. IsBlank blank.items (get_or sizes place 0)) }
+        MatchOption result ⊥ (λ memory. IsRoomFor memory.items (vec_capacity memory) (get_or sizes place 0)) }
     ensures left { (sizes offsets : List ℕ) → (offset : ℕ) → AreSpare NONE sizes offsets spares.old.items → (offset ≡ NONE → ⊥) →
         AreSpare NONE sizes (set offsets place offset) spares.new.items }
 {
     if place >= spares.len() {
         return None;
     }
-    spares[place].blank.take()
+    spares[place].memory.take()
+}
+
+// Zeros for a bin, written into memory that has room for them.
+fn blank_in(memory: Vec<u8>, size: u32) -> Vec<u8>
+    requires none { memory.items ≡ [] }
+    requires room { size ≤ vec_capacity memory }
+    ensures { result.items ≡ replicate size 0 }
+{
+    let mut bytes = memory;
+    let _ = bytes.resize(size as usize, 0);
+    bytes
 }
 
 // Carves one cell, for which there is room: for its offset, and where no free cell fits it for a bin.
@@ -106,7 +119,7 @@ fn carve_one(
     lists: &mut FreeLists,
     size: u32,
     out: &mut Vec<u32>,
-    blank: Option<Vec<u8>>,
+    memory: Option<Vec<u8>>,
 )
     requires arena { IsIndexed bins.old.items lists.old }
     requires split { IsSplit bins.old.items bins.old.parts }
@@ -114,7 +127,7 @@ fn carve_one(
     requires small { size ≤ CARVE_LIMIT }
     requires limit { length bins.old.items + fresh_bin size ≤ BINS_LIMIT }
     requires reserved { NoFit bins.old.items size → AreReserved (length bins.old.items + fresh_bin size) bins.old.room lists.old }
-    requires spare { NoFit bins.old.items size → MatchOption blank ⊥ (λ bytes. IsBlank bytes.items size) }
+    requires spare { NoFit bins.old.items size → MatchOption memory ⊥ (λ room. IsRoomFor room.items (vec_capacity room) size) }
     requires room { vec_len out.old + 1 ≤ vec_capacity out.old }
     ensures arena { IsIndexed bins.new.items lists.new }
     ensures split { IsSplit bins.new.items bins.new.parts }
@@ -124,10 +137,11 @@ fn carve_one(
     ensures out_capacity { vec_capacity out.old ≤ vec_capacity out.new }
 {
     let Some(fit) = lists.best_fit(bins, size) else {
-        let Some(bytes) = blank else {
+        let Some(room) = memory else {
             return;
         };
-        carve_blank(bins, lists, bytes, size, &[size], out);
+        let blank = blank_in(room, bin_size(size));
+        carve_blank(bins, lists, blank, size, &[size], out);
         return;
     };
     let _ = carve_found(bins, lists, fit, size, &[size], out);
@@ -140,7 +154,7 @@ fn carve_to(
     size: u32,
     out: &mut Vec<u32>,
     place: usize,
-    blank: Option<Vec<u8>>,
+    memory: Option<Vec<u8>>,
 )
     requires arena { IsIndexed bins.old.items lists.old }
     requires split { IsSplit bins.old.items bins.old.parts }
@@ -148,7 +162,7 @@ fn carve_to(
     requires small { size ≤ CARVE_LIMIT }
     requires limit { length bins.old.items + fresh_bin size ≤ BINS_LIMIT }
     requires reserved { NoFit bins.old.items size → AreReserved (length bins.old.items + fresh_bin size) bins.old.room lists.old }
-    requires spare { NoFit bins.old.items size → MatchOption blank ⊥ (λ bytes. IsBlank bytes.items size) }
+    requires spare { NoFit bins.old.items size → MatchOption memory ⊥ (λ room. IsRoomFor room.items (vec_capacity room) size) }
     requires room { vec_len out.old + 1 ≤ vec_capacity out.old }
     requires place { place < length out.old.items }
     ensures arena { IsIndexed bins.new.items lists.new }
@@ -158,7 +172,7 @@ fn carve_to(
     ensures keeps { KeepsRoom bins.old.room lists.old bins.new.room lists.new }
     ensures out_capacity { vec_capacity out.old ≤ vec_capacity out.new }
 {
-    carve_one(bins, lists, size, out, blank);
+    carve_one(bins, lists, size, out, memory);
     let Some(offset) = out.pop() else {
         return;
     };
@@ -216,8 +230,8 @@ fn carve_all(
     let _ = out.resize(from + sizes.len(), NONE);
     for _turn in 0..sizes.len() {
         let place = largest_left(sizes, &out[from..]);
-        let blank = take_spare(spares, place);
-        carve_to(bins, lists, sizes[place], out, from + place, blank);
+        let memory = take_spare(spares, place);
+        carve_to(bins, lists, sizes[place], out, from + place, memory);
     }
 }
 

@@ -1,16 +1,17 @@
 -- Bins to come, which are needed only where no free cell has room for all cells that are left.
 use Rattle.std.proofs.Common.{◌≡◌, ◌≢◌, ℕ, zero, suc, ◌+◌, ◌<◌, ◌≤◌, ◌%◌, Bool, true, false, cond, List, [], ◌∷◌, ◌++◌, length, get_or, set, replicate, refl, sym, ap, ◌∙◌, subst, arith, eqb, inl, inr, Ok, Err}
 use Rattle.std.proofs.lemmas.Bool.{eq-eqb, ne_eqb}
-use Rattle.std.specs.Prelude.{IfOk, MatchOption}
+use Rattle.std.specs.Prelude.{IfOk, MatchOption, vec_capacity}
 use Rattle.std.specs.declared.result.Result.{Result}
 use Rattle.reg_arena.specs.declared.each.Spare.{Spare}
-use Rattle.reg_arena.specs.Internal.Reserved.{IsBlank}
+use Rattle.reg_arena.specs.Internal.Reserved.{IsBlank, IsRoomFor}
 use Rattle.reg_arena.specs.Internal.Spares.{AreSpare}
 use Rattle.std.proofs.lemmas.List.{length-replicate}
 use Rattle.reg_arena.specs.NewBin.{IsBinSize}
 use Rattle.reg_arena.specs.NewCells.{total_of}
 use Rattle.reg_arena.specs.Carves.{Carves, CarvesExactly, IsRoom, NoFit}
 use Rattle.reg_arena.specs.EachCell.{fresh_bin, fresh_of}
+use Rattle.reg_arena.proofs.Carving.FreshBins.{fresh-is}
 use Rattle.reg_arena.proofs.Carving.GrownBins.{fit-before, no_fit-larger}
 
 -- the sizes at the marked places, together
@@ -82,7 +83,7 @@ spare-kept none (s ∷ sizes) (o ∷ offsets) (p ∷ spares) (suc place) offset 
 
 -- the one of a marked place
 pub spare-at : (none : ℕ) (sizes offsets : List ℕ) (spares : List Spare) (place : ℕ) (other : Spare) → AreSpare none sizes offsets spares → place < length sizes →
-    get_or offsets place 0 ≡ none → MatchOption (get_or spares place other).blank ⊥ (λ blank. IsBlank blank.items (get_or sizes place 0))
+    get_or offsets place 0 ≡ none → MatchOption (get_or spares place other).memory ⊥ (λ memory. IsRoomFor memory.items (vec_capacity memory) (get_or sizes place 0))
 spare-at none [] offsets spares place other h within left = absurd (omega (arith, within))
 spare-at none (s ∷ sizes) [] spares place other h within left = absurd h
 spare-at none (s ∷ sizes) (o ∷ offsets) [] place other h within left = absurd h
@@ -102,7 +103,7 @@ spare-set none (s ∷ sizes) (o ∷ offsets) (p ∷ spares) (suc place) offset o
 
 -- one more at the end
 pub spare-more : (none : ℕ) (sizes offsets : List ℕ) (spares : List Spare) (size : ℕ) (spare : Spare) → AreSpare none sizes offsets spares →
-    MatchOption spare.blank ⊥ (λ blank. IsBlank blank.items size) → AreSpare none (sizes ++ size ∷ []) (offsets ++ none ∷ []) (spares ++ spare ∷ [])
+    MatchOption spare.memory ⊥ (λ memory. IsRoomFor memory.items (vec_capacity memory) size) → AreSpare none (sizes ++ size ∷ []) (offsets ++ none ∷ []) (spares ++ spare ∷ [])
 spare-more none [] [] [] size spare h blank = ((λ e. blank), tt)
 spare-more none [] [] (p ∷ spares) size spare h blank = absurd h
 spare-more none [] (o ∷ offsets) spares size spare h blank = absurd h
@@ -110,7 +111,13 @@ spare-more none (s ∷ sizes) [] spares size spare h blank = absurd h
 spare-more none (s ∷ sizes) (o ∷ offsets) [] size spare h blank = absurd h
 spare-more none (s ∷ sizes) (o ∷ offsets) (p ∷ spares) size spare h blank = (h.0, spare-more none sizes offsets spares size spare h.1 blank)
 
--- a bin of zeros for a size
+-- memory for a bin of a size, and the zeros in it
+pub room-some : (size bin : ℕ) (items : List ℕ) (capacity : ℕ) → items ≡ [] → bin ≤ capacity → IsBinSize bin size → IsRoomFor items capacity size
+room-some size bin items capacity none room least = record {
+  none = none;
+  fits = λ n other. (let a = fresh-is n size other in let b = fresh-is bin size least in omega (arith, a, b, room));
+}
+
 pub blank-some : (size bin : ℕ) (blank : List ℕ) → blank ≡ replicate bin 0 → IsBinSize bin size → IsBlank blank size
 blank-some size bin blank zeros least =
     let long : length blank ≡ bin = ap length zeros ∙ length-replicate bin 0 in

@@ -1,5 +1,5 @@
 -- Room for bins to come: capacity for their bytes, and tables that reach as far.
-use Rattle.std.specs.Prelude.{◌≡◌, ℕ, ◌*◌, ◌≤◌, List, length, replicate}
+use Rattle.std.specs.Prelude.{◌≡◌, ℕ, ◌*◌, ◌≤◌, List, [], length, replicate}
 use Rattle.reg_arena.specs.NewBin.{IsBinSize}
 use Rattle.reg_arena.specs.declared.free_lists.FreeLists.{FreeLists}
 
@@ -25,3 +25,8 @@ pub record KeepsRoom (capacity : ℕ) (old : FreeLists) (capacity' : ℕ) (new :
 pub record IsBlank (blank : List ℕ) (total : ℕ) : Type 0 where
   pub zeros : blank ≡ replicate (length blank) 0
   pub least : IsBinSize (length blank) total
+
+-- memory for such a bin, in which nothing is written yet
+pub record IsRoomFor (items : List ℕ) (capacity total : ℕ) : Type 0 where
+  pub none : items ≡ []
+  pub fits : (size : ℕ) → IsBinSize size total → size ≤ capacity

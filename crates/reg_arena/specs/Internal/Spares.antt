@@ -1,11 +1,11 @@
--- Bins to come, one for each cell that is to be carved.
-use Rattle.std.specs.Prelude.{◌≡◌, ℕ, List, [], ◌∷◌, MatchOption, ⊤}
+-- Memory for bins to come, one for each cell that is to be carved.
+use Rattle.std.specs.Prelude.{◌≡◌, ℕ, List, [], ◌∷◌, MatchOption, vec_capacity, ⊤}
 use Rattle.reg_arena.specs.declared.each.Spare.{Spare}
-use Rattle.reg_arena.specs.Internal.Reserved.{IsBlank}
+use Rattle.reg_arena.specs.Internal.Reserved.{IsRoomFor}
 
--- there is a bin to come for each of these sizes whose place is marked as not carved yet
+-- there is memory for a bin for each of these sizes whose place is marked as not carved yet
 abbrev pub AreSpare : ℕ → List ℕ → List ℕ → List Spare → Type 0
 AreSpare none [] [] [] = ⊤
 AreSpare none (size ∷ sizes) (offset ∷ offsets) (spare ∷ spares) =
-    (offset ≡ none → MatchOption spare.blank ⊥ (λ blank. IsBlank blank.items size)) × AreSpare none sizes offsets spares
+    (offset ≡ none → MatchOption spare.memory ⊥ (λ memory. IsRoomFor memory.items (vec_capacity memory) size)) × AreSpare none sizes offsets spares
 AreSpare none sizes offsets spares = ⊥

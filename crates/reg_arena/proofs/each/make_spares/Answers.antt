@@ -1,7 +1,7 @@
 use Rattle.std.proofs.Common.{arith, ◌≡◌, ◌+◌, ◌++◌, ◌∷◌, [], take, get_or, length, replicate, subst, sym}
 use Rattle.std.proofs.lemmas.List.{take_more, take_all}
 use Rattle.reg_heap.specs.declared.limits.TheConstants.{NONE}
-use Rattle.reg_arena.proofs.Carving.SpareBins.{blank-some, spare-more, replicate-more}
+use Rattle.reg_arena.proofs.Carving.SpareBins.{room-some, spare-more, replicate-more}
 use Rattle.reg_arena.proofs.each.make_spares.Goals as goal
 
 pub loop-size-preserved : goal.loop-size-preserved
@@ -9,5 +9,5 @@ loop-size-preserved c =
     let i = c.loop-size.size-index in
     let sizes = c.args.sizes.now in
     let more : take (i + 1) sizes ≡ take i sizes ++ get_or sizes i 0 ∷ [] = take_more sizes i 0 c.loop-size-test.true in
-    let blank = blank-some _ _ _ c.in_ok-blank.ensures c.bin_size.ensures.least in
-    rw (more, replicate-more i NONE, c.in_ok-push.ensures.items) (spare-more NONE _ _ _ _ _ c.loop-size.invariant blank)
+    let room = room-some _ _ _ _ c.in_ok-memory.ensures.items c.in_ok-memory.ensures.capacity c.bin_size.ensures.least in
+    rw (more, replicate-more i NONE, c.in_ok-push.ensures.items) (spare-more NONE _ _ _ _ _ c.loop-size.invariant room)

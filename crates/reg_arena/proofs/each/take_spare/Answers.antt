@@ -1,8 +1,8 @@
 use Rattle.std.proofs.Common.{arith, get_or, subst, sym}
-use Rattle.std.specs.Prelude.{MatchOption}
+use Rattle.std.specs.Prelude.{MatchOption, vec_capacity}
 use Rattle.reg_heap.specs.declared.limits.TheConstants.{NONE}
 use Rattle.reg_arena.specs.declared.each.Spare.{Spare}
-use Rattle.reg_arena.specs.Internal.Reserved.{IsBlank}
+use Rattle.reg_arena.specs.Internal.Reserved.{IsRoomFor}
 use Rattle.reg_arena.proofs.Carving.SpareBins.{spare-past, spare-kept, spare-at, spare-set}
 use Rattle.reg_arena.proofs.each.take_spare.Goals as goal
 
@@ -15,7 +15,7 @@ returns-then-place-len-clause-left c = λ sizes offsets offset spares differs. s
 pub returns-clause-taken : goal.returns-clause-taken
 returns-clause-taken c = λ sizes offsets spares within left.
     (let at = spare-at NONE sizes offsets _ c.args.place c.index_mut.result.now spares within left in
-    rw c.take.ensures.value (subst (λ (x : Spare). MatchOption x.blank ⊥ (λ blank. IsBlank blank.items (get_or sizes c.args.place 0))) (sym c.index_mut.ensures.value) at))
+    rw c.take.ensures.value (subst (λ (x : Spare). MatchOption x.memory ⊥ (λ memory. IsRoomFor memory.items (vec_capacity memory) (get_or sizes c.args.place 0))) (sym c.index_mut.ensures.value) at))
 
 pub returns-clause-left : goal.returns-clause-left
 returns-clause-left c = λ sizes offsets offset spares differs. spare-set NONE sizes offsets _ c.args.place offset _ spares differs
