@@ -73,3 +73,9 @@ same-append pages more page n m place xs is none e =
 
 pub longer-append : (pages more : List PageTable) (page : PageTable) → more ≡ pages ++ page ∷ [] → length (numbers_of pages) ≤ length (numbers_of more)
 longer-append pages more page is = rw (is, numbers-append pages page, length-append (numbers_of pages) page.numbers.items) (omega arith)
+
+pub length-more : (pages more : List PageTable) (page : PageTable) → more ≡ pages ++ page ∷ [] → length page.numbers.items ≡ 512 →
+    length (numbers_of more) ≡ length (numbers_of pages) + 512
+length-more pages more page is long =
+    ap (λ (ps : List PageTable). length (numbers_of ps)) is ∙ ap length (numbers-append pages page) ∙ length-append (numbers_of pages) page.numbers.items ∙
+    ap (λ (n : ℕ). length (numbers_of pages) + n) long

@@ -251,7 +251,7 @@ impl BinRow {
     }
 }
 
-// Room is there for both, so neither can fail.
+// There is room, so it can't fail.
 fn add_pages(pages: &mut Vec<u32>, more: usize, number: u32)
     requires { vec_len pages.old + more ≤ vec_capacity pages.old }
     ensures items { pages.new.items ≡ pages.old.items ++ replicate more number }
@@ -261,6 +261,7 @@ fn add_pages(pages: &mut Vec<u32>, more: usize, number: u32)
     let _ = pages.resize(pages_then, number);
 }
 
+// There is room, so it can't fail.
 fn add_part(parts: &mut Vec<Part>, part: Part)
     requires { vec_len parts.old < vec_capacity parts.old }
     ensures items { parts.new.items ≡ parts.old.items ++ part ∷ [] }

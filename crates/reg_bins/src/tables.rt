@@ -1,5 +1,5 @@
 //! A number for each eight bytes of bins, those of each page in a table of their own.
-ghost use Rattle.std.specs.Prelude.{◌≡◌, ℕ, ◌≤◌, ◌<◌, [], length, get_or, set, OnOk, IsOk};
+ghost use Rattle.std.specs.Prelude.{◌≡◌, ℕ, ◌+◌, ◌≤◌, ◌<◌, ◌⊎◌, [], length, get_or, set, OnOk, IsOk};
 
 use std::alloc::{AllocError, Global};
 use std::marker::Model;
@@ -63,11 +63,13 @@ impl PageTables {
         self.pages[place / PAGE].numbers[place % PAGE] = number;
     }
 
-    /// At least so many numbers, the new ones all 0. What was there stays.
+    /// At least so many numbers, at most 511 more, the new ones all 0; or as many as there were, where those are more. What was there
+    /// stays. Where memory is refused, some of the new ones may be there.
     pub fn lengthen(&mut self, long: usize) -> Result<(), AllocError>
         requires { long ≤ 33554432 }
         ensures same { (place : ℕ) → get_or self.new.items place 0 ≡ get_or self.old.items place 0 }
         ensures longer { length self.old.items ≤ length self.new.items }
+        ensures most { (length self.new.items ≡ length self.old.items) ⊎ (length self.new.items ≤ long + 511) }
         ensures ok { OnOk result (long ≤ length self.new.items) }
         ensures succeeds { long ≤ length self.old.items → IsOk result }
     {

@@ -148,7 +148,7 @@ fn writers_of_images_in_pieces(rt: HostRuntime) -> Result<(), Fail> {
 }
 
 /// The same of a hive that is written bin by bin to writers that fail, or answer 0, after so many bytes, and to one that takes one byte
-/// a call, beside its image.
+/// a call, and one whose flush fails, beside its image.
 fn hive_within<H: Imaged>(alloc: Global, hive: &H, rooms: &[usize]) -> Result<String, Fail> {
     let bytes = hive.imaged(alloc, 0, 1)?;
     let mut text = String::new(alloc);
@@ -162,9 +162,11 @@ fn hive_within<H: Imaged>(alloc: Global, hive: &H, rooms: &[usize]) -> Result<St
     }
     let mut slow = wide(alloc);
     slow.step = 1;
-    let answer = hive.written_to(&mut slow);
-    let told = outcome(alloc, &bytes, answer, &slow.taken)?;
-    text.push_str(told.as_str())?;
+    for mut writer in [slow, narrow(alloc, 30_000, Failure::Flush)] {
+        let answer = hive.written_to(&mut writer);
+        let told = outcome(alloc, &bytes, answer, &writer.taken)?;
+        text.push_str(told.as_str())?;
+    }
     Ok(text)
 }
 
@@ -196,11 +198,11 @@ fn hives_written_bin_by_bin(rt: HostRuntime) -> Result<(), Fail> {
     assert_told(
         &rt,
         binned_within(alloc, false, &[0, 100, 4096, 8191]),
-        "0 true 0; 0 true 0; 100 true 100; 100 true 100; 4096 true 4096; 4096 true 4096; 8191 true 8191; 8191 true 8191; all true 8192; ",
+        "0 true 0; 0 true 0; 100 true 100; 100 true 100; 4096 true 4096; 4096 true 4096; 8191 true 8191; 8191 true 8191; all true 8192; 8192 true 8192; ",
     )?;
     assert_told(
         &rt,
         binned_within(alloc, true, &[5000, 8192, 15_000, 20_480]),
-        "5000 true 5000; 5000 true 5000; 8192 true 8192; 8192 true 8192; 15000 true 15000; 15000 true 15000; all true 20480; all true 20480; all true 20480; ",
+        "5000 true 5000; 5000 true 5000; 8192 true 8192; 8192 true 8192; 15000 true 15000; 15000 true 15000; all true 20480; all true 20480; all true 20480; 20480 true 20480; ",
     )
 }

@@ -112,6 +112,29 @@ fn carves_each_cell_by_itself_and_the_largest_first(rt: HostRuntime) -> Result<(
     )
 }
 
+// The offsets of two cells carved each by itself, which don't fit into one bin of a page, and all cells then.
+fn carved_in_bins_in(alloc: Global, arena: &mut Arena) -> Result<String, Fail> {
+    let mut apart = Vec::new(alloc);
+    arena.carve_each(&[16, 4064], &mut apart)?;
+    let cells = shown(alloc, arena)?;
+    Ok(format!(in alloc; "{apart:?} {}", cells.as_str())?)
+}
+
+// The same of a new arena.
+fn carved_in_bins(alloc: Global) -> Result<String, Fail> {
+    let mut arena = Arena::new(alloc);
+    carved_in_bins_in(alloc, &mut arena)
+}
+
+#[test]
+fn carves_each_cell_in_a_bin_of_its_own(rt: HostRuntime) -> Result<(), Fail> {
+    assert_told(
+        &rt,
+        carved_in_bins(rt.alloc()),
+        "[4128, 32] 32 4064*, 4128 16*, 4144 4048, ",
+    )
+}
+
 // Cells of the largest size until one is refused: the last answer.
 fn fill(arena: &mut Arena, offsets: &mut Vec<u32>) -> Result<(), ArenaFault> {
     let mut last = Ok(());

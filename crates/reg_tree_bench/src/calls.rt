@@ -21,6 +21,12 @@ const THEN: usize = 96;
 /// How many bytes the value of each key has in the tree whose memory is looked at.
 const LARGE: usize = 1_000;
 
+/// As many bytes as a value may have.
+const LARGEST: usize = 1_048_576;
+
+/// How often such a value is set.
+const LARGEST_CALLS: u32 = 200;
+
 /// The paths of keys, so many at each of two levels.
 fn paths(alloc: Global, levels: [u32; 2]) -> Result<Vec<String>> {
     let [first, second] = levels;
@@ -73,7 +79,7 @@ fn set_one(tree: &mut Tree, alloc: Global, path: &[u8], bytes: &[u8]) -> Result<
     let Some(node) = tree.resolve(tree.root(), path) else {
         bail!("a key is missing");
     };
-    if bytes.len() > 1_048_576 {
+    if bytes.len() > LARGEST {
         bail!("that is too long");
     }
     let Ok(()) = tree.set_value(alloc, node, NAME, 3, bytes, 2) else {
@@ -82,26 +88,27 @@ fn set_one(tree: &mut Tree, alloc: Global, path: &[u8], bytes: &[u8]) -> Result<
     Ok(())
 }
 
-/// Asks for the value of each key, and tells how many bytes were told.
-fn ask_all(tree: &Tree, paths: &[String]) -> Result<u64> {
-    let mut told: u64 = 0;
+/// Asks for the bytes of each key's value, and tells how many were told.
+fn ask_all(tree: &Tree, alloc: Global, paths: &[String]) -> Result<usize> {
+    let mut told: usize = 0;
     for path in paths {
-        told = told.saturating_add(u64::from(ask_one(tree, path.as_bytes())?));
+        told = told.saturating_add(ask_one(tree, alloc, path.as_bytes())?);
     }
     Ok(told)
 }
 
-fn ask_one(tree: &Tree, path: &[u8]) -> Result<u32> {
+fn ask_one(tree: &Tree, alloc: Global, path: &[u8]) -> Result<usize> {
     let Ok(()) = check_path(path) else {
         bail!("that is no path");
     };
     let Some(node) = tree.resolve(tree.root(), path) else {
         bail!("a key is missing");
     };
-    let Some(value) = tree.value(node, 0) else {
-        bail!("a value is missing");
-    };
-    Ok(value.size)
+    let mut told: usize = 0;
+    for index in 0..tree.values(node) {
+        told = told.saturating_add(tree.value_bytes(alloc, node, index)?.len());
+    }
+    Ok(told)
 }
 
 /// Makes keys and values, asks for them and walks over them, and prints how many there are.
@@ -111,7 +118,7 @@ pub fn count(rt: &impl Print, alloc: Global, levels: [u32; 2]) -> Result<()> {
     make_all(&mut tree, alloc, paths.as_slice())?;
     set_all(&mut tree, alloc, paths.as_slice(), FIRST)?;
     set_all(&mut tree, alloc, paths.as_slice(), THEN)?;
-    let told = ask_all(&tree, paths.as_slice())?;
+    let told = ask_all(&tree, alloc, paths.as_slice())?;
     let counts = count_keys(alloc, &tree)?;
     let bins = tree.arena().bins_size();
     println!(rt;
@@ -131,7 +138,7 @@ pub fn measure(rt: &(impl Print + Clock), alloc: Global, levels: [u32; 2]) -> Re
     let made = PerCall::new(start.elapsed(rt)?, calls);
     set_all(&mut tree, alloc, paths.as_slice(), FIRST)?;
     let set = time_sets(rt, alloc, &mut tree, paths.as_slice())?;
-    let asked = time_queries(rt, &tree, paths.as_slice())?;
+    let asked = time_queries(rt, alloc, &tree, paths.as_slice())?;
     let walked = time_walk(rt, alloc, &tree, calls)?;
     let bins = tree.arena().bins_size();
     println!(rt;
@@ -146,9 +153,9 @@ fn time_sets(rt: &impl Clock, alloc: Global, tree: &mut Tree, paths: &[String]) 
     Ok(PerCall::new(start.elapsed(rt)?, paths.len()))
 }
 
-fn time_queries(rt: &impl Clock, tree: &Tree, paths: &[String]) -> Result<PerCall> {
+fn time_queries(rt: &impl Clock, alloc: Global, tree: &Tree, paths: &[String]) -> Result<PerCall> {
     let start = Instant::now(rt)?;
-    let _told = ask_all(tree, paths)?;
+    let _told = ask_all(tree, alloc, paths)?;
     Ok(PerCall::new(start.elapsed(rt)?, paths.len()))
 }
 
@@ -156,6 +163,23 @@ fn time_walk(rt: &impl Clock, alloc: Global, tree: &Tree, keys: usize) -> Result
     let start = Instant::now(rt)?;
     let _counts = count_keys(alloc, tree)?;
     Ok(PerCall::new(start.elapsed(rt)?, keys))
+}
+
+/// Prints how long it takes to set the largest value anew.
+pub fn measure_largest(rt: &(impl Print + Clock), alloc: Global) -> Result<()> {
+    let mut tree = new_tree(alloc)?;
+    let paths = paths(alloc, [1, 1])?;
+    make_all(&mut tree, alloc, paths.as_slice())?;
+    set_all(&mut tree, alloc, paths.as_slice(), LARGEST)?;
+    let start = Instant::now(rt)?;
+    for _call in 0..LARGEST_CALLS {
+        set_all(&mut tree, alloc, paths.as_slice(), LARGEST)?;
+    }
+    let set = PerCall::new(start.elapsed(rt)?, LARGEST_CALLS as usize);
+    println!(rt;
+        "calls: a value of {LARGEST} bytes set anew, with a vector of as many made, {set}"
+    )?;
+    Ok(())
 }
 
 /// Makes a large tree, and prints how many bytes its bins have.

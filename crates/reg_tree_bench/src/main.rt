@@ -2,7 +2,7 @@
 //! tree be seen.
 //!
 //! `reg_tree_bench measure` prints how many of a million carves took above a millisecond, and five times how long a query, a set and a
-//! walk take over 60,000 keys. `reg_tree_bench memory` makes a tree of some 200 MiB, and prints how many bytes its bins have: what the
+//! walk take over 60,000 keys, and a set of a value of 1 MiB. `reg_tree_bench memory` makes a tree of some 200 MiB, and prints how many bytes its bins have: what the
 //! process has beside is read off the system, as `/usr/bin/time -v` does. Without an argument it does little of the first two and prints
 //! counts alone, which are the same on every run.
 #![tactic(auto)]
@@ -38,6 +38,7 @@ fn measure(rt: &(impl Print + Clock), alloc: Global) -> Result<()> {
     carves::measure(rt, alloc)?;
     for _run in 0..RUNS {
         calls::measure(rt, alloc, FULL)?;
+        calls::measure_largest(rt, alloc)?;
     }
     Ok(())
 }

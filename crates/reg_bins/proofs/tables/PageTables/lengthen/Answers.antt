@@ -1,7 +1,7 @@
-use Rattle.std.proofs.Common.{◌≡◌, length, ◌-◌, ◌∙◌, vec_len, arith}
+use Rattle.std.proofs.Common.{◌≡◌, length, ◌-◌, ◌∙◌, vec_len, inr, arith}
 use Rattle.std.proofs.lemmas.Grind.{common_steps}
 use Rattle.reg_bins.specs.declared.tables.PageTable.{PageTable}
-use Rattle.reg_bins.proofs.TablePages.{length-pages, same-append, longer-append}
+use Rattle.reg_bins.proofs.TablePages.{length-pages, length-more, same-append, longer-append}
 use Rattle.reg_bins.proofs.tables.PageTables.lengthen.Goals as goal
 
 pub returns-in_err-resize-clause-succeeds : goal.returns-in_err-resize-clause-succeeds
@@ -19,6 +19,7 @@ loop-self-preserved c =
     record {
       same = λ place. same-append pages more page 512 (512 - vec_len c.new-numbers.result) place c.new-numbers.result.items is c.new-numbers.ensures.items c.in_ok-resize.ensures.items ∙ c.loop-self.invariant.same place;
       longer = let l = longer-append pages more page is in omega (arith, l, c.loop-self.invariant.longer);
+      most = inr (let more-long = length-more pages more page is long in let now = length-pages pages c.loop-self.invariant.whole in omega (arith, more-long, now, c.loop-self-test.true, c.loop-self.self-inside.pages.ok.0));
       whole = rw is (grind (arith, common_steps));
     }
 
