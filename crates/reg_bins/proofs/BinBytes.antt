@@ -1,6 +1,6 @@
 -- A piece of bytes in the middle of others: what is read of it, and what a change of it makes.
-use Rattle.std.proofs.Common.{◌≡◌, ℕ, zero, suc, ◌+◌, ◌-◌, ◌*◌, ◌≤◌, ◌<◌, List, [], ◌∷◌, ◌++◌, length, get_or, take, drop, refl, sym, ap, ◌∙◌, arith, add-zero, append_assoc, length-append, length-take, length-drop}
-use Rattle.std.proofs.lemmas.List.{length-take-le, drop-drop, drop_all, drop_at, take_at, drop-append-le, take-append-le, take-append-drop, take-take, get_or-take, get_or-drop, nil_from_length}
+use Rattle.std.proofs.Common.{◌≡◌, ℕ, ◌+◌, ◌-◌, ◌*◌, ◌≤◌, ◌<◌, List, [], ◌∷◌, ◌++◌, length, get_or, take, drop, refl, sym, ap, ◌∙◌, arith, add-zero, append_assoc, length-append, length-drop}
+use Rattle.std.proofs.lemmas.List.{length-take-le, drop-drop, take_at, drop-append-le, take-append-le, take-append-drop, take-take, get_or-take, get_or-drop, nil_from_length}
 use Rattle.std.proofs.Math.Seq.{take-append-add, drop-append-add}
 use Rattle.std.proofs.lemmas.Grind.{common_steps}
 use Rattle.reg_heap.specs.ByteWords.{splice, word}

@@ -1,5 +1,5 @@
 -- Bins in a row, each apart in memory, and the tables of their pages.
-use Rattle.std.specs.Prelude.{◌≡◌, ℕ, ◌+◌, ◌≤◌, ◌<◌, nat_lt, if◌then◌else◌, List, [], ◌∷◌}
+use Rattle.std.specs.Prelude.{ℕ, ◌+◌, ◌≤◌, ◌<◌, nat_lt, if◌then◌else◌, List, [], ◌∷◌}
 
 -- the bytes of bins, one bin behind the other
 pub record Row : Type 0 where

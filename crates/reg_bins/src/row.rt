@@ -1,9 +1,11 @@
 //! Bins in a row, each in a vector of its own.
-ghost use Rattle.std.specs.Prelude.{◌≡◌, ◌+◌, ◌-◌, ◌≤◌, ◌<◌, ◌%◌, ◌/◌, ◌*◌, ◌++◌, ◌∷◌, [], length, get_or, take, drop, replicate, OnOk, OnErr, IfOk, vec_len, vec_capacity};
+ghost use Rattle.std.specs.Prelude.{◌≡◌, ◌+◌, ◌-◌, ◌≤◌, ◌<◌, ◌%◌, ◌/◌, ◌*◌, ◌++◌, ℕ, List, ◌∷◌, [], length, get_or, take, drop, replicate, OnOk, OnErr, IfOk, vec_len, vec_capacity};
 ghost use Rattle.byteorder.specs.Endian.{little_bytes};
 ghost use Rattle.reg_heap.specs.ByteWords.{splice, word};
 ghost use Rattle.reg_heap.specs.declared.limits.TheConstants.{BINS_LIMIT};
 ghost use Rattle.reg_bins.specs.Rows.{end_from, IsInPart};
+ghost use Rattle.reg_bins.specs.declared.row.Page.{Page};
+ghost use Rattle.reg_bins.specs.Internal.{bytes_of, ArePlaced, AreWithin, IsBin};
 
 use byteorder::{ByteOrder, LittleEndian};
 use std::alloc::{AllocError, Global};
@@ -13,11 +15,12 @@ use std::mem;
 /// The bytes of a page. A bin is of whole pages.
 const PAGE: usize = 4096;
 
-// One bin.
+// A page of the bins.
 #[derive(Drop)]
-struct Part {
-    // Where it begins, counted from the first bin.
+struct Page {
+    // Where the bin begins in which it lies, counted from the first bin.
     start: usize,
+    // All bytes of that bin where this is its first page; else none.
     bytes: Vec<u8>,
 }
 
@@ -27,11 +30,9 @@ struct Part {
 #[derive(Drop)]
 pub struct BinRow {
     alloc: Global,
-    /// The bins, in order.
-    parts: Vec<Part>,
-    /// For each page of all bins the number of the bin in which it lies.
-    pages: Vec<u32>,
-    /// For how many pages both tables have room.
+    /// The pages of all bins, in order. A bin of one page stands at its page's place, so that most bytes are found by one look.
+    pages: Vec<Page>,
+    /// For how many pages there is room.
     room: usize,
 }
 
@@ -44,12 +45,12 @@ impl Model for BinRow {
     ghost Value = { Row };
 
     ghost view = { λ r. record {
-      items = bytes_of r.parts.items;
-      parts = sizes_of r.parts.items;
+      items = bytes_of r.pages.items;
+      parts = sizes_of r.pages.items;
       room = 4096 * r.room;
     } };
 
-    ghost invariant = { λ r. (ArePlaced 0 0 r.parts.items r.pages.items) × (length (bytes_of r.parts.items) ≤ BINS_LIMIT) × (r.room ≤ vec_capacity r.pages) × (r.room ≤ vec_capacity r.parts) };
+    ghost invariant = { λ r. ArePlaced 0 0 0 r.pages.items × (length (bytes_of r.pages.items) ≤ BINS_LIMIT) × (r.room ≤ vec_capacity r.pages) };
 }
 
 impl BinRow {
@@ -60,7 +61,6 @@ impl BinRow {
     {
         BinRow {
             alloc,
-            parts: Vec::new(alloc),
             pages: Vec::new(alloc),
             room: 0,
         }
@@ -81,8 +81,8 @@ impl BinRow {
         ensures end { end_from 0 self.now.parts at ≤ length self.now.items }
         ensures bytes { result.now ≡ take (end_from 0 self.now.parts at - at) (drop at self.now.items) }
     {
-        let part = &self.parts[self.pages[at / PAGE] as usize];
-        &part.bytes[at - part.start..]
+        let bin = bin_of(&self.pages, at);
+        &bin.bytes[at - bin.start..]
     }
 
     /// `len` bytes from `at` on, which lie in one bin.
@@ -93,7 +93,7 @@ impl BinRow {
         if len == 0 {
             return &[];
         }
-        part_slice(&self.parts[self.pages[at / PAGE] as usize], at, len)
+        bin_slice(bin_of(&self.pages, at), at, len)
     }
 
     /// The number of four bytes at `at`, the lowest first. They may lie in two bins.
@@ -101,10 +101,10 @@ impl BinRow {
         requires { at + 4 ≤ length self.now.items }
         ensures { result ≡ word self.now.items at }
     {
-        let part = &self.parts[self.pages[at / PAGE] as usize];
-        let from = at - part.start;
-        if part.bytes.len() - from >= 4 {
-            return LittleEndian::read_u32(&part.bytes[from..]);
+        let bin = bin_of(&self.pages, at);
+        let from = at - bin.start;
+        if bin.bytes.len() - from >= 4 {
+            return LittleEndian::read_u32(&bin.bytes[from..]);
         }
         u32::from_le_bytes([
             self.byte_at(at),
@@ -131,8 +131,8 @@ impl BinRow {
         if bytes.is_empty() {
             return;
         }
-        let number = self.pages[at / PAGE] as usize;
-        write_part(&mut self.parts[number], at, bytes);
+        let number = first_page(&self.pages, at);
+        write_bin(&mut self.pages[number], at, bytes);
     }
 
     /// Writes a number of four bytes at `at`, the lowest first. They may lie in two bins.
@@ -143,10 +143,10 @@ impl BinRow {
         ensures room { self.new.room ≡ self.old.room }
     {
         let bytes = n.to_le_bytes();
-        let number = self.pages[at / PAGE] as usize;
-        let part = &mut self.parts[number];
-        if part.bytes.len() - (at - part.start) >= 4 {
-            write_part(part, at, &bytes);
+        let number = first_page(&self.pages, at);
+        let bin = &mut self.pages[number];
+        if bin.bytes.len() - (at - bin.start) >= 4 {
+            write_bin(bin, at, &bytes);
             return;
         }
         self.put_byte(at, bytes[0]);
@@ -162,8 +162,8 @@ impl BinRow {
         ensures parts { self.new.parts ≡ self.old.parts }
         ensures room { self.new.room ≡ self.old.room }
     {
-        let number = self.pages[at / PAGE] as usize;
-        write_part(&mut self.parts[number], at, &[byte]);
+        let number = first_page(&self.pages, at);
+        write_bin(&mut self.pages[number], at, &[byte]);
     }
 
     /// Writes zeros over `len` bytes from `at` on, which lie in one bin.
@@ -176,8 +176,8 @@ impl BinRow {
         if len == 0 {
             return;
         }
-        let number = self.pages[at / PAGE] as usize;
-        zero_part(&mut self.parts[number], at, len);
+        let number = first_page(&self.pages, at);
+        zero_bin(&mut self.pages[number], at, len);
     }
 
     /// Copies `len` bytes from `from` on, which lie in one bin, to those from `to` on, which lie in one bin too, the same or
@@ -192,20 +192,20 @@ impl BinRow {
         if len == 0 {
             return;
         }
-        let source = self.pages[from / PAGE] as usize;
-        let target = self.pages[to / PAGE] as usize;
+        let source = first_page(&self.pages, from);
+        let target = first_page(&self.pages, to);
         if source == target {
-            move_part(&mut self.parts[source], from, to, len);
+            move_in_bin(&mut self.pages[source], from, to, len);
             return;
         }
         // The target is taken out for the copy, since both bins are of one vector.
-        let none = Part {
+        let none = Page {
             start: 0,
             bytes: Vec::new(self.alloc),
         };
-        let mut part = mem::replace(&mut self.parts[target], none);
-        write_part(&mut part, to, part_slice(&self.parts[source], from, len));
-        self.parts[target] = part;
+        let mut bin = mem::replace(&mut self.pages[target], none);
+        write_bin(&mut bin, to, bin_slice(&self.pages[source], from, len));
+        self.pages[target] = bin;
     }
 
     /// The bytes of a bin to come, all zeros.
@@ -217,7 +217,7 @@ impl BinRow {
         Ok(bytes)
     }
 
-    /// Room in the tables for bins of `more` bytes.
+    /// Room in the table of pages for bins of `more` bytes.
     pub fn reserve(&mut self, more: usize) -> Result<(), AllocError>
         requires { length self.old.items + more ≤ BINS_LIMIT }
         ensures items { self.new.items ≡ self.old.items }
@@ -225,12 +225,8 @@ impl BinRow {
         ensures keeps { self.old.room ≤ self.new.room }
         ensures ok { OnOk result (length self.old.items + more / 4096 * 4096 ≤ self.new.room) }
     {
-        let more = more / PAGE;
-        self.pages.reserve(more)?;
-        // No bin is less than a page.
-        let parts = self.pages.len() - self.parts.len() + more;
-        self.parts.reserve(parts)?;
-        self.room = self.pages.capacity().min(self.parts.capacity());
+        self.pages.reserve(more / PAGE)?;
+        self.room = self.pages.capacity();
         Ok(())
     }
 
@@ -245,71 +241,101 @@ impl BinRow {
         ensures room { self.new.room ≡ self.old.room }
     {
         let start = self.len();
-        let number = self.parts.len() as u32;
-        add_pages(&mut self.pages, bytes.len() / PAGE, number);
-        add_part(&mut self.parts, Part { start, bytes });
+        let more = bytes.len() / PAGE - 1;
+        add_page(&mut self.pages, Page { start, bytes });
+        add_pages(&mut self.pages, self.alloc, start, more);
     }
 }
 
 // There is room, so it can't fail.
-fn add_pages(pages: &mut Vec<u32>, more: usize, number: u32)
-    requires { vec_len pages.old + more ≤ vec_capacity pages.old }
-    ensures items { pages.new.items ≡ pages.old.items ++ replicate more number }
+fn add_page(pages: &mut Vec<Page>, page: Page)
+    requires { vec_len pages.old < vec_capacity pages.old }
+    ensures items { pages.new.items ≡ pages.old.items ++ page ∷ [] }
     ensures room { vec_capacity pages.old ≤ vec_capacity pages.new }
 {
-    let pages_then = pages.len() + more;
-    let _ = pages.resize(pages_then, number);
+    let _ = pages.push(page);
 }
 
-// There is room, so it can't fail.
-fn add_part(parts: &mut Vec<Part>, part: Part)
-    requires { vec_len parts.old < vec_capacity parts.old }
-    ensures items { parts.new.items ≡ parts.old.items ++ part ∷ [] }
-    ensures room { vec_capacity parts.old ≤ vec_capacity parts.new }
+// So many pages more of the bin that begins at `start`. There is room for them.
+fn add_pages(pages: &mut Vec<Page>, alloc: Global, start: usize, more: usize)
+    requires { vec_len pages.old + more ≤ vec_capacity pages.old }
+    ensures items { (rest : List Page) × (pages.new.items ≡ pages.old.items ++ rest) × AreWithin start more rest }
+    ensures room { vec_capacity pages.old ≤ vec_capacity pages.new }
 {
-    let _ = parts.push(part);
+    for _page in 0..more {
+        add_page(
+            pages,
+            Page {
+                start,
+                bytes: Vec::new(alloc),
+            },
+        );
+    }
 }
 
-fn part_slice(part: &Part, at: usize, len: usize) -> &[u8]
-    requires from { part.now.start ≤ at }
-    requires to { at - part.now.start + len ≤ length part.now.bytes.items }
-    ensures { result.now ≡ take len (drop (at - part.now.start) part.now.bytes.items) }
+// The number of the first page of the bin in which the byte at `at` lies.
+fn first_page(pages: &[Page], at: usize) -> usize
+    requires placed { ArePlaced 0 0 0 pages.now }
+    requires inside { at < length (bytes_of pages.now) }
+    ensures within { result < length pages.now }
+    ensures bin { (bin : Page) → bin ≡ get_or pages.now result bin → IsBin pages.now at result bin }
 {
-    let from = at - part.start;
-    &part.bytes[from..from + len]
+    pages[at / PAGE].start / PAGE
+}
+
+// The bin in which the byte at `at` lies.
+fn bin_of(pages: &[Page], at: usize) -> &Page
+    requires placed { ArePlaced 0 0 0 pages.now }
+    requires inside { at < length (bytes_of pages.now) }
+    ensures { (number : ℕ) × IsBin pages.now at number result.now }
+{
+    let page = &pages[at / PAGE];
+    if page.bytes.is_empty() {
+        return &pages[page.start / PAGE];
+    }
+    page
+}
+
+fn bin_slice(bin: &Page, at: usize, len: usize) -> &[u8]
+    requires from { bin.now.start ≤ at }
+    requires to { at - bin.now.start + len ≤ length bin.now.bytes.items }
+    ensures { result.now ≡ take len (drop (at - bin.now.start) bin.now.bytes.items) }
+{
+    let from = at - bin.start;
+    &bin.bytes[from..from + len]
 }
 
 #[tactic(auto, unfolding(reg_heap::specs::ByteWords::splice))]
-fn write_part(part: &mut Part, at: usize, bytes: &[u8])
-    requires from { part.old.start ≤ at }
-    requires to { at - part.old.start + length bytes.now ≤ length part.old.bytes.items }
-    ensures bytes { part.new.bytes.items ≡ splice (at - part.old.start) bytes.now part.old.bytes.items }
-    ensures start { part.new.start ≡ part.old.start }
+fn write_bin(bin: &mut Page, at: usize, bytes: &[u8])
+    requires from { bin.old.start ≤ at }
+    requires to { at - bin.old.start + length bytes.now ≤ length bin.old.bytes.items }
+    ensures bytes { bin.new.bytes.items ≡ splice (at - bin.old.start) bytes.now bin.old.bytes.items }
+    ensures start { bin.new.start ≡ bin.old.start }
 {
-    let from = at - part.start;
-    part.bytes[from..from + bytes.len()].copy_from_slice(bytes);
+    let from = at - bin.start;
+    bin.bytes[from..from + bytes.len()].copy_from_slice(bytes);
 }
 
 #[tactic(auto, unfolding(reg_heap::specs::ByteWords::splice))]
-fn zero_part(part: &mut Part, at: usize, len: usize)
-    requires from { part.old.start ≤ at }
-    requires to { at - part.old.start + len ≤ length part.old.bytes.items }
-    ensures bytes { part.new.bytes.items ≡ splice (at - part.old.start) (replicate len 0) part.old.bytes.items }
-    ensures start { part.new.start ≡ part.old.start }
+fn zero_bin(bin: &mut Page, at: usize, len: usize)
+    requires from { bin.old.start ≤ at }
+    requires to { at - bin.old.start + len ≤ length bin.old.bytes.items }
+    ensures bytes { bin.new.bytes.items ≡ splice (at - bin.old.start) (replicate len 0) bin.old.bytes.items }
+    ensures start { bin.new.start ≡ bin.old.start }
 {
-    let from = at - part.start;
-    part.bytes[from..from + len].fill(0);
+    let from = at - bin.start;
+    bin.bytes[from..from + len].fill(0);
 }
 
 #[tactic(auto, unfolding(reg_heap::specs::ByteWords::splice))]
-fn move_part(part: &mut Part, from: usize, to: usize, len: usize)
-    requires from { part.old.start ≤ from }
-    requires source { from - part.old.start + len ≤ length part.old.bytes.items }
-    requires to { part.old.start ≤ to }
-    requires fits { to - part.old.start + len ≤ length part.old.bytes.items }
-    ensures bytes { part.new.bytes.items ≡ splice (to - part.old.start) (take len (drop (from - part.old.start) part.old.bytes.items)) part.old.bytes.items }
-    ensures start { part.new.start ≡ part.old.start }
+fn move_in_bin(bin: &mut Page, from: usize, to: usize, len: usize)
+    requires from { bin.old.start ≤ from }
+    requires source { from - bin.old.start + len ≤ length bin.old.bytes.items }
+    requires to { bin.old.start ≤ to }
+    requires fits { to - bin.old.start + len ≤ length bin.old.bytes.items }
+    ensures bytes { bin.new.bytes.items ≡ splice (to - bin.old.start) (take len (drop (from - bin.old.start) bin.old.bytes.items)) bin.old.bytes.items }
+    ensures start { bin.new.start ≡ bin.old.start }
 {
-    let first = from - part.start;
-    part.bytes.copy_within(first..first + len, to - part.start);
+    let first = from - bin.start;
+    bin.bytes.copy_within(first..first + len, to - bin.start);
 }

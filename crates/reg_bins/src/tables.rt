@@ -1,5 +1,5 @@
 //! A number for each eight bytes of bins, those of each page in a table of their own.
-ghost use Rattle.std.specs.Prelude.{◌≡◌, ℕ, ◌+◌, ◌≤◌, ◌<◌, ◌⊎◌, [], length, get_or, set, OnOk, IsOk};
+ghost use Rattle.std.specs.Prelude.{◌≡◌, ℕ, ◌+◌, ◌≤◌, ◌<◌, ◌⊎◌, [], length, get_or, set, OnOk};
 
 use std::alloc::{AllocError, Global};
 use std::marker::Model;
@@ -71,7 +71,6 @@ impl PageTables {
         ensures longer { length self.old.items ≤ length self.new.items }
         ensures most { (length self.new.items ≡ length self.old.items) ⊎ (length self.new.items ≤ long + 511) }
         ensures ok { OnOk result (long ≤ length self.new.items) }
-        ensures succeeds { long ≤ length self.old.items → IsOk result }
     {
         let pages = (long + PAGE - 1) / PAGE;
         while self.pages.len() < pages {

@@ -1,22 +1,24 @@
 use Rattle.std.proofs.Common.{arith, ◌∙◌}
-use Rattle.reg_bins.proofs.Bins.{IsPiece, piece-in-pages, piece-in-parts, piece-bin}
-use Rattle.reg_bins.proofs.row.BinRow.slice.Goals.{After-index-2}
+use Rattle.reg_bins.specs.Internal.{IsBin}
+use Rattle.reg_bins.proofs.Bins.{is-inside, piece-fits}
+use Rattle.reg_bins.proofs.row.BinRow.slice.Goals.{After-bin_of}
 use Rattle.reg_bins.proofs.row.BinRow.slice.Goals as goal
 
-pub index-requires : goal.index-requires
-index-requires c = piece-in-pages c.self.inside.parts c.self.inside.pages c.self.invariant.0 c.args.at (c.args.len) (rw (← c.self.view_is) at c.requires) (omega (arith, c.if-len-eq0.false))
+pub bin_of-requires-clause-inside : goal.bin_of-requires-clause-inside
+bin_of-requires-clause-inside c =
+    rw c.deref.ensures.value (is-inside c.self.inside.pages.items c.args.at c.args.len (rw (← c.self.view_is) at c.requires) (omega (arith, c.if-len-eq0.false)))
 
-pub index-requires-2 : goal.index-requires-2
-index-requires-2 c = piece-in-parts c.self.inside.parts c.self.inside.pages c.self.invariant.0 c.args.at (c.args.len) (rw (← c.self.view_is) at c.requires) (omega (arith, c.if-len-eq0.false)) _ c.index.ensures
+found : (c : goal.After-bin_of) → IsBin c.self.inside.pages.items c.args.at c.bin_of.ensures.0 c.bin_of.result.now
+found c = rw c.deref.ensures.value at c.bin_of.ensures.1
 
-found : (c : goal.After-index-2) → IsPiece c.self.inside.parts.items c.self.inside.pages.items c.args.at c.args.len c.index.result.now c.index-2.result.now
-found c = piece-bin c.self.inside.parts c.self.inside.pages c.self.invariant.0 c.args.at (c.args.len) (rw (← c.self.view_is) at c.requires) (omega (arith, c.if-len-eq0.false)) _ c.index.ensures _ c.index-2.ensures
+pub bin_slice-requires-clause-from : goal.bin_slice-requires-clause-from
+bin_slice-requires-clause-from c = (found c).from
 
-pub part_slice-requires-clause-from : goal.part_slice-requires-clause-from
-part_slice-requires-clause-from c = (found c).from
-
-pub part_slice-requires-clause-to : goal.part_slice-requires-clause-to
-part_slice-requires-clause-to c = (found c).fits
+pub bin_slice-requires-clause-to : goal.bin_slice-requires-clause-to
+bin_slice-requires-clause-to c = piece-fits c.self.inside.pages.items c.args.at c.args.len _ _ (rw (← c.self.view_is) at c.requires) (omega (arith, c.if-len-eq0.false)) (found c)
 
 pub returns : goal.returns
-returns c = rw (← c.self.view_is) (c.part_slice.ensures ∙ (found (goal.at.returns c).After-index-2).read)
+returns c =
+    let b = found (goal.at.returns c).After-bin_of in
+    let fits = piece-fits c.self.inside.pages.items c.args.at c.args.len _ _ (rw (← c.self.view_is) at c.requires) (omega (arith, c.if-len-eq0.false)) b in
+    rw (← c.self.view_is) (c.bin_slice.ensures ∙ b.read c.args.len fits)

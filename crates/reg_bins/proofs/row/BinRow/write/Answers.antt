@@ -1,39 +1,48 @@
-use Rattle.std.proofs.Common.{arith, length, refl, replicate, set}
+use Rattle.std.proofs.Common.{◌+◌, ◌-◌, ◌≤◌, arith, length, set}
 use Rattle.std.proofs.lemmas.Bool.Decides.{nat_tests}
+use Rattle.reg_bins.specs.Internal.{IsBin, IsPut}
 use Rattle.reg_bins.proofs.BinBytes.{splice-none}
-use Rattle.reg_bins.proofs.Bins.{IsPiece, IsPut, piece-in-pages, piece-in-parts, piece-bin}
-use Rattle.reg_bins.proofs.row.BinRow.write.Goals.{After-index_mut, After-write_part}
+use Rattle.reg_bins.proofs.Bins.{bin-there, is-inside, piece-fits}
+use Rattle.reg_bins.proofs.row.BinRow.write.Goals.{After-index_mut, After-write_bin}
 use Rattle.reg_bins.proofs.row.BinRow.write.Goals as goal
 
 pub returns-then-is_empty-clause-items : goal.returns-then-is_empty-clause-items
-returns-then-is_empty-clause-items c = splice-none c.args.at (c.args.bytes.now) c.args.self.now.items (grind (arith, nat_tests))
+returns-then-is_empty-clause-items c = splice-none c.args.at c.args.bytes.now c.args.self.now.items (grind (arith, nat_tests))
 
-pub index-requires : goal.index-requires
-index-requires c = piece-in-pages c.self.inside.parts c.self.inside.pages c.self.invariant.0 c.args.at (length c.args.bytes.now) (rw (← c.self.view_is) at c.requires) (grind (arith, nat_tests))
+pub first_page-number-requires-clause-inside : goal.first_page-number-requires-clause-inside
+first_page-number-requires-clause-inside c =
+    rw c.deref.ensures.value
+    (is-inside c.self.inside.pages.items c.args.at (length c.args.bytes.now) (rw (← c.self.view_is) at c.requires) (grind (arith, nat_tests)))
 
-pub index_mut-requires : goal.index_mut-requires
-index_mut-requires c = piece-in-parts c.self.inside.parts c.self.inside.pages c.self.invariant.0 c.args.at (length c.args.bytes.now) (rw (← c.self.view_is) at c.requires) (grind (arith, nat_tests)) _ c.index.ensures
+found : (c : goal.After-index_mut) → IsBin c.self.inside.pages.items c.args.at c.first_page-number.result c.index_mut.result.now
+found c = bin-there c.deref.ensures.value c.first_page-number.ensures.bin c.index_mut.result.now c.index_mut.ensures.value
 
-found : (c : goal.After-index_mut) → IsPiece c.self.inside.parts.items c.self.inside.pages.items c.args.at (length c.args.bytes.now) c.index.result.now c.index_mut.result.now
-found c = piece-bin c.self.inside.parts c.self.inside.pages c.self.invariant.0 c.args.at (length c.args.bytes.now) (rw (← c.self.view_is) at c.requires) (grind (arith, nat_tests)) _ c.index.ensures _ c.index_mut.ensures.value
+fits : (c : goal.After-index_mut) → c.args.at - c.index_mut.result.now.start + length c.args.bytes.now ≤ length c.index_mut.result.now.bytes.items
+fits c = piece-fits c.self.inside.pages.items c.args.at (length c.args.bytes.now) _ _ (rw (← c.self.view_is) at c.requires) (grind (arith, nat_tests)) (found c)
 
-pub write_part-requires-clause-from : goal.write_part-requires-clause-from
-write_part-requires-clause-from c = (found c).from
+pub write_bin-requires-clause-from : goal.write_bin-requires-clause-from
+write_bin-requires-clause-from c = (found c).from
 
-pub write_part-requires-clause-to : goal.write_part-requires-clause-to
-write_part-requires-clause-to c = (found c).fits
+pub write_bin-requires-clause-to : goal.write_bin-requires-clause-to
+write_bin-requires-clause-to c = fits c
 
-made : (c : goal.After-write_part) → IsPiece c.self.inside.parts.items c.self.inside.pages.items c.args.at (length c.args.bytes.now) c.index.result.now c.index_mut.result.now
-    → IsPut c.self.inside.parts.items c.self.inside.pages.items c.args.at (c.args.bytes.now) (set c.self.inside.parts.items c.index.result.now c.write_part.new.part)
-made c b = b.put (c.args.bytes.now) c.write_part.new.part refl c.write_part.ensures.start c.write_part.ensures.bytes
+made : (c : goal.After-write_bin) → IsBin c.self.inside.pages.items c.args.at c.first_page-number.result c.index_mut.result.now
+    → c.args.at - c.index_mut.result.now.start + length c.args.bytes.now ≤ length c.index_mut.result.now.bytes.items
+    → IsPut c.self.inside.pages.items c.args.at c.args.bytes.now (set c.self.inside.pages.items c.first_page-number.result c.write_bin.new.bin)
+made c b f = b.put c.args.bytes.now c.write_bin.new.bin f c.write_bin.ensures.start c.write_bin.ensures.bytes
 
 pub invariant_of-self : goal.invariant_of-self
 invariant_of-self c =
-    let m = made (goal.at.invariant_of-self c).After-write_part (found (goal.at.invariant_of-self c).After-index_mut) in
-    (m.placed, omega (arith, m.long, c.self.invariant.1), c.self.invariant.2, c.self.invariant.3)
+    let i = (goal.at.invariant_of-self c).After-index_mut in
+    let m = made (goal.at.invariant_of-self c).After-write_bin (found i) (fits i) in
+    (m.placed, omega (arith, m.long, c.self.invariant.1), c.self.invariant.2)
 
 pub returns-clause-items : goal.returns-clause-items
-returns-clause-items c = rw (← c.self.view_is) (made (goal.at.returns-clause-items c).After-write_part (found (goal.at.returns-clause-items c).After-index_mut)).bytes
+returns-clause-items c =
+    let i = (goal.at.returns-clause-items c).After-index_mut in
+    rw (← c.self.view_is) (made (goal.at.returns-clause-items c).After-write_bin (found i) (fits i)).bytes
 
 pub returns-clause-parts : goal.returns-clause-parts
-returns-clause-parts c = rw (← c.self.view_is) (made (goal.at.returns-clause-parts c).After-write_part (found (goal.at.returns-clause-parts c).After-index_mut)).sizes
+returns-clause-parts c =
+    let i = (goal.at.returns-clause-parts c).After-index_mut in
+    rw (← c.self.view_is) (made (goal.at.returns-clause-parts c).After-write_bin (found i) (fits i)).sizes

@@ -4,11 +4,6 @@ use Rattle.reg_bins.specs.declared.tables.PageTable.{PageTable}
 use Rattle.reg_bins.proofs.TablePages.{length-pages, length-more, same-append, longer-append}
 use Rattle.reg_bins.proofs.tables.PageTables.lengthen.Goals as goal
 
-pub returns-in_err-resize-clause-succeeds : goal.returns-in_err-resize-clause-succeeds
-returns-in_err-resize-clause-succeeds c = λ l.
-    let long = length-pages c.loop-self.self-inside.pages.items c.loop-self.invariant.whole in
-    absurd (omega (arith, long, c.loop-self.invariant.longer, c.loop-self.self-inside.pages.ok.0))
-
 pub loop-self-preserved : goal.loop-self-preserved
 loop-self-preserved c =
     let pages = c.loop-self.self-inside.pages.items in
@@ -22,11 +17,6 @@ loop-self-preserved c =
       most = inr (let more-long = length-more pages more page is long in let now = length-pages pages c.loop-self.invariant.whole in omega (arith, more-long, now, c.loop-self-test.true, c.loop-self.self-inside.pages.ok.0));
       whole = rw is (grind (arith, common_steps));
     }
-
-pub returns-in_err-push-clause-succeeds : goal.returns-in_err-push-clause-succeeds
-returns-in_err-push-clause-succeeds c = λ l.
-    let long = length-pages c.loop-self.self-inside.pages.items c.loop-self.invariant.whole in
-    absurd (omega (arith, long, c.loop-self.invariant.longer, c.loop-self.self-inside.pages.ok.0))
 
 pub returns-clause-ok : goal.returns-clause-ok
 returns-clause-ok c =
