@@ -18,12 +18,15 @@ take-behind front rest at h =
     ap (λ k. take k (front ++ rest)) e ∙ take-append-add front rest (at - length front)
 
 -- bytes read from a place in the piece on, as many as it has
-pub take-middle : (front piece behind : List ℕ) (at n : ℕ) → length front ≤ at → at - length front + n ≤ length piece → take n (drop at (front ++ (piece ++ behind))) ≡ take n (drop (at - length front) piece)
+pub take-middle : (front piece behind : List ℕ) (at n : ℕ) → length front ≤ at → at - length front + n ≤ length piece
+    → take n (drop at (front ++ (piece ++ behind))) ≡ take n (drop (at - length front) piece)
 take-middle front piece behind at n h l =
-    ap (take n) (drop-behind front (piece ++ behind) at h ∙ drop-append-le (at - length front) piece behind (omega arith)) ∙ take-append-le n (drop (at - length front) piece) behind (rw length-drop (omega arith))
+    ap (take n) (drop-behind front (piece ++ behind) at h ∙ drop-append-le (at - length front) piece behind (omega arith))
+    ∙ take-append-le n (drop (at - length front) piece) behind (rw length-drop (omega arith))
 
 -- some bytes of the piece written over
-pub splice-middle : (front piece behind bytes : List ℕ) (at : ℕ) → length front ≤ at → at - length front + length bytes ≤ length piece → front ++ (splice (at - length front) bytes piece ++ behind) ≡ splice at bytes (front ++ (piece ++ behind))
+pub splice-middle : (front piece behind bytes : List ℕ) (at : ℕ) → length front ≤ at → at - length front + length bytes ≤ length piece
+    → front ++ (splice (at - length front) bytes piece ++ behind) ≡ splice at bytes (front ++ (piece ++ behind))
 unfolding splice
 splice-middle front piece behind bytes at h l =
     let first : take at (front ++ (piece ++ behind)) ≡ front ++ take (at - length front) piece =
@@ -74,7 +77,8 @@ word-read rest piece bytes from at e h r =
     rw (a, b, c, d) refl
 
 -- two pieces written, the second behind the first
-pub splice-two : (at : ℕ) (first second bytes : List ℕ) → at + length first + length second ≤ length bytes → splice (at + length first) second (splice at first bytes) ≡ splice at (first ++ second) bytes
+pub splice-two : (at : ℕ) (first second bytes : List ℕ) → at + length first + length second ≤ length bytes
+    → splice (at + length first) second (splice at first bytes) ≡ splice at (first ++ second) bytes
 unfolding splice
 splice-two at first second bytes h =
     let front : List ℕ = take at bytes ++ first in

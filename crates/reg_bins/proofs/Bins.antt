@@ -173,7 +173,9 @@ found-here from start page pages at s some whole rest l h = record {
   begins = omega (arith, s);
   low = omega (arith, s, l);
   high = omega (arith, s, h);
-  ends = ap (λ sizes. end_from (from + 4096 * 0) sizes at) (sizes-first page pages some) ∙ end-here (from + 4096 * 0) (length page.bytes.items) (sizes_of pages) at (omega (arith, h)) ∙ omega (arith, s);
+  ends =
+      ap (λ sizes. end_from (from + 4096 * 0) sizes at) (sizes-first page pages some)
+      ∙ end-here (from + 4096 * 0) (length page.bytes.items) (sizes_of pages) at (omega (arith, h)) ∙ omega (arith, s);
   placed = λ q a b. (a ∙ s, omega (arith, b, some), rw b whole, subst (λ n. ArePlaced (from + 4096) from (n / 4096 - 1) pages) (sym b) rest);
 }
   where
@@ -284,7 +286,10 @@ module _ (pages : List Page) (placed : ArePlaced 0 0 0 pages) (at : ℕ) (inside
     first-bin = bin-at (page.start / 4096) first
 
     pub own-bin : 0 < length page.bytes.items → IsBin pages at (at / 4096) page
-    own-bin some = let f = found in bin-at (at / 4096) (sym index ∙ f.own page (subst (λ n. 0 < length (get_or pages n page).bytes.items) (sym index) (subst (λ (p : Page). 0 < length p.bytes.items) read some))) page read
+    own-bin some =
+        let f = found in
+        let there = subst (λ n. 0 < length (get_or pages n page).bytes.items) (sym index) (subst (λ (p : Page). 0 < length p.bytes.items) read some) in
+        bin-at (at / 4096) (sym index ∙ f.own page there) page read
 
 -- the bytes from there on to the bin's end
 pub rest-read : (pages : List Page) (at number : ℕ) (bin : Page) (bytes : List ℕ) → IsBin pages at number bin → bytes ≡ bin.bytes.items

@@ -12,9 +12,14 @@ loop-self-preserved c =
     let is = c.in_ok-push.ensures.items in
     let long : length c.resize.new.self.items ≡ 512 = omega (arith, c.in_ok-resize.ensures.len, c.resize.new.self.ok.0) in
     record {
-      same = λ place. same-append pages more page 512 (512 - vec_len c.new-numbers.result) place c.new-numbers.result.items is c.new-numbers.ensures.items c.in_ok-resize.ensures.items ∙ c.loop-self.invariant.same place;
+      same = λ place.
+          same-append pages more page 512 (512 - vec_len c.new-numbers.result) place c.new-numbers.result.items is c.new-numbers.ensures.items
+          c.in_ok-resize.ensures.items ∙ c.loop-self.invariant.same place;
       longer = let l = longer-append pages more page is in omega (arith, l, c.loop-self.invariant.longer);
-      most = inr (let more-long = length-more pages more page is long in let now = length-pages pages c.loop-self.invariant.whole in omega (arith, more-long, now, c.loop-self-test.true, c.loop-self.self-inside.pages.ok.0));
+      most =
+          let more-long = length-more pages more page is long in
+          let now = length-pages pages c.loop-self.invariant.whole in
+          inr (omega (arith, more-long, now, c.loop-self-test.true, c.loop-self.self-inside.pages.ok.0));
       whole = rw is (grind (arith, common_steps));
     }
 

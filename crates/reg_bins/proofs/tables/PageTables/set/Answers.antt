@@ -18,11 +18,14 @@ index_mut-requires-2 c =
 pub returns-clause-items : goal.returns-clause-items
 returns-clause-items c =
     let at = page_of c.self.inside.pages.items c.args.place c.self.invariant (rw (ap (λ t. t.items) c.self.view_is) c.requires) in
-    number-set c.self.inside.pages.items c.args.place (c.args.place / 512) (c.args.place % 512) c.args.number c.index_mut.result.now _ c.self.invariant (omega arith) (omega arith) at c.index_mut.ensures.value refl ∙
+    number-set c.self.inside.pages.items c.args.place (c.args.place / 512) (c.args.place % 512) c.args.number c.index_mut.result.now _
+    c.self.invariant (omega arith) (omega arith) at c.index_mut.ensures.value refl ∙
     ap (λ t. set t.items c.args.place c.args.number) c.self.view_is
 
 pub returns-clause-long : goal.returns-clause-long
 returns-clause-long c =
     let at = page_of c.self.inside.pages.items c.args.place c.self.invariant (rw (ap (λ t. t.items) c.self.view_is) c.requires) in
-    ap length (number-set c.self.inside.pages.items c.args.place (c.args.place / 512) (c.args.place % 512) c.args.number c.index_mut.result.now _ c.self.invariant (omega arith) (omega arith) at c.index_mut.ensures.value refl) ∙
+    ap length
+    (number-set c.self.inside.pages.items c.args.place (c.args.place / 512) (c.args.place % 512) c.args.number c.index_mut.result.now _
+    c.self.invariant (omega arith) (omega arith) at c.index_mut.ensures.value refl) ∙
     length-set (numbers_of c.self.inside.pages.items) c.args.place c.args.number ∙ ap (λ t. length t.items) c.self.view_is
