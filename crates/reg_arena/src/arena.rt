@@ -15,7 +15,7 @@ ghost use Rattle.reg_arena.specs.Cells.{cells_of, size_in, IsInBin};
 
 use crate::bin::passes_limit;
 use crate::carve::{carve_bin, carve_found, sum_of};
-use crate::each::{carve_cells, fresh_within};
+use crate::each::{Spare, carve_cells, fresh_within};
 use crate::free::free_cell;
 use crate::free_lists::FreeLists;
 use crate::walk::list_cells;
@@ -38,6 +38,9 @@ pub struct Arena {
     bins: BinRow,
     /// The lists of the free cells.
     lists: FreeLists,
+    /// Memory for bins to come, kept from call to call: at most one for each cell of the largest [`carve_each`](Arena::carve_each)
+    /// so far. Given back to the heap it would leave holes between the bins.
+    spares: Vec<Spare>,
 }
 
 impl Model for Arena {
@@ -62,6 +65,7 @@ impl Arena {
             alloc,
             bins: BinRow::new(alloc),
             lists: FreeLists::new(alloc),
+            spares: Vec::new(alloc),
         }
     }
 
@@ -228,7 +232,8 @@ impl Arena {
     /// [`ArenaFault::Full`]: with all those bins there would be more than 268,435,456 bytes, whether they are needed or not;
     /// a [`carve`](Arena::carve) of all sizes may still find room. [`ArenaFault::Memory`]: `out` could not grow, or no free cell
     /// has room for all cells together and memory for all those bins was refused. After either the arena and `out` are as
-    /// before.
+    /// before. Memory for bins that were not needed is kept for the next call: at most one for each cell of the largest call
+    /// so far.
     ///
     /// Suhanov, Windows registry file format specification, sections "Hive bin" and "Cell".
     pub fn carve_each(&mut self, sizes: &[u32], out: &mut Vec<u32>) -> Result<(), ArenaFault>
@@ -247,7 +252,14 @@ impl Arena {
         if sizes.is_empty() {
             return Ok(());
         }
-        carve_cells(self.alloc, &mut self.bins, &mut self.lists, sizes, out)
+        carve_cells(
+            self.alloc,
+            &mut self.bins,
+            &mut self.lists,
+            &mut self.spares,
+            sizes,
+            out,
+        )
     }
 
     /// Allocates the cells of one change, and puts their offsets behind those of `out`, in the order of the sizes: each by

@@ -1,6 +1,6 @@
 //! Cells carved one after the other, each by itself, the largest first.
-ghost use Rattle.std.specs.Prelude.{◌≡◌, ◌↔◌, ◌+◌, ◌-◌, ◌≤◌, ◌<◌, ◌%◌, ◌⊎◌, ℕ, List, [], ◌∷◌, ◌++◌, length, replicate, set, get_or};
-ghost use Rattle.std.specs.Prelude.{vec_len, vec_capacity, Err, IfOk, OnErr, OnOk, MatchOption};
+ghost use Rattle.std.specs.Prelude.{◌≡◌, ◌↔◌, ◌+◌, ◌-◌, ◌≤◌, ◌<◌, ◌%◌, ◌⊎◌, ℕ, List, [], ◌∷◌, ◌++◌, length, replicate, set, take, get_or, true};
+ghost use Rattle.std.specs.Prelude.{vec_len, vec_capacity, Err, OnErr, OnOk, MatchOption};
 ghost use Rattle.reg_heap.specs.declared.limits.TheConstants.{BINS_LIMIT, NONE};
 ghost use Rattle.reg_heap.specs.Heaps.{AreNew};
 ghost use Rattle.reg_heap.specs.Kinds.{times};
@@ -12,7 +12,7 @@ ghost use Rattle.reg_arena.specs.EachCell.{fresh_bin, fresh_of, AreCarvable, Eac
 ghost use Rattle.reg_arena.specs.Internal.ListedCells.{IsIndexed};
 ghost use Rattle.reg_arena.specs.Internal.BinParts.{IsSplit};
 ghost use Rattle.reg_arena.specs.Internal.Reserved.{AreReserved, IsRoomFor, KeepsRoom};
-ghost use Rattle.reg_arena.specs.Internal.Spares.{AreSpare};
+ghost use Rattle.reg_arena.specs.Internal.Spares.{AreSpare, HasSpare};
 
 use crate::ArenaFault;
 use crate::bin::bin_size;
@@ -38,35 +38,69 @@ pub fn fresh_within(sizes: &[u32], limit: u32) -> Option<u32>
     Some(fresh)
 }
 
-// Memory for a bin to come, until it is taken. Nothing is written into it before, since most are given back unused.
+// Memory for a bin to come, until it is taken. Nothing is written into it before, since most are not taken at once.
 #[derive(Drop)]
 pub struct Spare {
     pub memory: Option<Vec<u8>>,
 }
 
-// Memory for a bin for each cell.
-fn make_spares(alloc: Global, sizes: &[u32]) -> Result<Vec<Spare>, AllocError>
-    requires { AreCarvable sizes.now }
-    ensures { IfOk result (λ spares. AreSpare NONE sizes.now (replicate (length sizes.now) NONE) spares.items) }
+// Whether there is memory for so many bytes.
+fn has_room(spare: &Spare, size: u32) -> bool
+    ensures { result ≡ true → MatchOption spare.now.memory ⊥ (λ memory. (memory.items ≡ []) × (size ≤ vec_capacity memory)) }
 {
-    let mut spares = Vec::new(alloc);
-    for size in sizes {
-        let memory = Vec::with_capacity(alloc, bin_size(*size) as usize)?;
-        spares.push(Spare {
-            memory: Some(memory),
-        })?;
+    let Some(memory) = &spare.memory else {
+        return false;
+    };
+    memory.is_empty() && memory.capacity() >= size as usize
+}
+
+// Sees to it that there is memory for so many bytes at a place. What is there and has room stays.
+fn keep_spare(
+    alloc: Global,
+    spares: &mut Vec<Spare>,
+    place: usize,
+    size: u32,
+) -> Result<(), AllocError>
+    requires { place ≤ length spares.old.items }
+    ensures front { take place spares.new.items ≡ take place spares.old.items }
+    ensures there { OnOk result (place < length spares.new.items) }
+    ensures room { OnOk result ((other : Spare) → MatchOption (get_or spares.new.items place other).memory ⊥
+        (λ memory. (memory.items ≡ []) × (size ≤ vec_capacity memory))) }
+{
+    if place < spares.len() && has_room(&spares[place], size) {
+        return Ok(());
     }
-    Ok(spares)
+    let spare = Spare {
+        memory: Some(Vec::with_capacity(alloc, size as usize)?),
+    };
+    if place < spares.len() {
+        spares[place] = spare;
+        return Ok(());
+    }
+    spares.push(spare)?;
+    Ok(())
+}
+
+// Memory for a bin for each cell: what is kept from earlier calls, and where that has no room new one.
+fn keep_spares(alloc: Global, spares: &mut Vec<Spare>, sizes: &[u32]) -> Result<(), AllocError>
+    requires { AreCarvable sizes.now }
+    ensures { OnOk result (AreSpare NONE sizes.now (replicate (length sizes.now) NONE) spares.new.items) }
+{
+    for place in 0..sizes.len() {
+        keep_spare(alloc, spares, place, bin_size(sizes[place]))?;
+    }
+    Ok(())
 }
 
 // Room for a bin for each cell, and memory for it; nothing where one free cell has room for all of them, since then no bin is needed.
-fn spares_for(
+fn reserve_bins(
     alloc: Global,
     bins: &mut BinRow,
     lists: &mut FreeLists,
+    spares: &mut Vec<Spare>,
     sizes: &[u32],
     fresh: u32,
-) -> Result<Vec<Spare>, AllocError>
+) -> Result<(), AllocError>
     requires arena { IsIndexed bins.old.items lists.old }
     requires sizes { AreSizes sizes.now }
     requires each { AreCarvable sizes.now }
@@ -77,22 +111,22 @@ fn spares_for(
     ensures parts { bins.new.parts ≡ bins.old.parts }
     ensures arena { IsIndexed bins.new.items lists.new }
     ensures heads { lists.new.heads ≡ lists.old.heads }
-    ensures ok { IfOk result (λ spares. NoFit bins.old.items (total_of sizes.now) →
+    ensures ok { OnOk result (NoFit bins.old.items (total_of sizes.now) →
         AreReserved (length bins.old.items + fresh_of sizes.now) bins.new.room lists.new
-        × AreSpare NONE sizes.now (replicate (length sizes.now) NONE) spares.items) }
+        × AreSpare NONE sizes.now (replicate (length sizes.now) NONE) spares.new.items) }
 {
     if let Some(_fit) = lists.best_fit(bins, sum_of(sizes)) {
-        return Ok(Vec::new(alloc));
+        return Ok(());
     }
     lists.make_room((bins.len() + fresh as usize + 7) / 8)?;
     bins.reserve(fresh as usize)?;
-    make_spares(alloc, sizes)
+    keep_spares(alloc, spares, sizes)
 }
 
 // Takes the memory for a place's bin, where there is some.
 fn take_spare(spares: &mut Vec<Spare>, place: usize) -> Option<Vec<u8>>
-    ensures taken { (sizes offsets : List ℕ) → AreSpare NONE sizes offsets spares.old.items → place < length sizes → get_or offsets place 0 ≡ NONE →
-        MatchOption result ⊥ (λ memory. IsRoomFor memory.items (vec_capacity memory) (get_or sizes place 0)) }
+    ensures taken { (size : ℕ) → HasSpare spares.old.items place size →
+        MatchOption result ⊥ (λ memory. IsRoomFor memory.items (vec_capacity memory) size) }
     ensures left { (sizes offsets : List ℕ) → (offset : ℕ) → AreSpare NONE sizes offsets spares.old.items → (offset ≡ NONE → ⊥) →
         AreSpare NONE sizes (set offsets place offset) spares.new.items }
 {
@@ -113,13 +147,15 @@ fn blank_in(memory: Vec<u8>, size: u32) -> Vec<u8>
     bytes
 }
 
-// Carves one cell, for which there is room: for its offset, and where no free cell fits it for a bin.
+// Carves one cell, for which there is room: for its offset, and where no free cell fits it for a bin. Only then the memory for the
+// place's bin is taken.
 fn carve_one(
     bins: &mut BinRow,
     lists: &mut FreeLists,
     size: u32,
     out: &mut Vec<u32>,
-    memory: Option<Vec<u8>>,
+    spares: &mut Vec<Spare>,
+    place: usize,
 )
     requires arena { IsIndexed bins.old.items lists.old }
     requires split { IsSplit bins.old.items bins.old.parts }
@@ -127,7 +163,7 @@ fn carve_one(
     requires small { size ≤ CARVE_LIMIT }
     requires limit { length bins.old.items + fresh_bin size ≤ BINS_LIMIT }
     requires reserved { NoFit bins.old.items size → AreReserved (length bins.old.items + fresh_bin size) bins.old.room lists.old }
-    requires spare { NoFit bins.old.items size → MatchOption memory ⊥ (λ room. IsRoomFor room.items (vec_capacity room) size) }
+    requires spare { NoFit bins.old.items size → HasSpare spares.old.items place size }
     requires room { vec_len out.old + 1 ≤ vec_capacity out.old }
     ensures arena { IsIndexed bins.new.items lists.new }
     ensures split { IsSplit bins.new.items bins.new.parts }
@@ -135,26 +171,29 @@ fn carve_one(
         × CarvesExactly bins.old.items bins.new.items (size ∷ []) (offset ∷ []) }
     ensures keeps { KeepsRoom bins.old.room lists.old bins.new.room lists.new }
     ensures out_capacity { vec_capacity out.old ≤ vec_capacity out.new }
+    ensures left { (sizes offsets : List ℕ) → (offset : ℕ) → AreSpare NONE sizes offsets spares.old.items → (offset ≡ NONE → ⊥) →
+        AreSpare NONE sizes (set offsets place offset) spares.new.items }
 {
     let Some(fit) = lists.best_fit(bins, size) else {
-        let Some(room) = memory else {
+        let Some(memory) = take_spare(spares, place) else {
             return;
         };
-        let blank = blank_in(room, bin_size(size));
+        let blank = blank_in(memory, bin_size(size));
         carve_blank(bins, lists, blank, size, &[size], out);
         return;
     };
     let _ = carve_found(bins, lists, fit, size, &[size], out);
 }
 
-// The same, and puts its offset at a place of `out`.
+// The same, and puts its offset at the place in `out`, from `from` on.
 fn carve_to(
     bins: &mut BinRow,
     lists: &mut FreeLists,
     size: u32,
     out: &mut Vec<u32>,
+    from: usize,
+    spares: &mut Vec<Spare>,
     place: usize,
-    memory: Option<Vec<u8>>,
 )
     requires arena { IsIndexed bins.old.items lists.old }
     requires split { IsSplit bins.old.items bins.old.parts }
@@ -162,21 +201,23 @@ fn carve_to(
     requires small { size ≤ CARVE_LIMIT }
     requires limit { length bins.old.items + fresh_bin size ≤ BINS_LIMIT }
     requires reserved { NoFit bins.old.items size → AreReserved (length bins.old.items + fresh_bin size) bins.old.room lists.old }
-    requires spare { NoFit bins.old.items size → MatchOption memory ⊥ (λ room. IsRoomFor room.items (vec_capacity room) size) }
+    requires spare { NoFit bins.old.items size → HasSpare spares.old.items place size }
     requires room { vec_len out.old + 1 ≤ vec_capacity out.old }
-    requires place { place < length out.old.items }
+    requires place { from + place < length out.old.items }
     ensures arena { IsIndexed bins.new.items lists.new }
     ensures split { IsSplit bins.new.items bins.new.parts }
-    ensures carves { (offset : ℕ) × (out.new.items ≡ set out.old.items place offset)
+    ensures carves { (offset : ℕ) × (out.new.items ≡ set out.old.items (from + place) offset)
         × CarvesExactly bins.old.items bins.new.items (size ∷ []) (offset ∷ []) }
     ensures keeps { KeepsRoom bins.old.room lists.old bins.new.room lists.new }
     ensures out_capacity { vec_capacity out.old ≤ vec_capacity out.new }
+    ensures left { (sizes offsets : List ℕ) → (offset : ℕ) → AreSpare NONE sizes offsets spares.old.items → (offset ≡ NONE → ⊥) →
+        AreSpare NONE sizes (set offsets place offset) spares.new.items }
 {
-    carve_one(bins, lists, size, out, memory);
+    carve_one(bins, lists, size, out, spares, place);
     let Some(offset) = out.pop() else {
         return;
     };
-    out[place] = offset;
+    out[from + place] = offset;
 }
 
 // The place of the largest of the sizes whose offset isn't there yet, the first of equal ones.
@@ -230,8 +271,7 @@ fn carve_all(
     let _ = out.resize(from + sizes.len(), NONE);
     for _turn in 0..sizes.len() {
         let place = largest_left(sizes, &out[from..]);
-        let memory = take_spare(spares, place);
-        carve_to(bins, lists, sizes[place], out, from + place, memory);
+        carve_to(bins, lists, sizes[place], out, from, spares, place);
     }
 }
 
@@ -240,6 +280,7 @@ pub fn carve_cells(
     alloc: Global,
     bins: &mut BinRow,
     lists: &mut FreeLists,
+    spares: &mut Vec<Spare>,
     sizes: &[u32],
     out: &mut Vec<u32>,
 ) -> Result<(), ArenaFault>
@@ -264,9 +305,9 @@ pub fn carve_cells(
     if out.reserve(sizes.len() + 1).is_err() {
         return Err(ArenaFault::Memory);
     }
-    let Ok(mut spares) = spares_for(alloc, bins, lists, sizes, fresh) else {
+    let Ok(()) = reserve_bins(alloc, bins, lists, spares, sizes, fresh) else {
         return Err(ArenaFault::Memory);
     };
-    carve_all(bins, lists, sizes, &mut spares, out);
+    carve_all(bins, lists, sizes, spares, out);
     Ok(())
 }

@@ -9,7 +9,7 @@ use Rattle.reg_arena.specs.declared.Cell.{Cell}
 use Rattle.reg_arena.specs.Cells.{Bin, IsCell, IsHeader, Tiles, AreBins, cells_in, content_in}
 use Rattle.reg_arena.specs.Free.{Touch, AreApart}
 use Rattle.reg_arena.specs.Arena.{IsArena, AreBlank}
-use Rattle.reg_arena.specs.NewBin.{new_bin, headed, IsBinSize, AppendsBin}
+use Rattle.reg_arena.specs.NewBin.{new_bin, headed, IsBinSize}
 use Rattle.reg_arena.specs.NewCells.{unused}
 use Rattle.reg_arena.specs.Carves.{or_else}
 use Rattle.reg_arena.specs.declared.free_lists.FreeLists.{FreeLists}

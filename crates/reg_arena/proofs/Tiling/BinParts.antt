@@ -8,11 +8,11 @@ use Rattle.reg_heap.specs.ByteWords.{word}
 use Rattle.reg_bins.specs.Rows.{end_from, IsInPart}
 use Rattle.reg_arena.specs.declared.Cell.{Cell}
 use Rattle.reg_arena.specs.declared.free_lists.FreeLists.{FreeLists}
-use Rattle.reg_arena.specs.Cells.{Bin, BinPlace, AreBins, IsInBin, bins_of, cells_in, cell_at, size_in}
+use Rattle.reg_arena.specs.Cells.{Bin, BinPlace, AreBins, IsInBin, cells_in, cell_at, size_in}
 use Rattle.reg_arena.specs.Arena.{IsArena}
 use Rattle.reg_arena.specs.Internal.BinParts.{places_of, IsSplit}
-use Rattle.reg_arena.specs.Internal.ListedCells.{free_size, LacksCell}
-use Rattle.reg_arena.proofs.Tiling.Tilings.{places, with_cells, bins_of-AreBins}
+use Rattle.reg_arena.specs.Internal.ListedCells.{LacksCell}
+use Rattle.reg_arena.proofs.Tiling.Tilings.{places, bins_of-AreBins}
 use Rattle.reg_arena.proofs.Tiling.CellPositions.{stands, looked}
 use Rattle.reg_arena.proofs.Tiling.Tilings.{cell_at-AreBins}
 use Rattle.reg_arena.proofs.FreeList.FreeSizes.{free_at}

@@ -1,4 +1,4 @@
-use Rattle.std.proofs.Common.{arith, ◌≡◌, ◌+◌, ◌++◌, ℕ, List, length, ap, ◌∙◌, length-append, replicate, sym}
+use Rattle.std.proofs.Common.{arith, ◌++◌, ℕ, List, length, ap, ◌∙◌, length-append, replicate, sym}
 use Rattle.reg_arena.proofs.Carving.NewBinBytes.{length-headed}
 use Rattle.reg_arena.proofs.Carving.BinAppend.{added, added-split}
 use Rattle.reg_arena.proofs.bin.add_bin.Goals as goal

@@ -1,5 +1,3 @@
-use Rattle.std.proofs.Common.{◌≡◌, replicate, sym, ap, length, ◌∙◌, subst}
-use Rattle.std.proofs.lemmas.List.{length-replicate}
 use Rattle.reg_arena.specs.Carves.{NoFit}
 use Rattle.reg_arena.specs.Internal.ListedCells.{IsIndexed}
 use Rattle.reg_arena.proofs.carve.carve_bin.Goals as goal

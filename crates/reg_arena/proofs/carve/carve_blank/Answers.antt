@@ -1,6 +1,5 @@
-use Rattle.std.proofs.Common.{arith, inr, ℕ, List, ◌++◌, length, ◌∙◌}
+use Rattle.std.proofs.Common.{arith, inr}
 use Rattle.reg_arena.specs.NewCells.{offsets_of}
-use Rattle.reg_arena.specs.Internal.ListedCells.{HasRoom, IsAdded}
 use Rattle.reg_arena.proofs.Carving.BinGrowth.{grows_by_bin, keeps_by_bin}
 use Rattle.reg_arena.proofs.Carving.ReservedRoom.{reserved-room}
 use Rattle.reg_arena.proofs.Carving.CarvedCells.{adds_cells_in_bin}

@@ -1,6 +1,4 @@
 use Rattle.std.proofs.Common.{◌+◌, ◌-◌, arith}
-use Rattle.byteorder.specs.Endian.{little_bytes}
-use Rattle.reg_arena.proofs.Contents.ByteSplices.{length-splice}
 use Rattle.reg_arena.proofs.Carving.CarveCuts.{one-region, one-is, one-zero}
 use Rattle.reg_arena.proofs.Tiling.BinParts.{in_part-inside}
 use Rattle.reg_arena.proofs.cut.cut_one.Goals as goal

@@ -4,7 +4,7 @@ use Rattle.reg_heap.specs.declared.limits.TheConstants.{NONE}
 use Rattle.reg_arena.proofs.Carving.LargestLeft.{all-place}
 use Rattle.reg_arena.proofs.Carving.FallingCells.{carved-start, carved-more, carved-all, less-left, marked-behind, next-is, next-room, not-none, set-behind, times-replicate}
 use Rattle.reg_arena.proofs.Carving.GrownBins.{no_fit-larger}
-use Rattle.reg_arena.proofs.Carving.SpareBins.{none-before, total_left, total_left-all, total_left-room, total_left-set}
+use Rattle.reg_arena.proofs.Carving.SpareBins.{none-before, spare-at, total_left, total_left-all, total_left-room, total_left-set}
 use Rattle.reg_arena.proofs.Carving.ReservedRoom.{room_same, room-then}
 use Rattle.reg_arena.proofs.each.carve_all.Goals as goal
 
@@ -66,7 +66,7 @@ carve_to-requires-clause-spare c =
     let small = total_left-room NONE c.args.sizes.now v.offsets _ v.carved.long next.within next.left in
     let good = all-place _ c.args.sizes.now c.largest_left-place.result c.requires.sizes l.within in
     λ none. let r = v.reserved (omega (arith, small, good.0)) (no_fit-larger _ _ _ small none) in
-    c.take_spare-memory.ensures.taken _ v.offsets r.1 next.within next.left
+    spare-at NONE _ v.offsets _ _ r.1 next.within next.left
 
 pub loop-turn-preserved : goal.loop-turn-preserved
 loop-turn-preserved c =
@@ -95,7 +95,7 @@ loop-turn-preserved c =
           let sum : get_or c.args.sizes.now c.largest_left-place.result 0 + total_left NONE c.args.sizes.now (set v.offsets c.largest_left-place.result one.0) ≡
           total_left NONE c.args.sizes.now v.offsets = omega (arith, rest) in
           let r = v.reserved (omega (arith, rest, some)) (rw sum at before) in
-          (r.0, c.take_spare-memory.ensures.left _ v.offsets one.0 r.1 differs);
+          (r.0, c.carve_to.ensures.left _ v.offsets one.0 r.1 differs);
     }
 
 pub returns-clause-each : goal.returns-clause-each

@@ -1,4 +1,4 @@
-use Rattle.std.proofs.Common.{arith, ◌∙◌, sym}
+use Rattle.std.proofs.Common.{arith}
 use Rattle.reg_arena.proofs.Contents.CellWrites.{found}
 use Rattle.reg_arena.proofs.Tiling.ArenaInvariant.{apart, opened}
 use Rattle.reg_arena.proofs.Tiling.BinParts.{rest-cell}
