@@ -187,12 +187,3 @@ wrote old lists cell at piece i h fits =
     let Goal : ℕ → Type 0 = λ k. cell_at old k ≡ Some (take (l.c.size - 4) (drop (l.c.offset + 4) old)) →
     at + length piece ≤ length (unwrap_or (cell_at old k) []) → Wrote old (splice (k + 4 + at) piece old) lists k at piece in
     subst Goal l.offset_is (wrote-by old lists at piece a i.listed l.xs l.c l.ys l.cells_are l.allocated) content fits
-
-pub write_fits : (old : List ℕ) (cell at n : ℕ) → IsArena old → is_some (cell_at old cell) ≡ true →
-    at + n ≤ length (unwrap_or (cell_at old cell) []) → cell + 4 + at + n ≤ length old
-write_fits old cell at n a h fits =
-    let f = found old cell a h in
-    let size : ℕ = size_in (word old cell) in
-    let long : length (unwrap_or (cell_at old cell) []) ≡ size - 4 = ap (λ (o : Option (List ℕ)). length (unwrap_or o [])) f.content ∙
-    simp (length-take, length-drop) (omega (arith, f.within, f.eight)) in
-    omega (arith, f.within, f.eight)

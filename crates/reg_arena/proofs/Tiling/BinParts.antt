@@ -1,5 +1,6 @@
 -- The vectors in which the bins stand have the sizes that the headers tell: what lies in one bin lies in one vector.
-use Rattle.std.proofs.Common.{◌≡◌, ℕ, ◌+◌, ◌-◌, ◌<◌, ◌≤◌, zero, suc, ◌⊎◌, inl, inr, true, List, [], ◌∷◌, ◌++◌, length, take, drop, get_or, length-take, length-drop, refl, sym, ap, ◌∙◌, subst, arith, Option, Some, is_some}
+use Rattle.std.proofs.Common.{◌≡◌, ℕ, ◌+◌, ◌-◌, ◌<◌, ◌≤◌, zero, suc, ◌⊎◌, inl, inr, true, List, [], ◌∷◌, ◌++◌, length, take, drop, get_or, length-take, length-drop}
+use Rattle.std.proofs.Common.{refl, sym, ap, ◌∙◌, subst, arith, Option, Some, is_some}
 use Rattle.std.specs.Prelude.{Contains, unwrap_or}
 use Rattle.std.proofs.lemmas.List.{get_or-take, get_or-drop}
 use Rattle.std.proofs.lemmas.Bool.{cases_lt, lt-ltb, le-ltb}
@@ -12,7 +13,7 @@ use Rattle.reg_arena.specs.Cells.{Bin, BinPlace, AreBins, IsInBin, cells_in, cel
 use Rattle.reg_arena.specs.Arena.{IsArena}
 use Rattle.reg_arena.specs.Internal.BinParts.{places_of, IsSplit}
 use Rattle.reg_arena.specs.Internal.ListedCells.{LacksCell}
-use Rattle.reg_arena.proofs.Tiling.Tilings.{places, bins_of-AreBins}
+use Rattle.reg_arena.proofs.Tiling.Tilings.{places, bins_of-AreBins, AreBins-start}
 use Rattle.reg_arena.proofs.Tiling.CellPositions.{stands, looked}
 use Rattle.reg_arena.proofs.Tiling.Tilings.{cell_at-AreBins}
 use Rattle.reg_arena.proofs.FreeList.FreeSizes.{free_at}
@@ -53,10 +54,6 @@ split-more old new parts layout bin h split s g =
 
 -- ---- what lies in one bin
 
-AreBins-from : (bytes : List ℕ) (at : ℕ) (ps : List Bin) (b : Bin) (qs : List Bin) → AreBins bytes at (ps ++ b ∷ qs) → at ≤ b.start
-AreBins-from bytes at [] b qs h = omega (arith, h.0)
-AreBins-from bytes at (p ∷ ps) b qs h = let l = AreBins-from bytes (at + p.size) ps b qs h.3 in omega (arith, l)
-
 part-end : (bytes : List ℕ) (start : ℕ) (ps : List Bin) (b : Bin) (qs : List Bin) (parts : List ℕ) → AreBins bytes start (ps ++ b ∷ qs) →
     places (ps ++ b ∷ qs) ≡ places_of start parts → (at : ℕ) → b.start ≤ at → at < b.start + b.size → end_from start parts at ≡ b.start + b.size
 part-end bytes start [] b qs [] h e at l m = absurd (cc (e))
@@ -71,7 +68,7 @@ part-end bytes start (p ∷ ps) b qs (n ∷ parts) h e at l m =
     let size : p.size ≡ n = ap (λ (q : BinPlace). q.size) head in
     let rest : places (ps ++ b ∷ qs) ≡ places_of (start + n) parts = tails e in
     let bins : AreBins bytes (start + n) (ps ++ b ∷ qs) = subst (λ (k : ℕ). AreBins bytes (start + k) (ps ++ b ∷ qs)) size h.3 in
-    let past = AreBins-from bytes (start + n) ps b qs bins in
+    let past = AreBins-start bytes (start + n) ps b qs bins in
     rw (le-ltb at (start + n) (omega (arith, past, l))) (part-end bytes (start + n) ps b qs parts bins rest at l m)
 
 -- so many bytes in one bin are in one vector

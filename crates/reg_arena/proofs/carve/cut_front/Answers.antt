@@ -42,7 +42,8 @@ returns-clause-carves c =
     (cut-whole _ _ _ _ _ _ _ _ _ c.requires.lacks c.requires.sizes c.requires.total c.requires.positive c.requires.fits (c.insert.ensures.adds _ c.requires.lacks.listed r.3) cut).1
 
 pub cut-requires-clause-part : goal.cut-requires-clause-part
-cut-requires-clause-part c = rw (c.insert.ensures.parts, ← c.requires.total) (free-part _ _ _ _ _ c.requires.lacks c.requires.split c.args.fit.cell c.args.total (omega arith) (omega (arith, c.requires.fits)))
+cut-requires-clause-part c = rw (c.insert.ensures.parts, ← c.requires.total)
+    (free-part _ _ _ _ _ c.requires.lacks c.requires.split c.args.fit.cell c.args.total (omega arith) (omega (arith, c.requires.fits)))
 
 pub returns-clause-split : goal.returns-clause-split
 returns-clause-split c =

@@ -13,7 +13,8 @@ pub cut_one-requires-clause-part : goal.cut_one-requires-clause-part
 cut_one-requires-clause-part c =
     let room = total_of-room c.args.sizes.now c.loop-size.size-index c.loop-size-test.true in
     let at = c.loop-size.invariant.at in
-    rw c.loop-size.invariant.parts (λ some. (in_part-inside c.args.bins.now.parts c.args.cell (total_of c.args.sizes.now) c.loop-size.at _ (omega (arith, at)) (omega (arith, at, room)) c.requires.part some))
+    rw c.loop-size.invariant.parts
+    (λ some. (in_part-inside c.args.bins.now.parts c.args.cell (total_of c.args.sizes.now) c.loop-size.at _ (omega (arith, at)) (omega (arith, at, room)) c.requires.part some))
 
 pub loop-size-preserved : goal.loop-size-preserved
 loop-size-preserved c =

@@ -14,7 +14,8 @@ returns-then-place-len-clause-left c = λ sizes offsets offset spares differs. s
 
 pub returns-clause-taken : goal.returns-clause-taken
 returns-clause-taken c = λ size spare.
-    rw c.take.ensures.value (subst (λ (x : Spare). MatchOption x.memory ⊥ (λ memory. IsRoomFor memory.items (vec_capacity memory) size)) (sym c.index_mut.ensures.value) (spare.room c.index_mut.result.now))
+    let Fits : Spare → Type 0 = λ x. MatchOption x.memory ⊥ (λ memory. IsRoomFor memory.items (vec_capacity memory) size) in
+    rw c.take.ensures.value (subst Fits (sym c.index_mut.ensures.value) (spare.room c.index_mut.result.now))
 
 pub returns-clause-left : goal.returns-clause-left
 returns-clause-left c = λ sizes offsets offset spares differs. spare-set NONE sizes offsets _ c.args.place offset _ spares differs
