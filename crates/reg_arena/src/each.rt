@@ -44,14 +44,14 @@ pub struct Spare {
     pub memory: Option<Vec<u8>>,
 }
 
-// Whether there is memory for so many bytes.
+// Whether there is memory for so many bytes, and for no more: a bin keeps all memory that it is given.
 fn has_room(spare: &Spare, size: u32) -> bool
     ensures { result ≡ true → MatchOption spare.now.memory ⊥ (λ memory. (memory.items ≡ []) × (size ≤ vec_capacity memory)) }
 {
     let Some(memory) = &spare.memory else {
         return false;
     };
-    memory.is_empty() && memory.capacity() >= size as usize
+    memory.is_empty() && memory.capacity() == size as usize
 }
 
 // Sees to it that there is memory for so many bytes at a place. What is there and has room stays.
