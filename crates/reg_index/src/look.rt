@@ -29,14 +29,16 @@ pub(crate) fn name_of(arena: &Arena, key: u32) -> &[u8]
     nk_name(arena.content(key))
 }
 
-/// The head of the list in a cell.
-fn head_in(arena: &Arena, cell: u32) -> ListHead
-    requires { (l : SubkeysList) × (list_at (heap_of arena.now) cell ≡ Some l) }
-    ensures form { (l : SubkeysList) → list_at (heap_of arena.now) cell ≡ Some l → result.form ≡ l.form }
-    ensures count { (l : SubkeysList) → list_at (heap_of arena.now) cell ≡ Some l → result.count ≡ length l.entries }
+/// The head of a list, by what its cell holds.
+fn head_in(content: &[u8]) -> ListHead
+    requires { (heap : Heap) × (cell : ℕ) × (l : SubkeysList) × (heap cell ≡ Some content.now) × (list_at heap cell ≡ Some l) }
+    ensures form { (heap : Heap) → (cell : ℕ) → heap cell ≡ Some content.now →
+        (l : SubkeysList) → list_at heap cell ≡ Some l → result.form ≡ l.form }
+    ensures count { (heap : Heap) → (cell : ℕ) → heap cell ≡ Some content.now →
+        (l : SubkeysList) → list_at heap cell ≡ Some l → result.count ≡ length l.entries }
     ensures fits { result.count < 65536 }
 {
-    let Ok(head) = read_list(arena.content(cell)) else {
+    let Ok(head) = read_list(content) else {
         unreachable!()
     };
     head
@@ -51,12 +53,36 @@ fn count_at(content: &[u8]) -> u16
     LittleEndian::read_u16(&content[2..])
 }
 
-/// How many entries a leaf has. It reads no more than their number.
+/// How many entries a leaf has, by what its cell holds. It reads no more than their number.
+fn count_in(leaf: &[u8]) -> u32
+    requires { (heap : Heap) × (offset : ℕ) × (entries : List Entry) × IsLeaf heap offset entries × (heap offset ≡ Some leaf.now) }
+    ensures { (heap : Heap) → (offset : ℕ) → (entries : List Entry) → IsLeaf heap offset entries → heap offset ≡ Some leaf.now →
+        result ≡ length entries }
+{
+    u32::from(count_at(leaf))
+}
+
+/// How many entries the leaf at an offset has.
 pub(crate) fn count_entries(arena: &Arena, leaf: u32) -> u32
     requires { (entries : List Entry) × IsLeaf (heap_of arena.now) leaf entries }
     ensures { (entries : List Entry) → IsLeaf (heap_of arena.now) leaf entries → result ≡ length entries }
 {
-    u32::from(count_at(arena.content(leaf)))
+    count_in(arena.content(leaf))
+}
+
+/// How many lists there are, one leaf or those of an index root, by what the cell holds that the key names.
+fn lists_in(root: &[u8]) -> u32
+    requires { (heap : Heap) × (offset : ℕ) × (lists : List KeyList) × HasLists heap offset lists × (heap offset ≡ Some root.now)
+        × (0 < length lists) }
+    ensures count { (heap : Heap) → (offset : ℕ) → (lists : List KeyList) → HasLists heap offset lists → heap offset ≡ Some root.now →
+        0 < length lists → result ≡ length lists }
+    ensures fits { result < 65536 }
+{
+    let head = head_in(root);
+    match head.form {
+        ListForm::IndexRoot => u32::from(head.count),
+        _ => 1,
+    }
 }
 
 /// How many lists there are: one leaf, or those of an index root.
@@ -65,11 +91,7 @@ pub(crate) fn count_lists(arena: &Arena, offset: u32) -> u32
     ensures count { (lists : List KeyList) → HasLists (heap_of arena.now) offset lists → 0 < length lists → result ≡ length lists }
     ensures fits { result < 65536 }
 {
-    let head = head_in(arena, offset);
-    match head.form {
-        ListForm::IndexRoot => u32::from(head.count),
-        _ => 1,
-    }
+    lists_in(arena.content(offset))
 }
 
 /// The offset of the list of a number, counted from 0.
@@ -78,23 +100,47 @@ pub(crate) fn leaf_at(arena: &Arena, offset: u32, number: u32) -> u32
     ensures { (lists : List KeyList) → HasLists (heap_of arena.now) offset lists → number < length lists →
         (numbered number lists).offset ≡ result }
 {
-    let head = head_in(arena, offset);
-    match head.form {
-        ListForm::IndexRoot => {
-            entry_at(arena.content(offset), ListForm::IndexRoot, number as u16).offset
-        }
+    let content = arena.content(offset);
+    match head_in(content).form {
+        ListForm::IndexRoot => { entry_at(content, ListForm::IndexRoot, number as u16).offset }
         _ => offset,
     }
 }
 
-/// The offset of the key at an index of a leaf.
+/// What the cell of the list of a number holds, by what the cell holds that the key names. Where there is one list, that is its cell.
+fn leaf_under<'a>(arena: &'a Arena, root: &'a [u8], number: u32) -> &'a [u8]
+    requires { (offset : ℕ) × (lists : List KeyList) × HasLists (heap_of arena.now) offset lists × (heap_of arena.now offset ≡ Some root.now)
+        × (number < length lists) }
+    ensures { (offset : ℕ) → (lists : List KeyList) → HasLists (heap_of arena.now) offset lists → heap_of arena.now offset ≡ Some root.now →
+        number < length lists → heap_of arena.now (numbered number lists).offset ≡ Some result.now }
+{
+    match head_in(root).form {
+        ListForm::IndexRoot => {
+            arena.content(entry_at(root, ListForm::IndexRoot, number as u16).offset)
+        }
+        _ => root,
+    }
+}
+
+/// The offset of the key at an index of a leaf, by what the leaf's cell holds.
+fn offset_in(leaf: &[u8], index: u32) -> u32
+    requires leaf { (heap : Heap) × (offset : ℕ) × (entries : List Entry) × IsLeaf heap offset entries × (heap offset ≡ Some leaf.now)
+        × (index < length entries) }
+    requires few { index < LEAF_LIMIT }
+    ensures { (heap : Heap) → (offset : ℕ) → (entries : List Entry) → IsLeaf heap offset entries → heap offset ≡ Some leaf.now →
+        index < length entries → (get_or entries index (record { offset = 0; hint = 0 })).offset ≡ result }
+{
+    entry_at(leaf, ListForm::HashLeaf, index as u16).offset
+}
+
+/// The offset of the key at an index of the leaf at an offset.
 fn key_in(arena: &Arena, leaf: u32, index: u32) -> u32
     requires leaf { (entries : List Entry) × IsLeaf (heap_of arena.now) leaf entries × (index < length entries) }
     requires few { index < LEAF_LIMIT }
     ensures { (entries : List Entry) → IsLeaf (heap_of arena.now) leaf entries → index < length entries →
         (get_or entries index (record { offset = 0; hint = 0 })).offset ≡ result }
 {
-    entry_at(arena.content(leaf), ListForm::HashLeaf, index as u16).offset
+    offset_in(arena.content(leaf), index)
 }
 
 /// Where the entry at an index among those of all lists stands. It reads the numbers of entries of the lists before, and no more of them.
@@ -129,7 +175,8 @@ pub fn at(arena: &Arena, list: SubkeysIndex, index: u32) -> u32
         (get_or entries index (record { offset = 0; hint = 0 })).offset ≡ result }
 {
     let place = place_of(arena, list.offset, index);
-    key_in(arena, leaf_at(arena, list.offset, place.list), place.index)
+    let row = leaf_under(arena, arena.content(list.offset), place.list);
+    offset_in(row, place.index)
 }
 
 /// The offset of the key at a place.
@@ -139,8 +186,8 @@ pub fn at_place(arena: &Arena, list: SubkeysIndex, place: Place) -> u32
     ensures { (entries : List Entry) → AreSubkeys (heap_of arena.now) list.count list.offset entries →
         (get_or entries (flat (heap_of arena.now) list.count list.offset place) (record { offset = 0; hint = 0 })).offset ≡ result }
 {
-    let leaf = leaf_at(arena, list.offset, place.list);
-    key_in(arena, leaf, place.index)
+    let leaf = leaf_under(arena, arena.content(list.offset), place.list);
+    offset_in(leaf, place.index)
 }
 
 /// The place of the subkey behind the one at a place, in the order of folded names, if there is one. It reads two numbers: how many
@@ -153,9 +200,9 @@ pub fn place_behind(arena: &Arena, list: SubkeysIndex, place: Place) -> Option<P
         (λ next. StandsIn (index_of (heap_of arena.now) list.count list.offset) next
         × (flat (heap_of arena.now) list.count list.offset next ≡ flat (heap_of arena.now) list.count list.offset place + 1)) }
 {
-    let leaf = leaf_at(arena, list.offset, place.list);
+    let leaf = leaf_under(arena, arena.content(list.offset), place.list);
     let index = place.index + 1;
-    if index < count_entries(arena, leaf) {
+    if index < count_in(leaf) {
         return Some(Place {
             list: place.list,
             index,
@@ -197,16 +244,15 @@ fn leaf_in(root: &[u8], number: u32) -> u32
 }
 
 /// The number of the list in which a name stands or belongs: of the last one that begins with it or a name before it, or else of
-/// the first one. The root's cell is looked up once.
-fn list_for(arena: &Arena, offset: u32, name: &[u8]) -> u32
-    requires { (lists : List KeyList) × HasLists (heap_of arena.now) offset lists × (0 < length lists)
-        × AreKeys (heap_of arena.now) (entries_in lists) }
-    ensures { (lists : List KeyList) → HasLists (heap_of arena.now) offset lists → 0 < length lists →
-        AreKeys (heap_of arena.now) (entries_in lists) → IsListFor (heap_of arena.now) lists (folded name.now) result }
+/// the first one. It is told what the cell holds that the key names.
+fn list_for(arena: &Arena, root: &[u8], name: &[u8]) -> u32
+    requires { (offset : ℕ) × (lists : List KeyList) × HasLists (heap_of arena.now) offset lists × (heap_of arena.now offset ≡ Some root.now)
+        × (0 < length lists) × AreKeys (heap_of arena.now) (entries_in lists) }
+    ensures { (offset : ℕ) → (lists : List KeyList) → HasLists (heap_of arena.now) offset lists → heap_of arena.now offset ≡ Some root.now →
+        0 < length lists → AreKeys (heap_of arena.now) (entries_in lists) → IsListFor (heap_of arena.now) lists (folded name.now) result }
 {
-    let root = arena.content(offset);
     let mut low = 1;
-    let mut high = count_lists(arena, offset);
+    let mut high = lists_in(root);
     while low < high {
         let middle = low + (high - low) / 2;
         let first = key_in(arena, leaf_in(root, middle), 0);
@@ -218,18 +264,20 @@ fn list_for(arena: &Arena, offset: u32, name: &[u8]) -> u32
     low - 1
 }
 
-/// Where a name stands in a leaf, or as an `Err` where it belongs there: a binary search that reads names in their cells.
-fn find_in(arena: &Arena, leaf: u32, name: &[u8]) -> Result<u32, u32>
-    requires { (entries : List Entry) × IsLeaf (heap_of arena.now) leaf entries × AreKeys (heap_of arena.now) entries
-        × (length entries ≤ LEAF_LIMIT) }
-    ensures { (entries : List Entry) → IsLeaf (heap_of arena.now) leaf entries → AreKeys (heap_of arena.now) entries →
+/// Where a name stands in a leaf, by what the leaf's cell holds, or as an `Err` where it belongs there: a binary search that reads
+/// names in their cells.
+fn find_in(arena: &Arena, leaf: &[u8], name: &[u8]) -> Result<u32, u32>
+    requires { (offset : ℕ) × (entries : List Entry) × IsLeaf (heap_of arena.now) offset entries
+        × (heap_of arena.now offset ≡ Some leaf.now) × AreKeys (heap_of arena.now) entries × (length entries ≤ LEAF_LIMIT) }
+    ensures { (offset : ℕ) → (entries : List Entry) → IsLeaf (heap_of arena.now) offset entries →
+        heap_of arena.now offset ≡ Some leaf.now → AreKeys (heap_of arena.now) entries →
         IsIndexFor (names_in (heap_of arena.now) entries) (folded name.now) result }
 {
     let mut low = 0;
-    let mut high = count_entries(arena, leaf);
+    let mut high = count_in(leaf);
     while low < high {
         let middle = low + (high - low) / 2;
-        match order(name_of(arena, key_in(arena, leaf, middle)), name) {
+        match order(name_of(arena, offset_in(leaf, middle)), name) {
             Ordering::Less => low = middle + 1,
             Ordering::Equal => return Ok(middle),
             Ordering::Greater => high = middle,
@@ -239,19 +287,20 @@ fn find_in(arena: &Arena, leaf: u32, name: &[u8]) -> Result<u32, u32>
 }
 
 /// The place behind all subkeys, of which there are some, where a name belongs that comes after the last one's. It looks at that one
-/// alone, so that keys that come in the order of their names, as those of an image do, are put in without a search.
-fn place_behind_all(arena: &Arena, offset: u32, name: &[u8]) -> Option<Place>
-    requires { (lists : List KeyList) × HasLists (heap_of arena.now) offset lists × (0 < length lists)
-        × AreKeys (heap_of arena.now) (entries_in lists) }
-    ensures { (lists : List KeyList) → HasLists (heap_of arena.now) offset lists → 0 < length lists →
-        AreKeys (heap_of arena.now) (entries_in lists) →
+/// alone, so that keys that come in the order of their names, as those of an image do, are put in without a search. It is told what the
+/// cell holds that the key names.
+fn place_behind_all(arena: &Arena, root: &[u8], name: &[u8]) -> Option<Place>
+    requires { (offset : ℕ) × (lists : List KeyList) × HasLists (heap_of arena.now) offset lists × (heap_of arena.now offset ≡ Some root.now)
+        × (0 < length lists) × AreKeys (heap_of arena.now) (entries_in lists) }
+    ensures { (offset : ℕ) → (lists : List KeyList) → HasLists (heap_of arena.now) offset lists → heap_of arena.now offset ≡ Some root.now →
+        0 < length lists → AreKeys (heap_of arena.now) (entries_in lists) →
         IfSome result (λ place. IsListFor (heap_of arena.now) lists (folded name.now) place.list
         × IsIndexFor (names_in (heap_of arena.now) (numbered place.list lists).list.entries) (folded name.now) (Err place.index)) }
 {
-    let list = count_lists(arena, offset) - 1;
-    let leaf = leaf_at(arena, offset, list);
-    let index = count_entries(arena, leaf);
-    let last = key_in(arena, leaf, index - 1);
+    let list = lists_in(root) - 1;
+    let leaf = leaf_under(arena, root, list);
+    let index = count_in(leaf);
+    let last = offset_in(leaf, index - 1);
     match order(name_of(arena, last), name) {
         Ordering::Less => Some(Place { list, index }),
         Ordering::Equal | Ordering::Greater => None,
@@ -272,11 +321,12 @@ pub fn find(arena: &Arena, list: SubkeysIndex, name: &[u8]) -> Result<Place, Pla
     if list.count == 0 {
         return Err(Place { list: 0, index: 0 });
     }
-    if let Some(place) = place_behind_all(arena, list.offset, name) {
+    let root = arena.content(list.offset);
+    if let Some(place) = place_behind_all(arena, root, name) {
         return Err(place);
     }
-    let number = list_for(arena, list.offset, name);
-    match find_in(arena, leaf_at(arena, list.offset, number), name) {
+    let number = list_for(arena, root, name);
+    match find_in(arena, leaf_under(arena, root, number), name) {
         Ok(index) => Ok(Place {
             list: number,
             index,

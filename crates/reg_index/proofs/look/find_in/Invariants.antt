@@ -1,4 +1,4 @@
-use Rattle.std.proofs.Common.{◌-◌, List}
+use Rattle.std.proofs.Common.{◌≡◌, ℕ, ◌-◌, Some, List}
 use Rattle.reg_names.specs.Names.{folded}
 use Rattle.reg_arena.specs.Arena.{heap_of}
 use Rattle.reg_records.specs.SubkeyLists.{Entry}
@@ -10,7 +10,7 @@ use Rattle.reg_index.proofs.look.find_in.Given as goal
 
 abbrev pub invariant-loop-low : goal.invariant-loop-low
 invariant-loop-low l =
-    (entries : List Entry) → IsLeaf (heap_of l.arena) l.leaf entries → AreKeys (heap_of l.arena) entries →
+    (offset : ℕ) → (entries : List Entry) → IsLeaf (heap_of l.arena) offset entries → heap_of l.arena offset ≡ Some l.leaf → AreKeys (heap_of l.arena) entries →
     Between (names_in (heap_of l.arena) entries) (folded l.name) l.low l.high
 
 abbrev pub decreases-loop-low : goal.decreases-loop-low

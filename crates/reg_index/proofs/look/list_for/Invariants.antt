@@ -1,4 +1,4 @@
-use Rattle.std.proofs.Common.{◌<◌, ◌-◌, List, length}
+use Rattle.std.proofs.Common.{◌≡◌, ℕ, ◌<◌, ◌-◌, Some, List, length}
 use Rattle.reg_names.specs.Names.{folded}
 use Rattle.reg_arena.specs.Arena.{heap_of}
 use Rattle.reg_shape.specs.Nodes.{KeyList}
@@ -9,7 +9,7 @@ use Rattle.reg_index.proofs.look.list_for.Given as goal
 
 abbrev pub invariant-loop-low : goal.invariant-loop-low
 invariant-loop-low l =
-    (lists : List KeyList) → HasLists (heap_of l.arena) l.offset lists → 0 < length lists → AreKeys (heap_of l.arena) (entries_in lists) →
+    (offset : ℕ) → (lists : List KeyList) → HasLists (heap_of l.arena) offset lists → heap_of l.arena offset ≡ Some l.root → 0 < length lists → AreKeys (heap_of l.arena) (entries_in lists) →
     BetweenLists (heap_of l.arena) lists (folded l.name) l.low l.high
 
 abbrev pub decreases-loop-low : goal.decreases-loop-low

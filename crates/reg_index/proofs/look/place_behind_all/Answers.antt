@@ -1,55 +1,61 @@
 use Rattle.std.proofs.Common.{◌-◌, ◌<◌, length, arith}
 use Rattle.reg_arena.specs.Arena.{heap_of}
-use Rattle.reg_index.proofs.ListPlaces.{leaf-of, list-stands}
+use Rattle.reg_index.proofs.ListPlaces.{list-stands}
 use Rattle.reg_index.proofs.NameBehindAll.{last-key, behind-all}
 use Rattle.reg_index.proofs.look.place_behind_all.Goals as goal
 
-pub count_entries-index-requires : goal.count_entries-index-requires
-count_entries-index-requires c =
+pub count_in-index-requires : goal.count_in-index-requires
+count_in-index-requires c =
     let s = c.requires in
-    let l : c.count_lists-list.result - 1 < length s.0 = omega (arith, c.count_lists-list.ensures.count s.0 s.1 s.2, s.2) in
-    (_, leaf-of (heap_of c.args.arena.now) c.args.offset s.0 (c.count_lists-list.result - 1) c.leaf_at-leaf.result s.1 l (c.leaf_at-leaf.ensures s.0 s.1 l))
+    let l : c.lists_in-list.result - 1 < length s.1 = omega (arith, c.lists_in-list.ensures.count (heap_of c.args.arena.now) s.0 s.1 s.2 s.3 s.4, s.4) in
+    (heap_of c.args.arena.now, _, _, (list-stands (heap_of c.args.arena.now) s.0 s.1 (c.lists_in-list.result - 1) s.2 l).leaf, c.leaf_under-leaf.ensures s.0 s.1 s.2 s.3 l)
 
 pub overflow_sub-index : goal.overflow_sub-index
 overflow_sub-index c =
     let s = c.requires in
-    let l : c.count_lists-list.result - 1 < length s.0 = omega (arith, c.count_lists-list.ensures.count s.0 s.1 s.2, s.2) in
-    let i = leaf-of (heap_of c.args.arena.now) c.args.offset s.0 (c.count_lists-list.result - 1) c.leaf_at-leaf.result s.1 l (c.leaf_at-leaf.ensures s.0 s.1 l) in
-    omega (arith, c.count_entries-index.ensures _ i, (list-stands (heap_of c.args.arena.now) c.args.offset s.0 (c.count_lists-list.result - 1) s.1 l).written.some)
+    let l : c.lists_in-list.result - 1 < length s.1 = omega (arith, c.lists_in-list.ensures.count (heap_of c.args.arena.now) s.0 s.1 s.2 s.3 s.4, s.4) in
+    let i = (list-stands (heap_of c.args.arena.now) s.0 s.1 (c.lists_in-list.result - 1) s.2 l).leaf in
+    let row = c.leaf_under-leaf.ensures s.0 s.1 s.2 s.3 l in
+    omega (arith, c.count_in-index.ensures (heap_of c.args.arena.now) _ _ i row, (list-stands (heap_of c.args.arena.now) s.0 s.1 (c.lists_in-list.result - 1) s.2 l).written.some)
 
-pub key_in-last-requires-clause-leaf : goal.key_in-last-requires-clause-leaf
-key_in-last-requires-clause-leaf c =
+pub offset_in-last-requires-clause-leaf : goal.offset_in-last-requires-clause-leaf
+offset_in-last-requires-clause-leaf c =
     let s = c.requires in
-    let l : c.count_lists-list.result - 1 < length s.0 = omega (arith, c.count_lists-list.ensures.count s.0 s.1 s.2, s.2) in
-    let i = leaf-of (heap_of c.args.arena.now) c.args.offset s.0 (c.count_lists-list.result - 1) c.leaf_at-leaf.result s.1 l (c.leaf_at-leaf.ensures s.0 s.1 l) in
-    (_, i, omega (arith, c.count_entries-index.ensures _ i, (list-stands (heap_of c.args.arena.now) c.args.offset s.0 (c.count_lists-list.result - 1) s.1 l).written.some))
+    let l : c.lists_in-list.result - 1 < length s.1 = omega (arith, c.lists_in-list.ensures.count (heap_of c.args.arena.now) s.0 s.1 s.2 s.3 s.4, s.4) in
+    let i = (list-stands (heap_of c.args.arena.now) s.0 s.1 (c.lists_in-list.result - 1) s.2 l).leaf in
+    let row = c.leaf_under-leaf.ensures s.0 s.1 s.2 s.3 l in
+    let some = (list-stands (heap_of c.args.arena.now) s.0 s.1 (c.lists_in-list.result - 1) s.2 l).written.some in
+    (heap_of c.args.arena.now, _, _, i, row, omega (arith, c.count_in-index.ensures (heap_of c.args.arena.now) _ _ i row, some))
 
-pub key_in-last-requires-clause-few : goal.key_in-last-requires-clause-few
-key_in-last-requires-clause-few c =
+pub offset_in-last-requires-clause-few : goal.offset_in-last-requires-clause-few
+offset_in-last-requires-clause-few c =
     let s = c.requires in
-    let l : c.count_lists-list.result - 1 < length s.0 = omega (arith, c.count_lists-list.ensures.count s.0 s.1 s.2, s.2) in
-    let i = leaf-of (heap_of c.args.arena.now) c.args.offset s.0 (c.count_lists-list.result - 1) c.leaf_at-leaf.result s.1 l (c.leaf_at-leaf.ensures s.0 s.1 l) in
-    let w = (list-stands (heap_of c.args.arena.now) c.args.offset s.0 (c.count_lists-list.result - 1) s.1 l).written in
-    omega (arith, c.count_entries-index.ensures _ i, w.some, w.few)
+    let l : c.lists_in-list.result - 1 < length s.1 = omega (arith, c.lists_in-list.ensures.count (heap_of c.args.arena.now) s.0 s.1 s.2 s.3 s.4, s.4) in
+    let i = (list-stands (heap_of c.args.arena.now) s.0 s.1 (c.lists_in-list.result - 1) s.2 l).leaf in
+    let row = c.leaf_under-leaf.ensures s.0 s.1 s.2 s.3 l in
+    let w = (list-stands (heap_of c.args.arena.now) s.0 s.1 (c.lists_in-list.result - 1) s.2 l).written in
+    omega (arith, c.count_in-index.ensures (heap_of c.args.arena.now) _ _ i row, w.some, w.few)
 
 pub name_of-requires : goal.name_of-requires
 name_of-requires c =
     let s = c.requires in
-    let e = c.count_lists-list.ensures.count s.0 s.1 s.2 in
-    let l : c.count_lists-list.result - 1 < length s.0 = omega (arith, e, s.2) in
-    let i = leaf-of (heap_of c.args.arena.now) c.args.offset s.0 (c.count_lists-list.result - 1) c.leaf_at-leaf.result s.1 l (c.leaf_at-leaf.ensures s.0 s.1 l) in
-    let n = c.count_entries-index.ensures _ i in
-    let w = (list-stands (heap_of c.args.arena.now) c.args.offset s.0 (c.count_lists-list.result - 1) s.1 l).written in
-    last-key (heap_of c.args.arena.now) s.0 s.3 (c.count_lists-list.result - 1) (c.count_entries-index.result - 1) c.key_in-last.result c.args.name.now
-    (omega (arith, e, s.2)) (omega (arith, n, w.some)) (c.key_in-last.ensures _ i (omega (arith, n, w.some)))
+    let e = c.lists_in-list.ensures.count (heap_of c.args.arena.now) s.0 s.1 s.2 s.3 s.4 in
+    let l : c.lists_in-list.result - 1 < length s.1 = omega (arith, e, s.4) in
+    let i = (list-stands (heap_of c.args.arena.now) s.0 s.1 (c.lists_in-list.result - 1) s.2 l).leaf in
+    let row = c.leaf_under-leaf.ensures s.0 s.1 s.2 s.3 l in
+    let n = c.count_in-index.ensures (heap_of c.args.arena.now) _ _ i row in
+    let w = (list-stands (heap_of c.args.arena.now) s.0 s.1 (c.lists_in-list.result - 1) s.2 l).written in
+    last-key (heap_of c.args.arena.now) s.1 s.5 (c.lists_in-list.result - 1) (c.count_in-index.result - 1) c.offset_in-last.result c.args.name.now
+    (omega (arith, e, s.4)) (omega (arith, n, w.some)) (c.offset_in-last.ensures (heap_of c.args.arena.now) _ _ i row (omega (arith, n, w.some)))
 
 pub returns-in-Less : goal.returns-in-Less
-returns-in-Less c = λ lists h some keys.
-    let e = c.count_lists-list.ensures.count lists h some in
-    let l : c.count_lists-list.result - 1 < length lists = omega (arith, e, some) in
-    let i = leaf-of (heap_of c.args.arena.now) c.args.offset lists (c.count_lists-list.result - 1) c.leaf_at-leaf.result h l (c.leaf_at-leaf.ensures lists h l) in
-    let n = c.count_entries-index.ensures _ i in
-    let w = (list-stands (heap_of c.args.arena.now) c.args.offset lists (c.count_lists-list.result - 1) h l).written in
-    behind-all (heap_of c.args.arena.now) lists keys (c.count_lists-list.result - 1) (c.count_entries-index.result - 1) c.key_in-last.result c.args.name.now
-    (omega (arith, e, some)) (omega (arith, n, w.some)) (c.key_in-last.ensures _ i (omega (arith, n, w.some)))
-    c.name_of.result.now c.name_of.ensures c.in-Less.ensures c.count_entries-index.result (omega (arith, n, w.some))
+returns-in-Less c = λ offset lists h here some keys.
+    let e = c.lists_in-list.ensures.count (heap_of c.args.arena.now) offset lists h here some in
+    let l : c.lists_in-list.result - 1 < length lists = omega (arith, e, some) in
+    let i = (list-stands (heap_of c.args.arena.now) offset lists (c.lists_in-list.result - 1) h l).leaf in
+    let row = c.leaf_under-leaf.ensures offset lists h here l in
+    let n = c.count_in-index.ensures (heap_of c.args.arena.now) _ _ i row in
+    let w = (list-stands (heap_of c.args.arena.now) offset lists (c.lists_in-list.result - 1) h l).written in
+    behind-all (heap_of c.args.arena.now) lists keys (c.lists_in-list.result - 1) (c.count_in-index.result - 1) c.offset_in-last.result c.args.name.now
+    (omega (arith, e, some)) (omega (arith, n, w.some)) (c.offset_in-last.ensures (heap_of c.args.arena.now) _ _ i row (omega (arith, n, w.some)))
+    c.name_of.result.now c.name_of.ensures c.in-Less.ensures c.count_in-index.result (omega (arith, n, w.some))
