@@ -1,11 +1,17 @@
 //! A number for each eight bytes of bins, those of each page in a table of their own.
-ghost use Rattle.std.specs.Prelude.{◌≡◌, ℕ, ◌+◌, ◌≤◌, ◌<◌, ◌⊎◌, [], length, get_or, set, OnOk};
+ghost use Rattle.std.specs.Prelude.{◌≡◌, ℕ, ◌+◌, ◌*◌, ◌/◌, ◌≤◌, ◌<◌, ◌⊎◌, [], length, get_or, set, OnOk};
 
 use std::alloc::{AllocError, Global};
 use std::marker::Model;
 
 /// How many numbers a page has: one for each eight of its 4096 bytes.
 const PAGE: usize = 512;
+
+/// From so many pages on tables are made several at a time.
+const MANY: usize = 256;
+
+/// How many tables are made at a time then.
+const STEP: usize = 16;
 
 // The numbers of one page.
 #[derive(Drop)]
@@ -63,16 +69,16 @@ impl PageTables {
         self.pages[place / PAGE].numbers[place % PAGE] = number;
     }
 
-    /// At least so many numbers, at most 511 more, the new ones all 0; or as many as there were, where those are more. What was there
-    /// stays. Where memory is refused, some of the new ones may be there.
+    /// At least so many numbers, at most 511 and a sixteenth more, the new ones all 0; or as many as there were, where those are more.
+    /// What was there stays. Where memory is refused, some of the new ones may be there.
     pub fn lengthen(&mut self, long: usize) -> Result<(), AllocError>
         requires { long ≤ 33554432 }
         ensures same { (place : ℕ) → get_or self.new.items place 0 ≡ get_or self.old.items place 0 }
         ensures longer { length self.old.items ≤ length self.new.items }
-        ensures most { (length self.new.items ≡ length self.old.items) ⊎ (length self.new.items ≤ long + 511) }
+        ensures most { (length self.new.items ≡ length self.old.items) ⊎ (length self.new.items ≤ long + long / 16 + 511) }
         ensures ok { OnOk result (long ≤ length self.new.items) }
     {
-        let pages = (long + PAGE - 1) / PAGE;
+        let pages = pages_for(long);
         while self.pages.len() < pages {
             let mut numbers = Vec::new(self.alloc);
             numbers.resize(PAGE, 0)?;
@@ -80,4 +86,18 @@ impl PageTables {
         }
         Ok(())
     }
+}
+
+// For how many pages tables are made, so that there are so many numbers. Where there are many pages, tables are made several at a time:
+// then the bins that come between stand close to one another, and reads of them need fewer pages of the system.
+fn pages_for(long: usize) -> usize
+    requires { long ≤ 33554432 }
+    ensures enough { long ≤ 512 * result }
+    ensures most { 512 * result ≤ long + long / 16 + 511 }
+{
+    let pages = (long + PAGE - 1) / PAGE;
+    if pages < MANY {
+        return pages;
+    }
+    (pages + STEP - 1) / STEP * STEP
 }

@@ -32,8 +32,9 @@ pub use lists::{
     ListEntry, ListForm, ListHead, entry_at, put_entry, put_head, put_list, read_list,
 };
 pub use nk::{
-    KeyFields, KeyNode, nk_name, put_nk, read_nk, set_largest_subkey_name, set_largest_value_data,
-    set_largest_value_name, set_security, set_subkeys, set_subkeys_list, set_time, set_values,
+    KeyFields, KeyNode, nk_fields, nk_name, put_nk, read_nk, set_largest_subkey_name,
+    set_largest_value_data, set_largest_value_name, set_security, set_subkeys, set_subkeys_list,
+    set_time, set_values,
 };
 pub use rows::{offset_at, put_offset};
 pub use sk::{

@@ -114,6 +114,14 @@ pub fn read_nk(content: &[u8]) -> Result<KeyNode<'_>, RecordFault>
     Ok(KeyNode { fields, name })
 }
 
+/// The fixed part of a key node, from the start of what a cell holds that is known to read as one: nothing is tested.
+pub fn nk_fields(content: &[u8]) -> KeyFields
+    requires { (record_is : KeyRecord) × (nk_of content.now ≡ Ok record_is) }
+    ensures { (record_is : KeyRecord) → nk_of content.now ≡ Ok record_is → result ≡ record_is.fields }
+{
+    fields_at(content)
+}
+
 /// The name of a key node, from the start of what a cell holds that is known to read as one: nothing but its length is looked at.
 pub fn nk_name(content: &[u8]) -> &[u8]
     requires { (record_is : KeyRecord) × (nk_of content.now ≡ Ok record_is) }

@@ -10,7 +10,7 @@ use reg_arena::Arena;
 use reg_heap::limits::NONE;
 use reg_index::SubkeysIndex;
 use reg_records::{
-    KeyFields, read_nk, set_largest_subkey_name, set_largest_value_data, set_largest_value_name,
+    KeyFields, nk_fields, set_largest_subkey_name, set_largest_value_data, set_largest_value_name,
     set_security, set_subkeys, set_subkeys_list, set_time, set_values,
 };
 use reg_values::ValuesList;
@@ -58,10 +58,7 @@ pub fn fields(arena: &Arena, key: u32) -> KeyFields
     requires { IsSome (key_at (heap_of arena.now) key) }
     ensures { (record_is : KeyRecord) → key_at (heap_of arena.now) key ≡ Some record_is → result ≡ record_is.fields }
 {
-    match read_nk(arena.content(key)) {
-        Ok(node) => node.fields,
-        Err(_) => unreachable!(),
-    }
+    nk_fields(arena.content(key))
 }
 
 /// The list of a key's values, as its key node names it.

@@ -15,7 +15,7 @@ use crate::key::{fields, subkeys_list};
 use crate::{Node, Place, Subkey};
 use reg_arena::Arena;
 use reg_index::{SubkeysIndex, at, at_place, behind, len, place_behind};
-use reg_records::read_nk;
+use reg_records::nk_name;
 use reg_security::descriptor as descriptor_in;
 
 /// The flags of a key node that are the key's marks.
@@ -27,10 +27,7 @@ pub fn name(arena: &Arena, key: u32) -> &[u8]
     ensures told { (t : IsHere arena.now.bytes key) → (r : Rec) → get (tree_in arena.now.bytes t.root) t.path ≡ Some r → result.now ≡ r.name }
     ensures short { length result.now ≤ KEY_NAME_LIMIT }
 {
-    match read_nk(arena.content(key)) {
-        Ok(node) => node.name,
-        Err(_) => unreachable!(),
-    }
+    nk_name(arena.content(key))
 }
 
 /// A key's last write time, in 100 ns ticks since 1601.

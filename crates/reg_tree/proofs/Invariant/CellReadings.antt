@@ -40,6 +40,9 @@ pub security-exists : (h : Heap) (o : ℕ) → IsSome (security_at h o) → IsSo
 security-exists h o s = (security-room h o 0 (omega arith) s).exists
 
 -- it reads without a fault
+pub key-reads : (h : Heap) (o : ℕ) (content : List ℕ) → IsSome (key_at h o) → h o ≡ Some content → (r : KeyRecord) × (nk_of content ≡ Ok r)
+key-reads h o content s f = let found = some_of (key_at h o) s in (found.0, key-read h o content found.0 found.1 f)
+
 pub key-no_fault : (h : Heap) (o : ℕ) (content : List ℕ) (fault : RecordFault) → IsSome (key_at h o) → h o ≡ Some content → nk_of content ≡ Err fault → ⊥
 key-no_fault h o content fault s f e = let found = some_of (key_at h o) s in let reads = key-read h o content found.0 found.1 f in cc
 

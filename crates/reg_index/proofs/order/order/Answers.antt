@@ -6,7 +6,7 @@ pub loop-first-init : goal.loop-first-init
 loop-first-init c = refl
 
 pub returns-in_default-split_first_chunk : goal.returns-in_default-split_first_chunk
-returns-in_default-split_first_chunk c = c.name_order.ensures ∙ sym c.loop-first.invariant
+returns-in_default-split_first_chunk c = c.order_behind.ensures ∙ sym c.loop-first.invariant
 
 pub returns-in-Less : goal.returns-in-Less
 returns-in-Less c =
@@ -30,4 +30,4 @@ loop-first-preserved c =
     c.loop-first.invariant ∙ goes-on 8 c.loop-first.one.now c.loop-first.other.now _ _ _ _ f.0 f.1 f.2 s.0 s.1 s.2 (sym c.word_order.ensures ∙ c.in-Equal.is)
 
 pub returns : goal.returns
-returns c = c.name_order-2.ensures ∙ sym c.loop-first.invariant
+returns c = c.order_behind-2.ensures ∙ sym c.loop-first.invariant

@@ -19,11 +19,11 @@ loop-self-preserved c =
       most =
           let more-long = length-more pages more page is long in
           let now = length-pages pages c.loop-self.invariant.whole in
-          inr (omega (arith, more-long, now, c.loop-self-test.true, c.loop-self.self-inside.pages.ok.0));
+          inr (omega (arith, more-long, now, c.loop-self-test.true, c.loop-self.self-inside.pages.ok.0, c.pages_for-pages.ensures.most));
       whole = rw is (grind (arith, common_steps));
     }
 
 pub returns-clause-ok : goal.returns-clause-ok
 returns-clause-ok c =
     let long = length-pages c.loop-self.self-inside.pages.items c.loop-self.invariant.whole in
-    omega (arith, long, c.loop-self.self-inside.pages.ok.0)
+    omega (arith, long, c.loop-self.self-inside.pages.ok.0, c.loop-self-test.false, c.pages_for-pages.ensures.enough)
