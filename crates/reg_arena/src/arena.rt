@@ -38,9 +38,9 @@ pub struct Arena {
     bins: BinRow,
     /// The lists of the free cells.
     lists: FreeLists,
-    /// Memory for bins to come, kept from call to call: at most one for each cell of the largest [`carve_each`](Arena::carve_each)
-    /// so far. Given back to the heap it would leave holes between the bins.
-    spares: Vec<Spare>,
+    /// Memory for bins of one page, kept from call to call, at most 16 of them. Given back to the heap it would leave holes between
+    /// the bins.
+    kept: Vec<Spare>,
 }
 
 impl Model for Arena {
@@ -65,7 +65,7 @@ impl Arena {
             alloc,
             bins: BinRow::new(alloc),
             lists: FreeLists::new(alloc),
-            spares: Vec::new(alloc),
+            kept: Vec::new(alloc),
         }
     }
 
@@ -232,8 +232,7 @@ impl Arena {
     /// [`ArenaFault::Full`]: with all those bins there would be more than 268,435,456 bytes, whether they are needed or not;
     /// a [`carve`](Arena::carve) of all sizes may still find room. [`ArenaFault::Memory`]: `out` could not grow, or no free cell
     /// has room for all cells together and memory for all those bins was refused. After either the arena and `out` are as
-    /// before. Memory for bins that were not needed is kept for the next call: at most one for each cell of the largest call
-    /// so far.
+    /// before. Memory for bins of one page that were not needed is kept for later calls, at most 65,536 bytes of it.
     ///
     /// Suhanov, Windows registry file format specification, sections "Hive bin" and "Cell".
     pub fn carve_each(&mut self, sizes: &[u32], out: &mut Vec<u32>) -> Result<(), ArenaFault>
@@ -256,7 +255,7 @@ impl Arena {
             self.alloc,
             &mut self.bins,
             &mut self.lists,
-            &mut self.spares,
+            &mut self.kept,
             sizes,
             out,
         )

@@ -21,7 +21,7 @@ use std::alloc::AllocError;
 pub const HEADER_SIZE: u32 = 32;
 
 /// A bin's size is a multiple of so many bytes.
-const PAGE_SIZE: u32 = 4096;
+pub const PAGE_SIZE: u32 = 4096;
 
 /// The letters `hbin`.
 const SIGNATURE: u32 = 0x6E69_6268;

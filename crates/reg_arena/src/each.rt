@@ -1,6 +1,6 @@
 //! Cells carved one after the other, each by itself, the largest first.
 ghost use Rattle.std.specs.Prelude.{◌≡◌, ◌↔◌, ◌+◌, ◌-◌, ◌≤◌, ◌<◌, ◌%◌, ◌⊎◌, ℕ, List, [], ◌∷◌, ◌++◌, length, replicate, set, take, get_or, true};
-ghost use Rattle.std.specs.Prelude.{vec_len, vec_capacity, Err, OnErr, OnOk, MatchOption};
+ghost use Rattle.std.specs.Prelude.{vec_len, vec_capacity, Err, IfOk, OnErr, OnOk, MatchOption, ⊤};
 ghost use Rattle.reg_heap.specs.declared.limits.TheConstants.{BINS_LIMIT, NONE};
 ghost use Rattle.reg_heap.specs.Heaps.{AreNew};
 ghost use Rattle.reg_heap.specs.Kinds.{times};
@@ -15,12 +15,15 @@ ghost use Rattle.reg_arena.specs.Internal.Reserved.{AreReserved, IsRoomFor, Keep
 ghost use Rattle.reg_arena.specs.Internal.Spares.{AreSpare, HasSpare};
 
 use crate::ArenaFault;
-use crate::bin::bin_size;
+use crate::bin::{PAGE_SIZE, bin_size};
 use crate::carve::{carve_blank, carve_found, sum_of};
 use crate::free_lists::FreeLists;
 use reg_bins::BinRow;
 use reg_heap::limits::{BINS_LIMIT, NONE};
 use std::alloc::{AllocError, Global};
+
+/// Memory for so many bins of one page is kept from call to call, at most.
+const KEPT: usize = 16;
 
 // The bytes of the least bins for cells of these sizes, one for each, where they are at most `limit`.
 pub fn fresh_within(sizes: &[u32], limit: u32) -> Option<u32>
@@ -38,69 +41,63 @@ pub fn fresh_within(sizes: &[u32], limit: u32) -> Option<u32>
     Some(fresh)
 }
 
-// Memory for a bin to come, until it is taken. Nothing is written into it before, since most are not taken at once.
+// Memory for a bin to come, until it is taken. Nothing is written into it before, since most is not taken at once.
 #[derive(Drop)]
 pub struct Spare {
     pub memory: Option<Vec<u8>>,
 }
 
-// Whether there is memory for so many bytes, and for no more: a bin keeps all memory that it is given.
-fn has_room(spare: &Spare, size: u32) -> bool
-    ensures { result ≡ true → MatchOption spare.now.memory ⊥ (λ memory. (memory.items ≡ []) × (size ≤ vec_capacity memory)) }
+// Memory for a bin of one page that was kept, if there is some.
+fn kept_page(kept: &mut Vec<Spare>) -> Option<Vec<u8>>
+    ensures { MatchOption result ⊤ (λ memory. (memory.items ≡ []) × (4096 ≤ vec_capacity memory)) }
 {
-    let Some(memory) = &spare.memory else {
-        return false;
-    };
-    memory.is_empty() && memory.capacity() == size as usize
+    let memory = kept.pop()?.memory?;
+    if memory.is_empty() && memory.capacity() >= PAGE_SIZE as usize {
+        return Some(memory);
+    }
+    None
 }
 
-// Sees to it that there is memory for so many bytes at a place. What is there and has room stays.
-fn keep_spare(
+// Memory for a bin: for one of one page what was kept, and else new one.
+fn memory_for(alloc: Global, kept: &mut Vec<Spare>, size: u32) -> Result<Vec<u8>, AllocError>
+    ensures { IfOk result (λ memory. (memory.items ≡ []) × (size ≤ vec_capacity memory)) }
+{
+    if size == PAGE_SIZE {
+        if let Some(memory) = kept_page(kept) {
+            return Ok(memory);
+        }
+    }
+    Vec::with_capacity(alloc, size as usize)
+}
+
+// Memory for a bin for each cell.
+fn make_spares(
     alloc: Global,
-    spares: &mut Vec<Spare>,
-    place: usize,
-    size: u32,
-) -> Result<(), AllocError>
-    requires { place ≤ length spares.old.items }
-    ensures front { take place spares.new.items ≡ take place spares.old.items }
-    ensures there { OnOk result (place < length spares.new.items) }
-    ensures room { OnOk result ((other : Spare) → MatchOption (get_or spares.new.items place other).memory ⊥
-        (λ memory. (memory.items ≡ []) × (size ≤ vec_capacity memory))) }
-{
-    if place < spares.len() && has_room(&spares[place], size) {
-        return Ok(());
-    }
-    let spare = Spare {
-        memory: Some(Vec::with_capacity(alloc, size as usize)?),
-    };
-    if place < spares.len() {
-        spares[place] = spare;
-        return Ok(());
-    }
-    spares.push(spare)?;
-    Ok(())
-}
-
-// Memory for a bin for each cell: what is kept from earlier calls, and where that has no room new one.
-fn keep_spares(alloc: Global, spares: &mut Vec<Spare>, sizes: &[u32]) -> Result<(), AllocError>
+    kept: &mut Vec<Spare>,
+    sizes: &[u32],
+) -> Result<Vec<Spare>, AllocError>
     requires { AreCarvable sizes.now }
-    ensures { OnOk result (AreSpare NONE sizes.now (replicate (length sizes.now) NONE) spares.new.items) }
+    ensures { IfOk result (λ spares. AreSpare NONE sizes.now (replicate (length sizes.now) NONE) spares.items) }
 {
-    for place in 0..sizes.len() {
-        keep_spare(alloc, spares, place, bin_size(sizes[place]))?;
+    let mut spares = Vec::new(alloc);
+    for size in sizes {
+        let memory = memory_for(alloc, kept, bin_size(*size))?;
+        spares.push(Spare {
+            memory: Some(memory),
+        })?;
     }
-    Ok(())
+    Ok(spares)
 }
 
 // Room for a bin for each cell, and memory for it; nothing where one free cell has room for all of them, since then no bin is needed.
-fn reserve_bins(
+fn spares_for(
     alloc: Global,
     bins: &mut BinRow,
     lists: &mut FreeLists,
-    spares: &mut Vec<Spare>,
+    kept: &mut Vec<Spare>,
     sizes: &[u32],
     fresh: u32,
-) -> Result<(), AllocError>
+) -> Result<Vec<Spare>, AllocError>
     requires arena { IsIndexed bins.old.items lists.old }
     requires sizes { AreSizes sizes.now }
     requires each { AreCarvable sizes.now }
@@ -111,16 +108,29 @@ fn reserve_bins(
     ensures parts { bins.new.parts ≡ bins.old.parts }
     ensures arena { IsIndexed bins.new.items lists.new }
     ensures heads { lists.new.heads ≡ lists.old.heads }
-    ensures ok { OnOk result (NoFit bins.old.items (total_of sizes.now) →
+    ensures ok { IfOk result (λ spares. NoFit bins.old.items (total_of sizes.now) →
         AreReserved (length bins.old.items + fresh_of sizes.now) bins.new.room lists.new
-        × AreSpare NONE sizes.now (replicate (length sizes.now) NONE) spares.new.items) }
+        × AreSpare NONE sizes.now (replicate (length sizes.now) NONE) spares.items) }
 {
     if let Some(_fit) = lists.best_fit(bins, sum_of(sizes)) {
-        return Ok(());
+        return Ok(Vec::new(alloc));
     }
     lists.make_room((bins.len() + fresh as usize + 7) / 8)?;
     bins.reserve(fresh as usize)?;
-    keep_spares(alloc, spares, sizes)
+    make_spares(alloc, kept, sizes)
+}
+
+// Keeps memory for bins of one page that was not needed, as long as there is little of it. The rest is given back.
+fn keep_pages(kept: &mut Vec<Spare>, spares: Vec<Spare>) {
+    for spare in spares {
+        let is_page = match &spare.memory {
+            Some(memory) => memory.capacity() == PAGE_SIZE as usize,
+            None => false,
+        };
+        if is_page && kept.len() < KEPT && kept.push(spare).is_err() {
+            return;
+        }
+    }
 }
 
 // Takes the memory for a place's bin, where there is some.
@@ -280,7 +290,7 @@ pub fn carve_cells(
     alloc: Global,
     bins: &mut BinRow,
     lists: &mut FreeLists,
-    spares: &mut Vec<Spare>,
+    kept: &mut Vec<Spare>,
     sizes: &[u32],
     out: &mut Vec<u32>,
 ) -> Result<(), ArenaFault>
@@ -305,9 +315,10 @@ pub fn carve_cells(
     if out.reserve(sizes.len() + 1).is_err() {
         return Err(ArenaFault::Memory);
     }
-    let Ok(()) = reserve_bins(alloc, bins, lists, spares, sizes, fresh) else {
+    let Ok(mut spares) = spares_for(alloc, bins, lists, kept, sizes, fresh) else {
         return Err(ArenaFault::Memory);
     };
-    carve_all(bins, lists, sizes, spares, out);
+    carve_all(bins, lists, sizes, &mut spares, out);
+    keep_pages(kept, spares);
     Ok(())
 }

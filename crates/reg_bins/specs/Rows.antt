@@ -6,7 +6,7 @@ pub record Row : Type 0 where
   pub items : List ℕ
   -- the sizes of the bins, in order
   pub parts : List ℕ
-  -- how many bytes of bins there may be before the tables that lead to them have to grow
+  -- how many bytes of bins there may be before the vector that leads to them has to grow
   pub room : ℕ
 
 -- numbers in a row, one for each eight bytes of the bins

@@ -30,7 +30,7 @@ struct Page {
 #[derive(Drop)]
 pub struct BinRow {
     alloc: Global,
-    /// The pages of all bins, in order. A bin stands at its first page, so that a byte of it is found by one look.
+    /// The pages of all bins, in order. A bin stands at its first page, so that a byte there is read by one look.
     pages: Vec<Page>,
     /// For how many pages there is room.
     room: usize,

@@ -1,5 +1,5 @@
 //! A number for each eight bytes of bins, those of each page in a table of their own.
-ghost use Rattle.std.specs.Prelude.{◌≡◌, ℕ, ◌+◌, ◌*◌, ◌/◌, ◌≤◌, ◌<◌, ◌⊎◌, [], length, get_or, set, OnOk};
+ghost use Rattle.std.specs.Prelude.{◌≡◌, ℕ, ◌+◌, ◌*◌, ◌/◌, ◌≤◌, ◌<◌, ◌⊎◌, [], length, get_or, set, OnOk, IsOk};
 
 use std::alloc::{AllocError, Global};
 use std::marker::Model;
@@ -77,7 +77,11 @@ impl PageTables {
         ensures longer { length self.old.items ≤ length self.new.items }
         ensures most { (length self.new.items ≡ length self.old.items) ⊎ (length self.new.items ≤ long + long / 16 + 511) }
         ensures ok { OnOk result (long ≤ length self.new.items) }
+        ensures succeeds { long ≤ length self.old.items → IsOk result }
     {
+        if (long + PAGE - 1) / PAGE <= self.pages.len() {
+            return Ok(());
+        }
         let pages = pages_for(long);
         while self.pages.len() < pages {
             let mut numbers = Vec::new(self.alloc);

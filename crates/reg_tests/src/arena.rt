@@ -135,6 +135,38 @@ fn carves_each_cell_in_a_bin_of_its_own(rt: HostRuntime) -> Result<(), Fail> {
     )
 }
 
+// Cells carved each by itself in four calls. The first asks for memory for two bins and needs one; the second needs two, of which one
+// was kept; the third needs one of two pages and none of one; the fourth one of three.
+fn carve_in_turn(arena: &mut Arena, offsets: &mut Vec<u32>) -> Result<(), ArenaFault> {
+    arena.carve_each(&[16, 24], offsets)?;
+    arena.carve_each(&[4032, 4064], offsets)?;
+    arena.carve_each(&[8160, 16], offsets)?;
+    arena.carve_each(&[16, 16, 4064], offsets)
+}
+
+// Their offsets, and all cells then.
+fn carved_in_turn_in(alloc: Global, arena: &mut Arena) -> Result<String, Fail> {
+    let mut offsets = Vec::new(alloc);
+    carve_in_turn(arena, &mut offsets)?;
+    let cells = shown(alloc, arena)?;
+    Ok(format!(in alloc; "{offsets:?} {}", cells.as_str())?)
+}
+
+// The same of a new arena.
+fn carved_in_turn(alloc: Global) -> Result<String, Fail> {
+    let mut arena = Arena::new(alloc);
+    carved_in_turn_in(alloc, &mut arena)
+}
+
+#[test]
+fn carves_in_bins_whose_memory_was_kept(rt: HostRuntime) -> Result<(), Fail> {
+    assert_told(
+        &rt,
+        carved_in_turn(rt.alloc()),
+        "[56, 32, 8224, 4128, 12320, 12256, 12272, 72, 20512] 32 24*, 56 16*, 72 16*, 88 4008, 4128 4064*, 8224 4032*, 12256 16*, 12272 16*, 12320 8160*, 20512 4064*, ",
+    )
+}
+
 // Cells of the largest size until one is refused: the last answer.
 fn fill(arena: &mut Arena, offsets: &mut Vec<u32>) -> Result<(), ArenaFault> {
     let mut last = Ok(());

@@ -1,8 +1,8 @@
 -- Bins to come, which are needed only where no free cell has room for all cells that are left.
-use Rattle.std.proofs.Common.{◌≡◌, ◌≢◌, ℕ, zero, suc, ◌+◌, ◌<◌, ◌≤◌, ◌%◌, Bool, cond, List, [], ◌∷◌, ◌++◌, length, get_or, set, take, drop, replicate}
-use Rattle.std.proofs.Common.{Option, Some, None, refl, sym, ap, ◌∙◌, subst, arith, eqb, inl, inr, Ok, Err}
+use Rattle.std.proofs.Common.{◌≡◌, ◌≢◌, ℕ, zero, suc, ◌+◌, ◌<◌, ◌≤◌, ◌%◌, Bool, cond, List, [], ◌∷◌, ◌++◌, length, get_or, set, replicate}
+use Rattle.std.proofs.Common.{refl, sym, ap, ◌∙◌, subst, arith, eqb, inl, inr, Ok, Err}
 use Rattle.std.proofs.lemmas.Bool.{eq-eqb, ne_eqb}
-use Rattle.std.specs.Prelude.{OnOk, MatchOption, vec_capacity}
+use Rattle.std.specs.Prelude.{IfOk, MatchOption, vec_capacity}
 use Rattle.std.specs.declared.result.Result.{Result}
 use Rattle.reg_arena.specs.declared.each.Spare.{Spare}
 use Rattle.reg_arena.specs.Internal.Reserved.{IsBlank, IsRoomFor}
@@ -77,7 +77,8 @@ spare-at none (s ∷ sizes) (o ∷ offsets) (p ∷ spares) (suc place) h within 
 -- after a cell was carved and none was taken
 pub spare-skip : (none : ℕ) (sizes offsets : List ℕ) (spares : List Spare) (place offset : ℕ) → AreSpare none sizes offsets spares → offset ≢ none →
     AreSpare none sizes (set offsets place offset) spares
-spare-skip none [] [] spares place offset h differs = h
+spare-skip none [] [] [] place offset h differs = h
+spare-skip none [] [] (p ∷ spares) place offset h differs = absurd h
 spare-skip none [] (o ∷ offsets) spares place offset h differs = absurd h
 spare-skip none (s ∷ sizes) [] spares place offset h differs = absurd h
 spare-skip none (s ∷ sizes) (o ∷ offsets) [] place offset h differs = absurd h
@@ -87,49 +88,29 @@ spare-skip none (s ∷ sizes) (o ∷ offsets) (p ∷ spares) (suc place) offset 
 -- after it was taken
 pub spare-set : (none : ℕ) (sizes offsets : List ℕ) (spares : List Spare) (place offset : ℕ) (other : Spare) → AreSpare none sizes offsets spares → offset ≢ none →
     AreSpare none sizes (set offsets place offset) (set spares place other)
-spare-set none [] [] spares place offset other h differs = h
+spare-set none [] [] [] place offset other h differs = h
+spare-set none [] [] (p ∷ spares) place offset other h differs = absurd h
 spare-set none [] (o ∷ offsets) spares place offset other h differs = absurd h
 spare-set none (s ∷ sizes) [] spares place offset other h differs = absurd h
 spare-set none (s ∷ sizes) (o ∷ offsets) [] place offset other h differs = absurd h
 spare-set none (s ∷ sizes) (o ∷ offsets) (p ∷ spares) zero offset other h differs = ((λ e. absurd (differs e)), h.1)
 spare-set none (s ∷ sizes) (o ∷ offsets) (p ∷ spares) (suc place) offset other h differs = (h.0, spare-set none sizes offsets spares place offset other h.1 differs)
 
--- one more place, where those before it are as they were
-pub spare-more : (none : ℕ) (sizes offsets : List ℕ) (old new : List Spare) (n size : ℕ) → AreSpare none sizes offsets old → length sizes ≡ n →
-    take n new ≡ take n old → HasSpare new n size → AreSpare none (sizes ++ size ∷ []) (offsets ++ none ∷ []) new
-spare-more none [] [] old [] n size h long front one = absurd (omega (arith, one.there))
-spare-more none [] [] old (q ∷ new) zero size h long front one = ((λ e. one.room q), tt)
-spare-more none [] [] old (q ∷ new) (suc n) size h long front one = absurd (omega (arith, long))
-spare-more none [] (o ∷ offsets) old new n size h long front one = absurd h
-spare-more none (s ∷ sizes) [] old new n size h long front one = absurd h
-spare-more none (s ∷ sizes) (o ∷ offsets) [] new n size h long front one = absurd h
-spare-more none (s ∷ sizes) (o ∷ offsets) (p ∷ old) new zero size h long front one = absurd (omega (arith, long))
-spare-more none (s ∷ sizes) (o ∷ offsets) (p ∷ old) [] (suc n) size h long front one = absurd (omega (arith, one.there))
-spare-more none (s ∷ sizes) (o ∷ offsets) (p ∷ old) (q ∷ new) (suc n) size h long front one =
-    let first : q ≡ p = ap (λ (spares : List Spare). get_or spares 0 p) front in
-    let rest : take n new ≡ take n old = ap (λ (spares : List Spare). drop 1 spares) front in
-    let tail : HasSpare new n size = record { there = omega (arith, one.there); room = λ other. one.room other } in (
-      subst (λ (x : Spare). o ≡ none → MatchOption x.memory ⊥ (λ memory. IsRoomFor memory.items (vec_capacity memory) s)) (sym first) h.0,
-      spare-more none sizes offsets old new n size h.1 (omega (arith, long)) rest tail,
-    )
-
-match-map : {A : Type 0} (P Q : A → Type 0) (x : Option A) → ((a : A) → P a → Q a) → MatchOption x ⊥ P → MatchOption x ⊥ Q
-match-map P Q None f h = h
-match-map P Q (Some a) f h = f a h
+-- one more at the end
+pub spare-more : (none : ℕ) (sizes offsets : List ℕ) (spares : List Spare) (size : ℕ) (spare : Spare) → AreSpare none sizes offsets spares →
+    MatchOption spare.memory ⊥ (λ memory. IsRoomFor memory.items (vec_capacity memory) size) → AreSpare none (sizes ++ size ∷ []) (offsets ++ none ∷ []) (spares ++ spare ∷ [])
+spare-more none [] [] [] size spare h blank = ((λ e. blank), tt)
+spare-more none [] [] (p ∷ spares) size spare h blank = absurd h
+spare-more none [] (o ∷ offsets) spares size spare h blank = absurd h
+spare-more none (s ∷ sizes) [] spares size spare h blank = absurd h
+spare-more none (s ∷ sizes) (o ∷ offsets) [] size spare h blank = absurd h
+spare-more none (s ∷ sizes) (o ∷ offsets) (p ∷ spares) size spare h blank = (h.0, spare-more none sizes offsets spares size spare h.1 blank)
 
 -- memory for a bin of a size, and the zeros in it
 pub room-some : (size bin : ℕ) (items : List ℕ) (capacity : ℕ) → items ≡ [] → bin ≤ capacity → IsBinSize bin size → IsRoomFor items capacity size
 room-some size bin items capacity none room least = record {
   none = none;
   fits = λ n other. (let a = fresh-is n size other in let b = fresh-is bin size least in omega (arith, a, b, room));
-}
-
--- memory of so many bytes at a place is memory for a bin
-pub spare-room : (spares : List Spare) (place size bin : ℕ) → place < length spares → IsBinSize bin size →
-    ((other : Spare) → MatchOption (get_or spares place other).memory ⊥ (λ memory. (memory.items ≡ []) × (bin ≤ vec_capacity memory))) → HasSpare spares place size
-spare-room spares place size bin there least room = record {
-  there = there;
-  room = λ other. match-map _ _ (get_or spares place other).memory (λ memory h. room-some size bin memory.items (vec_capacity memory) h.0 h.1 least) (room other);
 }
 
 pub blank-some : (size bin : ℕ) (blank : List ℕ) → blank ≡ replicate bin 0 → IsBinSize bin size → IsBlank blank size
@@ -148,6 +129,6 @@ pub fresh-pages : (sizes : List ℕ) → fresh_of sizes % 4096 ≡ 0
 fresh-pages [] = omega arith
 fresh-pages (s ∷ sizes) = let rest = fresh-pages sizes in omega (arith, rest)
 
-pub reserved-ok : {A E R : Type 0} (P N : Type 0) (result : Result A E) → R → OnOk result P → OnOk result (N → R × P)
-reserved-ok P N (Ok x) r p = λ none. (r, p)
-reserved-ok P N (Err e) r p = tt
+pub spares-ok : {A E R : Type 0} (P : A → Type 0) (N : Type 0) (result : Result A E) → R → IfOk result P → IfOk result (λ x. N → R × P x)
+spares-ok P N (Ok x) r p = λ none. (r, p)
+spares-ok P N (Err e) r p = tt

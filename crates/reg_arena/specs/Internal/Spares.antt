@@ -3,9 +3,9 @@ use Rattle.std.specs.Prelude.{◌≡◌, ◌<◌, ℕ, List, [], ◌∷◌, leng
 use Rattle.reg_arena.specs.declared.each.Spare.{Spare}
 use Rattle.reg_arena.specs.Internal.Reserved.{IsRoomFor}
 
--- there is memory for a bin for each of these sizes whose place is marked as not carved yet; there may be more of it behind
+-- there is memory for a bin for each of these sizes whose place is marked as not carved yet
 abbrev pub AreSpare : ℕ → List ℕ → List ℕ → List Spare → Type 0
-AreSpare none [] [] spares = ⊤
+AreSpare none [] [] [] = ⊤
 AreSpare none (size ∷ sizes) (offset ∷ offsets) (spare ∷ spares) =
     (offset ≡ none → MatchOption spare.memory ⊥ (λ memory. IsRoomFor memory.items (vec_capacity memory) size)) × AreSpare none sizes offsets spares
 AreSpare none sizes offsets spares = ⊥

@@ -1,8 +1,14 @@
-use Rattle.std.proofs.Common.{◌≡◌, length, ◌-◌, ◌∙◌, vec_len, inr, arith}
+use Rattle.std.proofs.Common.{◌≡◌, length, ◌-◌, ◌∙◌, ap, vec_len, inr, arith}
 use Rattle.std.proofs.lemmas.Grind.{common_steps}
 use Rattle.reg_bins.specs.declared.tables.PageTable.{PageTable}
+use Rattle.reg_bins.specs.Rows.{Table}
 use Rattle.reg_bins.proofs.TablePages.{length-pages, length-more, same-append, longer-append}
 use Rattle.reg_bins.proofs.tables.PageTables.lengthen.Goals as goal
+
+pub returns-then-long-len-clause-ok : goal.returns-then-long-len-clause-ok
+returns-then-long-len-clause-ok c =
+    let long = length-pages c.self.inside.pages.items c.self.invariant in
+    rw (← ap (λ (t : Table). t.items) c.self.view_is) (omega (arith, long, c.if-long-len.true, c.len.ensures, c.self.inside.pages.ok.0))
 
 pub loop-self-preserved : goal.loop-self-preserved
 loop-self-preserved c =
@@ -27,3 +33,15 @@ pub returns-clause-ok : goal.returns-clause-ok
 returns-clause-ok c =
     let long = length-pages c.loop-self.self-inside.pages.items c.loop-self.invariant.whole in
     omega (arith, long, c.loop-self.self-inside.pages.ok.0, c.loop-self-test.false, c.pages_for-pages.ensures.enough)
+
+pub returns-in_err-resize-clause-succeeds : goal.returns-in_err-resize-clause-succeeds
+returns-in_err-resize-clause-succeeds c = λ l.
+    let long = length-pages c.self.inside.pages.items c.self.invariant in
+    let seen = ap (λ (t : Table). length t.items) c.self.view_is in
+    absurd (omega (arith, l, seen, long, c.if-long-len.false, c.len.ensures, c.self.inside.pages.ok.0))
+
+pub returns-in_err-push-clause-succeeds : goal.returns-in_err-push-clause-succeeds
+returns-in_err-push-clause-succeeds c = λ l.
+    let long = length-pages c.self.inside.pages.items c.self.invariant in
+    let seen = ap (λ (t : Table). length t.items) c.self.view_is in
+    absurd (omega (arith, l, seen, long, c.if-long-len.false, c.len.ensures, c.self.inside.pages.ok.0))

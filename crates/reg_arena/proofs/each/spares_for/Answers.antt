@@ -4,8 +4,8 @@ use Rattle.reg_arena.specs.Internal.ListedCells.{IsIndexed}
 use Rattle.reg_arena.specs.Internal.Reserved.{AreReserved}
 use Rattle.reg_arena.proofs.FreeList.ListedArenas.{total-positive, fit-some}
 use Rattle.reg_arena.proofs.Carving.CarveWhole.{total-eights}
-use Rattle.reg_arena.proofs.Carving.SpareBins.{fresh-pages, total-fresh, reserved-ok}
-use Rattle.reg_arena.proofs.each.reserve_bins.Goals as goal
+use Rattle.reg_arena.proofs.Carving.SpareBins.{fresh-pages, total-fresh, spares-ok}
+use Rattle.reg_arena.proofs.each.spares_for.Goals as goal
 
 pub sum_of-requires : goal.sum_of-requires
 sum_of-requires c = omega (arith, total-fresh c.args.sizes.now, c.requires.fresh, c.requires.limit)
@@ -54,4 +54,4 @@ returns-clause-ok c =
       firsts_long = room.firsts;
       words_long = room.words;
     } in
-    reserved-ok _ _ c.keep_spares.result reserved c.keep_spares.ensures
+    spares-ok _ _ c.make_spares.result reserved c.make_spares.ensures
