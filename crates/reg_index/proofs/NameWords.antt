@@ -1,6 +1,5 @@
 -- Names compared by several bytes at once.
-use Rattle.std.proofs.Common.{◌≡◌, ℕ, zero, suc, ◌+◌, ◌-◌, ◌≤◌, List, [], ◌∷◌, length, length-drop, take, drop, refl, sym, ap, ◌∙◌, subst, arith}
-use Rattle.std.proofs.lemmas.List.{take_all}
+use Rattle.std.proofs.Common.{◌≡◌, ℕ, zero, suc, ◌+◌, ◌≤◌, List, [], ◌∷◌, length, take, drop, refl, sym, ap, ◌∙◌, subst, arith}
 use Rattle.std.specs.Int.{w64, to_le_bytes}
 use Rattle.std.specs.Ordering.{nat_cmp, ordering_then}
 use Rattle.std.specs.Cmp.{nat_cmp_is}
@@ -45,25 +44,5 @@ module _ (n : ℕ) (one other first second rest behind : List ℕ) (f : first �
       ∙ (ap (λ xs. ordering_then (name_cmp first second) (name_cmp rest xs)) (sym b)
       ∙ ap (λ o. ordering_then o (name_cmp rest behind)) e))))
 
-  pub decides-less : name_cmp first second ≡ Less → Less ≡ name_cmp one other
-  decides-less e = sym (by-fronts Less e)
-
-  pub decides-greater : name_cmp first second ≡ Greater → Greater ≡ name_cmp one other
-  decides-greater e = sym (by-fronts Greater e)
-
   pub goes-on : name_cmp first second ≡ Equal → name_cmp one other ≡ name_cmp rest behind
   goes-on e = by-fronts Equal e
-
--- two names that begin alike
-whole : (n : ℕ) (a : List ℕ) → take (length a - n) (drop n a) ≡ drop n a
-whole n a = take_all (length a - n) (drop n a) (rw length-drop (omega arith))
-
-pub behind-alike : (n : ℕ) (a b : List ℕ) → take n a ≡ take n b → n ≤ length a → n ≤ length b
-    → name_cmp (take (length a - n) (drop n a)) (take (length b - n) (drop n b)) ≡ name_cmp a b
-behind-alike n a b same l k =
-    ap (λ xs. name_cmp xs (take (length b - n) (drop n b))) (whole n a)
-    ∙ ap (name_cmp (drop n a)) (whole n b)
-    ∙ sym
-    (parted n a b l k
-    ∙ ap (λ xs. ordering_then (name_cmp (take n a) xs) (name_cmp (drop n a) (drop n b))) (sym same)
-    ∙ ap (λ o. ordering_then o (name_cmp (drop n a) (drop n b))) (same-name (take n a)))

@@ -23,7 +23,7 @@ mod root;
 mod splitting;
 
 pub use inserting::insert;
-pub use look::{at, at_place, behind, find, place_behind};
+pub use look::{at, at_place, behind, find, key_behind, place_behind};
 pub use plan::{FIRST_HALF, FIRST_LIST_SIZE, SECOND_HALF, plan_insert};
 pub use removing::remove;
 
@@ -43,6 +43,15 @@ pub struct Place {
     pub list: u32,
     /// Its index in that list, counted from 0.
     pub index: u32,
+}
+
+/// A subkey: its place, and the offset of its key node.
+#[derive(Clone, Copy, Debug)]
+pub struct PlacedKey {
+    /// Where it stands.
+    pub place: Place,
+    /// The offset of its key node.
+    pub key: u32,
 }
 
 /// What an insert takes: the sizes of the cells as they are planned, or the cells that were carved for them.

@@ -15,7 +15,7 @@ ghost use Rattle.reg_index.specs.Internal.IndexLists.{AreKeys, HasLists, StandsA
 ghost use Rattle.reg_index.specs.Internal.NameSearches.{Between, IsListFor};
 
 use crate::order::order;
-use crate::{Place, SubkeysIndex};
+use crate::{Place, PlacedKey, SubkeysIndex};
 use byteorder::{ByteOrder, LittleEndian};
 use reg_arena::Arena;
 use reg_records::{ListForm, ListHead, entry_at, nk_name, read_list};
@@ -217,6 +217,37 @@ pub fn place_behind(arena: &Arena, list: SubkeysIndex, place: Place) -> Option<P
         });
     }
     None
+}
+
+/// The subkey behind the one at a place, in the order of folded names, if there is one. In the place's list the list's cell is looked up
+/// once.
+pub fn key_behind(arena: &Arena, list: SubkeysIndex, place: Place) -> Option<PlacedKey>
+    requires subkeys { (entries : List Entry) × AreSubkeys (heap_of arena.now) list.count list.offset entries }
+    requires place { StandsIn (index_of (heap_of arena.now) list.count list.offset) place }
+    ensures place { (entries : List Entry) → AreSubkeys (heap_of arena.now) list.count list.offset entries →
+        MatchOption result (length entries ≤ flat (heap_of arena.now) list.count list.offset place + 1)
+        (λ next. StandsIn (index_of (heap_of arena.now) list.count list.offset) next.place
+        × (flat (heap_of arena.now) list.count list.offset next.place ≡ flat (heap_of arena.now) list.count list.offset place + 1)) }
+    ensures key { (entries : List Entry) → AreSubkeys (heap_of arena.now) list.count list.offset entries →
+        IfSome result (λ next. (get_or entries (flat (heap_of arena.now) list.count list.offset next.place) (record { offset = 0; hint = 0 })).offset
+        ≡ next.key) }
+{
+    let leaf = leaf_under(arena, arena.content(list.offset), place.list);
+    let next = Place {
+        list: place.list,
+        index: place.index + 1,
+    };
+    if next.index < count_in(leaf) {
+        return Some(PlacedKey {
+            place: next,
+            key: offset_in(leaf, next.index),
+        });
+    }
+    let first = place_behind(arena, list, place)?;
+    Some(PlacedKey {
+        place: first,
+        key: at_place(arena, list, first),
+    })
 }
 
 /// The offset of the key behind the one at a place, in the order of folded names, if there is one.

@@ -14,7 +14,7 @@ ghost use Rattle.reg_tree.specs.Internal.ReachedPlaces.{IsPlaceAt, IsPlaceOf, Is
 use crate::key::{fields, subkeys_list};
 use crate::{Node, Place, Subkey};
 use reg_arena::Arena;
-use reg_index::{SubkeysIndex, at, at_place, behind, len, place_behind};
+use reg_index::{SubkeysIndex, at, at_place, behind, key_behind, len};
 use reg_records::nk_name;
 use reg_security::descriptor as descriptor_in;
 
@@ -158,8 +158,14 @@ pub fn next_subkey(arena: &Arena, node: Node, place: Place) -> Option<Subkey>
         (children_of (tree_in arena.now.bytes t.root) t.path) node (place_index (heap_of arena.now) node.offset place + 1) result }
 {
     let list = subkeys_list(arena, node.offset);
-    let Some(next) = place_behind(arena, list, place) else {
+    let Some(next) = key_behind(arena, list, place) else {
         return None;
     };
-    Some(subkey_at(arena, node, list, next))
+    Some(Subkey {
+        node: Node {
+            offset: next.key,
+            depth: node.depth + 1,
+        },
+        place: next.place,
+    })
 }
