@@ -1,6 +1,6 @@
 //! `new`, `dump`, `check` on files of the system, and what goes to standard input still.
-use crate::support::Deed::{Block, Edit, Keep, Names, Put, Run, Same};
 use crate::support::{assert_told, tale};
+use reg_file_deeds::Deed::{Block, Edit, Keep, Names, Put, Run, Same};
 use std::test::Fail;
 
 #[test]

@@ -1,6 +1,6 @@
 //! `edit` on files of the system.
-use crate::support::Deed::{Block, Edit, IsLink, Keep, Link, Mode, Names, Permit, Put, Run, Same};
 use crate::support::{assert_told, made_at_now, tale, tale_while_held};
+use reg_file_deeds::Deed::{Block, Edit, IsLink, Keep, Link, Mode, Names, Permit, Put, Run, Same};
 use std::alloc::{AllocError, Global};
 use std::test::Fail;
 

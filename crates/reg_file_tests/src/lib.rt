@@ -1,5 +1,4 @@
-//! Tests of the tool on files: with files of the system in a folder of their own, and with a host that refuses a step. There is nothing
-//! here but tests, and so no contract.
+//! Tests of the tool's commands on files of the system, in a folder of their own. There is nothing here but tests, and so no contract.
 //!
 //! The wanted texts and bytes come from the manual and from the format's tables.
 #![tactic(auto)]
@@ -7,13 +6,9 @@
 #[cfg(test)]
 mod commands;
 #[cfg(test)]
-mod devices;
-#[cfg(test)]
 mod edits;
 #[cfg(test)]
 mod looks;
-#[cfg(test)]
-mod refusals;
 #[cfg(test)]
 mod searches;
 #[cfg(test)]

@@ -1,6 +1,6 @@
 //! `find` and `diff` on files of the system.
-use crate::support::Deed::{Edit, Put, Run};
 use crate::support::{assert_told, tale};
+use reg_file_deeds::Deed::{Edit, Put, Run};
 use std::test::Fail;
 
 /// Makes `A` with a number `V` and a default string, and `A\\b`.

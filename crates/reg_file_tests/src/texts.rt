@@ -1,6 +1,6 @@
 //! `export` and `import` on files of the system.
-use crate::support::Deed::{Block, Edit, Keep, Names, Put, Run, Same};
 use crate::support::{assert_told, tale};
+use reg_file_deeds::Deed::{Block, Edit, Keep, Names, Put, Run, Same};
 use std::test::Fail;
 
 /// Makes `A` with a number, a default string and bytes, and `A\b`.

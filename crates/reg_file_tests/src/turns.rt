@@ -1,6 +1,7 @@
 //! `edit` by a pipe, call by call: each line of the script comes once the replies to those before it were passed on.
-use crate::support::Deed::{Block, Run};
-use crate::support::{assert_told, new_folder, tale_in};
+use crate::support::{assert_told, tale_in};
+use reg_file_deeds::Deed::{Block, Run};
+use reg_file_deeds::new_folder;
 use reg_files::{Input, file_tool};
 use std::alloc::Global;
 use std::cell::Cell;

@@ -1,8 +1,9 @@
 //! A host that refuses a step: whatever that is, the file is as it was, and nothing is left beside it.
 ghost use Rattle.std.specs.Prelude.{◌≤◌, IfOk};
 
-use crate::support::Deed::{Block, Edit, Keep, Names, Run, Same};
-use crate::support::{assert_told, new_folder, tale, tale_in};
+use crate::support::{assert_told, tale, tale_in};
+use reg_file_deeds::Deed::{Block, Edit, Keep, Names, Run, Same};
+use reg_file_deeds::new_folder;
 use reg_files::Lockable;
 use std::alloc::{AllocError, Allocator, Global};
 use std::fs::{File, Metadata, OpenFile, OpenOptions, Permissions, TryLockError};

@@ -1,6 +1,7 @@
 //! Files that can't be read or written, and a standard output that takes nothing.
-use crate::support::Deed::{Edit, Full, Keep, Link, Names, Permit, Put, Run, Same};
-use crate::support::{Deed, assert_told, is_root, tale};
+use crate::support::{assert_told, tale};
+use reg_file_deeds::Deed::{Edit, Full, Keep, Link, Names, Permit, Put, Run, Same};
+use reg_file_deeds::{Deed, is_root};
 use std::alloc::Global;
 use std::test::Fail;
 
