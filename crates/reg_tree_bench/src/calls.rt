@@ -18,8 +18,16 @@ const FIRST: usize = 24;
 /// How many it has once it was set again, which takes another cell.
 const THEN: usize = 96;
 
-/// How many bytes the value of each key has in the tree whose memory is looked at.
-const LARGE: usize = 1_000;
+/// What keys have in a tree whose memory is looked at.
+#[derive(Clone, Copy, Debug)]
+pub struct Filling {
+    /// How many keys there are at each of two levels.
+    pub levels: [u32; 2],
+    /// How many values each has.
+    pub values: u32,
+    /// How many bytes each value has.
+    pub size: usize,
+}
 
 /// As many bytes as a value may have.
 const LARGEST: usize = 1_048_576;
@@ -64,16 +72,16 @@ fn make_all(tree: &mut Tree, alloc: Global, paths: &[String]) -> Result<()> {
 fn set_all(tree: &mut Tree, alloc: Global, paths: &[String], size: usize) -> Result<()> {
     let bytes = vec![in alloc; 7; size]?;
     for path in paths {
-        set_one(tree, alloc, path.as_bytes(), bytes.as_slice())?;
+        set_one(tree, alloc, path.as_bytes(), NAME, bytes.as_slice())?;
     }
     Ok(())
 }
 
-fn set_one(tree: &mut Tree, alloc: Global, path: &[u8], bytes: &[u8]) -> Result<()> {
+fn set_one(tree: &mut Tree, alloc: Global, path: &[u8], name: &[u8], bytes: &[u8]) -> Result<()> {
     let Ok(()) = check_path(path) else {
         bail!("that is no path");
     };
-    let Ok(()) = check_value_name(NAME) else {
+    let Ok(()) = check_value_name(name) else {
         bail!("that is no name");
     };
     let Some(node) = tree.resolve(tree.root(), path) else {
@@ -82,7 +90,7 @@ fn set_one(tree: &mut Tree, alloc: Global, path: &[u8], bytes: &[u8]) -> Result<
     if bytes.len() > LARGEST {
         bail!("that is too long");
     }
-    let Ok(()) = tree.set_value(alloc, node, NAME, 3, bytes, 2) else {
+    let Ok(()) = tree.set_value(alloc, node, name, 3, bytes, 2) else {
         bail!("a value was not set");
     };
     Ok(())
@@ -183,19 +191,29 @@ pub fn measure_largest(rt: &(impl Print + Clock), alloc: Global) -> Result<()> {
 }
 
 /// Makes a large tree, and prints how many bytes its bins have.
-pub fn fill_large(rt: &impl Print, alloc: Global, levels: [u32; 2]) -> Result<()> {
+pub fn fill_large(rt: &impl Print, alloc: Global, filling: Filling) -> Result<()> {
     let mut tree = new_tree(alloc)?;
-    let [first, second] = levels;
+    let [first, _second] = filling.levels;
     for a in 0..first {
-        fill_below(&mut tree, alloc, a, second)?;
+        fill_below(&mut tree, alloc, a, filling)?;
     }
     println!(rt; "memory: {} bytes of bins", tree.arena().bins_size())?;
     Ok(())
 }
 
+/// Sets the values of a key.
+fn fill_key(tree: &mut Tree, alloc: Global, path: &[u8], filling: Filling) -> Result<()> {
+    let bytes = vec![in alloc; 7; filling.size]?;
+    for value in 0..filling.values {
+        let name = format!(in alloc; "Value{value}")?;
+        set_one(tree, alloc, path, name.as_bytes(), bytes.as_slice())?;
+    }
+    Ok(())
+}
+
 /// Makes the keys below one, with their values: so no more than their paths are in memory at a time.
-fn fill_below(tree: &mut Tree, alloc: Global, above: u32, count: u32) -> Result<()> {
-    let bytes = vec![in alloc; 7; LARGE]?;
+fn fill_below(tree: &mut Tree, alloc: Global, above: u32, filling: Filling) -> Result<()> {
+    let [_first, count] = filling.levels;
     for below in 0..count {
         let path = format!(in alloc; "Key{above}\\Key{below}")?;
         let Ok(()) = check_path(path.as_bytes()) else {
@@ -205,7 +223,7 @@ fn fill_below(tree: &mut Tree, alloc: Global, above: u32, count: u32) -> Result<
         let Ok(_) = tree.create(alloc, root, path.as_bytes(), None, 1) else {
             bail!("a key was not made");
         };
-        set_one(tree, alloc, path.as_bytes(), bytes.as_slice())?;
+        fill_key(tree, alloc, path.as_bytes(), filling)?;
     }
     Ok(())
 }

@@ -2,15 +2,17 @@
 //! tree be seen.
 //!
 //! `reg_tree_bench measure` prints how many of a million carves took above a millisecond, and five times how long a query, a set and a
-//! walk take over 60,000 keys, and a set of a value of 1 MiB. `reg_tree_bench memory` makes a tree of some 200 MiB, and prints how many bytes its bins have: what the
-//! process has beside is read off the system, as `/usr/bin/time -v` does. Without an argument it does little of the first two and prints
-//! counts alone, which are the same on every run.
+//! walk take over 60,000 keys, and a set of a value of 1 MiB. `reg_tree_bench memory` makes a tree of some 200 MiB, and prints how many
+//! bytes its bins have, and `reg_tree_bench large` one with larger values: what the process has beside is read off the system, as
+//! `/usr/bin/time -v` does. Without an argument it does little of the first two and prints counts alone, which are the same on every
+//! run.
 #![tactic(auto)]
 
 mod calls;
 mod carves;
 
 use anyhow::{Result, bail};
+use calls::Filling;
 use std::alloc::Global;
 use std::env;
 use std::rt::Clock;
@@ -21,8 +23,19 @@ const SMALL: [u32; 2] = [3, 4];
 /// How many there are while time is taken.
 const FULL: [u32; 2] = [300, 200];
 
-/// How many there are in the tree whose memory is looked at.
-const LARGE: [u32; 2] = [900, 200];
+/// The tree whose memory is looked at: many keys, each with a value that is less than a page.
+const MANY_KEYS: Filling = Filling {
+    levels: [900, 200],
+    values: 1,
+    size: 1_000,
+};
+
+/// Another one: keys with values of more than a page, whose bins have two.
+const LARGE_VALUES: Filling = Filling {
+    levels: [52, 60],
+    values: 8,
+    size: 6_000,
+};
 
 /// How often calls are measured.
 const RUNS: u32 = 5;
@@ -52,7 +65,8 @@ fn main(rt: HostRuntime) -> Result<()> {
     };
     match word.as_str() {
         "measure" => measure(&rt, alloc),
-        "memory" => calls::fill_large(&rt, alloc, LARGE),
-        _ => bail!("the words are: measure, memory"),
+        "memory" => calls::fill_large(&rt, alloc, MANY_KEYS),
+        "large" => calls::fill_large(&rt, alloc, LARGE_VALUES),
+        _ => bail!("the words are: measure, memory, large"),
     }
 }
