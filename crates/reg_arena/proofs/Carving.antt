@@ -14,3 +14,4 @@ pub mod LargestLeft
 pub mod FallingCells
 pub mod GrownBins
 pub mod SpareBins
+pub mod KeptPages

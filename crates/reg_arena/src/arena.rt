@@ -46,12 +46,13 @@ pub struct Arena {
 impl Model for Arena {
     ghost use Rattle.reg_arena.specs.Arena.{Bins};
     ghost use Rattle.reg_arena.specs.Internal.ListedCells.{IsKept};
+    ghost use Rattle.reg_arena.specs.Internal.Spares.{ArePages};
 
     ghost Value = { Bins };
 
     ghost view = { λ a. record { bytes = a.bins.items; heads = a.lists.heads } };
 
-    ghost invariant = { λ a. IsKept a.bins a.lists };
+    ghost invariant = { λ a. IsKept a.bins a.lists × ArePages a.kept.items };
 }
 
 impl Arena {

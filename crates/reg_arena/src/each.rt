@@ -12,7 +12,7 @@ ghost use Rattle.reg_arena.specs.EachCell.{fresh_bin, fresh_of, AreCarvable, Eac
 ghost use Rattle.reg_arena.specs.Internal.ListedCells.{IsIndexed};
 ghost use Rattle.reg_arena.specs.Internal.BinParts.{IsSplit};
 ghost use Rattle.reg_arena.specs.Internal.Reserved.{AreReserved, IsRoomFor, KeepsRoom};
-ghost use Rattle.reg_arena.specs.Internal.Spares.{AreSpare, HasSpare};
+ghost use Rattle.reg_arena.specs.Internal.Spares.{ArePages, AreSpare, HasSpare, IsPage};
 
 use crate::ArenaFault;
 use crate::bin::{PAGE_SIZE, bin_size};
@@ -49,18 +49,20 @@ pub struct Spare {
 
 // Memory for a bin of one page that was kept, if there is some.
 fn kept_page(kept: &mut Vec<Spare>) -> Option<Vec<u8>>
-    ensures { MatchOption result ⊤ (λ memory. (memory.items ≡ []) × (4096 ≤ vec_capacity memory)) }
+    ensures page { MatchOption result ⊤ (λ memory. (memory.items ≡ []) × (vec_capacity memory ≡ 4096)) }
+    ensures pages { ArePages kept.old.items → ArePages kept.new.items }
 {
     let memory = kept.pop()?.memory?;
-    if memory.is_empty() && memory.capacity() >= PAGE_SIZE as usize {
+    if memory.is_empty() && memory.capacity() == PAGE_SIZE as usize {
         return Some(memory);
     }
     None
 }
 
-// Memory for a bin: for one of one page what was kept, and else new one.
+// Memory for a bin, no more than it takes: for one of one page what was kept, and else new one.
 fn memory_for(alloc: Global, kept: &mut Vec<Spare>, size: u32) -> Result<Vec<u8>, AllocError>
-    ensures { IfOk result (λ memory. (memory.items ≡ []) × (size ≤ vec_capacity memory)) }
+    ensures exact { IfOk result (λ memory. (memory.items ≡ []) × (vec_capacity memory ≡ size)) }
+    ensures pages { ArePages kept.old.items → ArePages kept.new.items }
 {
     if size == PAGE_SIZE {
         if let Some(memory) = kept_page(kept) {
@@ -77,7 +79,8 @@ fn make_spares(
     sizes: &[u32],
 ) -> Result<Vec<Spare>, AllocError>
     requires { AreCarvable sizes.now }
-    ensures { IfOk result (λ spares. AreSpare NONE sizes.now (replicate (length sizes.now) NONE) spares.items) }
+    ensures spares { IfOk result (λ spares. AreSpare NONE sizes.now (replicate (length sizes.now) NONE) spares.items) }
+    ensures pages { ArePages kept.old.items → ArePages kept.new.items }
 {
     let mut spares = Vec::new(alloc);
     for size in sizes {
@@ -111,6 +114,7 @@ fn spares_for(
     ensures ok { IfOk result (λ spares. NoFit bins.old.items (total_of sizes.now) →
         AreReserved (length bins.old.items + fresh_of sizes.now) bins.new.room lists.new
         × AreSpare NONE sizes.now (replicate (length sizes.now) NONE) spares.items) }
+    ensures pages { ArePages kept.old.items → ArePages kept.new.items }
 {
     if let Some(_fit) = lists.best_fit(bins, sum_of(sizes)) {
         return Ok(Vec::new(alloc));
@@ -120,16 +124,31 @@ fn spares_for(
     make_spares(alloc, kept, sizes)
 }
 
-// Keeps memory for bins of one page that was not needed, as long as there is little of it. The rest is given back.
-fn keep_pages(kept: &mut Vec<Spare>, spares: Vec<Spare>) {
+// Whether it is memory for a bin of one page.
+fn is_page(spare: &Spare) -> bool
+    ensures { (result ≡ true) ↔ IsPage spare.now }
+{
+    match &spare.memory {
+        Some(memory) => memory.capacity() == PAGE_SIZE as usize,
+        None => false,
+    }
+}
+
+// Keeps memory for a bin of one page that was not needed, as long as there is little of it. Else it is given back.
+fn keep_page(kept: &mut Vec<Spare>, spare: Spare)
+    ensures { ArePages kept.old.items → ArePages kept.new.items }
+{
+    if kept.len() < KEPT && is_page(&spare) {
+        let _ = kept.push(spare);
+    }
+}
+
+// The same for each of some.
+fn keep_pages(kept: &mut Vec<Spare>, spares: Vec<Spare>)
+    ensures { ArePages kept.old.items → ArePages kept.new.items }
+{
     for spare in spares {
-        let is_page = match &spare.memory {
-            Some(memory) => memory.capacity() == PAGE_SIZE as usize,
-            None => false,
-        };
-        if is_page && kept.len() < KEPT && kept.push(spare).is_err() {
-            return;
-        }
+        keep_page(kept, spare);
     }
 }
 
@@ -308,6 +327,7 @@ pub fn carve_cells(
     ensures err { OnErr result ((bins.new.items ≡ bins.old.items) × (lists.new.heads ≡ lists.old.heads) × (out.new.items ≡ out.old.items)) }
     ensures grows { OnOk result (length bins.new.items ≤ length bins.old.items + fresh_of sizes.now) }
     ensures kept { OnOk result (length bins.old.items ≤ length bins.new.items) }
+    ensures pages { ArePages kept.old.items → ArePages kept.new.items }
 {
     let Some(fresh) = fresh_within(sizes, BINS_LIMIT - bins.len() as u32) else {
         return Err(ArenaFault::Full);

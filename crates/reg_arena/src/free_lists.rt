@@ -2,7 +2,7 @@
 //!
 //! The cells of one size below 16,384 bytes stand side by side in their list. For each such size there is its first cell, and
 //! a bit that says whether there is one: so their best fit is found without a walk. From 16,384 bytes on the list is walked.
-ghost use Rattle.std.specs.Prelude.{◌≡◌, ℕ, ◌-◌, ◌/◌, ◌%◌, ◌≤◌, ◌<◌, ◌⊎◌, List, [], replicate, length, MatchOption, OnOk};
+ghost use Rattle.std.specs.Prelude.{◌≡◌, ℕ, ◌-◌, ◌/◌, ◌%◌, ◌≤◌, ◌<◌, ◌⊎◌, List, [], replicate, length, MatchOption, OnOk, IsOk, vec_capacity};
 ghost use Rattle.reg_heap.specs.declared.limits.TheConstants.{NONE};
 ghost use Rattle.reg_arena.specs.Internal.SizeTables.{bit_in, start_in, IsLeast, counted};
 ghost use Rattle.reg_arena.specs.Internal.Reserved.{KeepsTables};
@@ -93,6 +93,7 @@ impl FreeLists {
         ensures listed { (bytes : List ℕ) → (sizes : ℕ → ℕ) → IsListed bytes sizes self.old → IsListed bytes sizes self.new }
         ensures heads { self.new.heads ≡ self.old.heads }
         ensures ok { OnOk result (HasRoom units self.new) }
+        ensures succeeds { HasRoom units self.old → IsOk result }
         ensures keeps { KeepsTables self.old self.new }
     {
         lengthen(&mut self.firsts, SIZES, NONE)?;

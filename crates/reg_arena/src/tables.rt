@@ -1,5 +1,5 @@
 //! Side tables, with a number for each eight bytes of the bins or for each size.
-ghost use Rattle.std.specs.Prelude.{◌≡◌, ℕ, ◌+◌, ◌-◌, ◌/◌, ◌≤◌, ◌<◌, max, length, get_or, OnOk};
+ghost use Rattle.std.specs.Prelude.{◌≡◌, ℕ, ◌+◌, ◌-◌, ◌/◌, ◌≤◌, ◌<◌, max, length, get_or, OnOk, IsOk};
 ghost use Rattle.reg_heap.specs.declared.limits.TheConstants.{NONE};
 ghost use Rattle.reg_arena.specs.Internal.SizeTables.{marked, ended, tagged, untagged};
 
@@ -54,7 +54,9 @@ pub fn lengthen(table: &mut Vec<u32>, long: usize, number: u32) -> Result<(), Al
     requires { long ≤ 33554432 }
     ensures same { (place : ℕ) → get_or table.new.items place number ≡ get_or table.old.items place number }
     ensures longer { length table.old.items ≤ length table.new.items }
+    ensures most { length table.new.items ≤ max (length table.old.items) long }
     ensures ok { OnOk result (long ≤ length table.new.items) }
+    ensures succeeds { long ≤ length table.old.items → IsOk result }
 {
     if long <= table.len() {
         return Ok(());
@@ -69,6 +71,7 @@ pub fn lengthen_words(table: &mut Vec<u64>, long: usize) -> Result<(), AllocErro
     ensures longer { length table.old.items ≤ length table.new.items }
     ensures most { length table.new.items ≤ max (length table.old.items) long }
     ensures ok { OnOk result (long ≤ length table.new.items) }
+    ensures succeeds { long ≤ length table.old.items → IsOk result }
 {
     if long <= table.len() {
         return Ok(());

@@ -69,13 +69,14 @@ impl PageTables {
         self.pages[place / PAGE].numbers[place % PAGE] = number;
     }
 
-    /// At least so many numbers, at most 511 and a sixteenth more, the new ones all 0; or as many as there were, where those are more.
-    /// What was there stays. Where memory is refused, some of the new ones may be there.
+    /// At least so many numbers, at most 511 and a sixteenth more, and never more than 8,191 more, the new ones all 0; or as many as
+    /// there were, where those are more. What was there stays. Where memory is refused, some of the new ones may be there.
     pub fn lengthen(&mut self, long: usize) -> Result<(), AllocError>
         requires { long ≤ 33554432 }
         ensures same { (place : ℕ) → get_or self.new.items place 0 ≡ get_or self.old.items place 0 }
         ensures longer { length self.old.items ≤ length self.new.items }
         ensures most { (length self.new.items ≡ length self.old.items) ⊎ (length self.new.items ≤ long + long / 16 + 511) }
+        ensures few { (length self.new.items ≡ length self.old.items) ⊎ (length self.new.items ≤ long + 8191) }
         ensures ok { OnOk result (long ≤ length self.new.items) }
         ensures succeeds { long ≤ length self.old.items → IsOk result }
     {
@@ -98,6 +99,7 @@ fn pages_for(long: usize) -> usize
     requires { long ≤ 33554432 }
     ensures enough { long ≤ 512 * result }
     ensures most { 512 * result ≤ long + long / 16 + 511 }
+    ensures few { 512 * result ≤ long + 8191 }
 {
     let pages = (long + PAGE - 1) / PAGE;
     if pages < MANY {

@@ -21,7 +21,8 @@ use Rattle.reg_index.proofs.LeafParts.{Leaf, leaf-open, leaf-made}
 pub changed-here : (old new : Heap) (cell : ℕ) (now : Option (List ℕ)) → ((offset : ℕ) → new offset ≡ cond (offset == cell) now (old offset)) → new cell ≡ now
 changed-here old new cell now is = is cell ∙ ap (λ b. cond b now (old cell)) (eq-eqb cell cell refl)
 
-pub changed-others : (old new : Heap) (cell : ℕ) (now : Option (List ℕ)) → ((offset : ℕ) → new offset ≡ cond (offset == cell) now (old offset)) → (offset : ℕ) → offset ≢ cell → new offset ≡ old offset
+pub changed-others : (old new : Heap) (cell : ℕ) (now : Option (List ℕ)) → ((offset : ℕ) → new offset ≡ cond (offset == cell) now (old offset)) →
+    (offset : ℕ) → offset ≢ cell → new offset ≡ old offset
 changed-others old new cell now is offset n = is offset ∙ ap (λ b. cond b now (old offset)) (ne_eqb offset cell n)
 
 held-of : (heap : Heap) (cell : ℕ) (content : List ℕ) → heap cell ≡ Some content → held heap cell ≡ content

@@ -115,7 +115,8 @@ over h0 h1 cell number offset small one offsets is l =
     ∙ (ap (λ a. offsets_at m a c) next ∙ back-is h0 cell (suc number) m offsets root second) in
     root-made h1 cell d (take number offsets ++ offset ∷ drop (suc number) offsets) (length offsets) one (form-same c d head ∙ root.says.form)
     (half-same c d head ∙ root.says.count) (omega (arith, length-splice (4 + 4 * number) piece c fits, big))
-    (ap (λ n. offsets_at n 4 d) first ∙ (offsets-append number (suc m) 4 d ∙ next-offset number m d offset (take number offsets) (drop (suc number) offsets) front (put-word c (4 + 4 * number) offset fits small) back))
+    (ap (λ n. offsets_at n 4 d) first ∙ (offsets-append number (suc m) 4 d
+    ∙ next-offset number m d offset (take number offsets) (drop (suc number) offsets) front (put-word c (4 + 4 * number) offset fits small) back))
 
 -- ---- one put in
 
@@ -236,7 +237,8 @@ written-room old new cell size content room w = record {
 pub root-same : (heap : Heap) (cell : ℕ) (a b : List ℕ) → IsRoot heap cell a → IsRoot heap cell b → a ≡ b
 root-same heap cell a b x y = plain-same a b (ap (λ (l : SubkeysList). l.entries) (same_Some _ _ (sym x ∙ y)))
 
-pub same-count : (heap : Heap) (cell count : ℕ) → ((offsets : List ℕ) × IsRoot heap cell offsets × (length offsets ≡ count)) → (offsets : List ℕ) → IsRoot heap cell offsets → length offsets ≡ count
+pub same-count : (heap : Heap) (cell count : ℕ) → ((offsets : List ℕ) × IsRoot heap cell offsets × (length offsets ≡ count)) →
+    (offsets : List ℕ) → IsRoot heap cell offsets → length offsets ≡ count
 same-count heap cell count s offsets is = ap length (root-same heap cell offsets s.0 is s.1) ∙ s.2
 
 -- ---- two in the stead of one

@@ -12,7 +12,8 @@ use Rattle.reg_index.specs.declared.Place.{Place}
 use Rattle.reg_index.specs.declared.IndexCells.{IndexCells}
 use Rattle.reg_index.specs.Internal.HashLeaves.{IsLeaf}
 use Rattle.reg_index.specs.Internal.IndexLists.{AreExchanged, HasOneMore, HasRoomAt, HasRoomForTwo, cells_under, grown, halves}
-use Rattle.reg_index.specs.Subkeys.{AreSubkeys, IsIndexFor, IsReady, Moves, each_of, entries_in, entry_for, exchanged, flat, index_of, index_under, insert_sizes, leaf_list, lists_with, name_at, names_in, numbered, own, parted, taken, with_one}
+use Rattle.reg_index.specs.Subkeys.{AreSubkeys, IsIndexFor, IsReady, Moves, each_of, entries_in, entry_for, exchanged, flat, index_of, index_under}
+use Rattle.reg_index.specs.Subkeys.{insert_sizes, leaf_list, lists_with, name_at, names_in, numbered, own, parted, taken, with_one}
 use Rattle.reg_index.proofs.EntriesExchanged.{entries-with, halves-entries, leaf-entries}
 use Rattle.reg_index.proofs.EntryKeys.{keys-with, length-with}
 use Rattle.reg_index.proofs.FoundPlaces.{flat-read, result-length}
@@ -96,7 +97,8 @@ module _ (old new : Heap) (count offset result : ℕ) (place : Place) (entry : E
       ))
       (λ l. at (omega (arith, l, length-exchanged place.list (list ∷ []) (lists_of s.index) r.within)) ∙ ap (λ o. unwrap_or o offset) (sym rootless))
 
-  pub halved-more : (first second : ℕ) → cells.list ≡ Some first → cells.second ≡ Some second → each_of cells ≡ first ∷ second ∷ taken cells.root → HasRoomForTwo old offset (lists_of s.index) place first second cells.root →
+  pub halved-more : (first second : ℕ) → cells.list ≡ Some first → cells.second ≡ Some second → each_of cells ≡ first ∷ second ∷ taken cells.root →
+      HasRoomForTwo old offset (lists_of s.index) place first second cells.root →
       result ≡ unwrap_or cells.root offset →
       AreExchanged old new offset (lists_of s.index) result
       (exchanged place.list (halves first second (with_one place.index entry (numbered place.list (lists_of s.index)).list.entries)) (lists_of s.index)) (first ∷ second ∷ taken cells.root)

@@ -59,6 +59,12 @@ IsIndexFor names name (Err index) =
     × ((k : ℕ) → k < index → slice_cmp nat_cmp (get_or names k []) name ≡ Less)
     × ((k : ℕ) → index ≤ k → k < length names → slice_cmp nat_cmp name (get_or names k []) ≡ Less)
 
+-- the key of a folded name among entries whose names rise, or none where no entry has the name
+abbrev pub IsKeyNamed : Heap → List Entry → List ℕ → Option ℕ → Type 0
+IsKeyNamed heap entries name (Some key) =
+    (index : ℕ) × IsIndexFor (names_in heap entries) name (Ok index) × ((get_or entries index (record { offset = 0; hint = 0 })).offset ≡ key)
+IsKeyNamed heap entries name None = (index : ℕ) × IsIndexFor (names_in heap entries) name (Err index)
+
 -- the entry of a key: its offset, and the hash of its name
 abbrev pub entry_for : Heap → ℕ → Entry
 entry_for heap key = record { offset = key; hint = hash (name_at heap key) }

@@ -23,7 +23,7 @@ mod root;
 mod splitting;
 
 pub use inserting::insert;
-pub use look::{at, at_place, behind, find, key_behind, place_behind};
+pub use look::{at, at_place, behind, find, find_key, key_behind, place_behind};
 pub use plan::{FIRST_HALF, FIRST_LIST_SIZE, SECOND_HALF, plan_insert};
 pub use removing::remove;
 

@@ -9,7 +9,7 @@ ghost use Rattle.reg_arena.specs.Arena.{heap_of};
 ghost use Rattle.reg_records.specs.KeyNodes.{key_at};
 ghost use Rattle.reg_records.specs.SubkeyLists.{Entry, SubkeysList};
 ghost use Rattle.reg_shape.specs.Nodes.{KeyList, list_at};
-ghost use Rattle.reg_index.specs.Subkeys.{AreSubkeys, IsIndexFor, IsPlaceIn, StandsIn, entries_in, flat, flat_among, flat_found, index_of, name_at, names_in, numbered};
+ghost use Rattle.reg_index.specs.Subkeys.{AreSubkeys, IsIndexFor, IsKeyNamed, IsPlaceIn, StandsIn, entries_in, flat, flat_among, flat_found, index_of, name_at, names_in, numbered};
 ghost use Rattle.reg_index.specs.Internal.HashLeaves.{IsLeaf};
 ghost use Rattle.reg_index.specs.Internal.IndexLists.{AreKeys, HasLists, StandsAmong};
 ghost use Rattle.reg_index.specs.Internal.NameSearches.{Between, IsListFor};
@@ -366,5 +366,24 @@ pub fn find(arena: &Arena, list: SubkeysIndex, name: &[u8]) -> Result<Place, Pla
             list: number,
             index,
         }),
+    }
+}
+
+/// The offset of the key of a name, if there is one: a binary search among the lists, and one in a list. It tells no place, and doesn't
+/// look at the last name first, since a name that is asked for is seldom behind all others.
+pub fn find_key(arena: &Arena, list: SubkeysIndex, name: &[u8]) -> Option<u32>
+    requires { (entries : List Entry) × AreSubkeys (heap_of arena.now) list.count list.offset entries }
+    ensures { (entries : List Entry) → AreSubkeys (heap_of arena.now) list.count list.offset entries →
+        IsKeyNamed (heap_of arena.now) entries (folded name.now) result }
+{
+    if list.count == 0 {
+        return None;
+    }
+    let root = arena.content(list.offset);
+    let number = list_for(arena, root, name);
+    let leaf = leaf_under(arena, root, number);
+    match find_in(arena, leaf, name) {
+        Ok(index) => Some(offset_in(leaf, index)),
+        Err(_) => None,
     }
 }

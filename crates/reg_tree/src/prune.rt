@@ -15,7 +15,6 @@ ghost use Rattle.reg_tree.specs.Internal.KeyDeletion.{IsPruned, IsEmptied};
 ghost use Rattle.reg_tree.specs.Internal.KeyOrder.{HasTop, IsAbove, IsNextKey, TellsMarks};
 ghost use Rattle.reg_tree.specs.Internal.TreeDeletion.{IsFirstSubkey, IsBared, if_valued};
 
-use crate::find::PlacedKey;
 use crate::key::{fields, note_values, subkeys_list, values_list};
 use crate::read::{subkey, subkey_behind};
 use crate::unmake::{delete_at, has_children, is_kept, place_of};
@@ -23,7 +22,7 @@ use crate::{Node, Place, TreeFault};
 use reg_arena::Arena;
 use reg_heap::limits::NONE;
 use reg_heap::marks::NO_DELETE;
-use reg_index::at_place;
+use reg_index::{PlacedKey, at_place};
 use reg_security::SecurityTable;
 use reg_values::{ValuesList, clear};
 
@@ -125,8 +124,8 @@ fn first_subkey(arena: &Arena, key: u32) -> Option<PlacedKey>
     }
     let place = Place { list: 0, index: 0 };
     Some(PlacedKey {
-        offset: at_place(arena, list, place),
         place,
+        key: at_place(arena, list, place),
     })
 }
 
@@ -150,13 +149,13 @@ fn delete_under(arena: &mut Arena, securities: &mut SecurityTable, top: u32, mom
             node = parent_of(arena, node);
             continue;
         };
-        if has_children(arena, first.offset) {
+        if has_children(arena, first.key) {
             node = Node {
-                offset: first.offset,
+                offset: first.key,
                 depth: node.depth + 1,
             };
         } else {
-            delete_at(arena, securities, first.offset, first.place, moment);
+            delete_at(arena, securities, first.key, first.place, moment);
         }
     }
 }

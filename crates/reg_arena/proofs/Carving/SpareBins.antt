@@ -107,7 +107,7 @@ spare-more none (s ∷ sizes) (o ∷ offsets) [] size spare h blank = absurd h
 spare-more none (s ∷ sizes) (o ∷ offsets) (p ∷ spares) size spare h blank = (h.0, spare-more none sizes offsets spares size spare h.1 blank)
 
 -- memory for a bin of a size, and the zeros in it
-pub room-some : (size bin : ℕ) (items : List ℕ) (capacity : ℕ) → items ≡ [] → bin ≤ capacity → IsBinSize bin size → IsRoomFor items capacity size
+pub room-some : (size bin : ℕ) (items : List ℕ) (capacity : ℕ) → items ≡ [] → capacity ≡ bin → IsBinSize bin size → IsRoomFor items capacity size
 room-some size bin items capacity none room least = record {
   none = none;
   fits = λ n other. (let a = fresh-is n size other in let b = fresh-is bin size least in omega (arith, a, b, room));

@@ -26,7 +26,7 @@ pub record IsBlank (blank : List ℕ) (total : ℕ) : Type 0 where
   pub zeros : blank ≡ replicate (length blank) 0
   pub least : IsBinSize (length blank) total
 
--- memory for such a bin, in which nothing is written yet
+-- memory for such a bin, just as much as it takes, in which nothing is written yet
 pub record IsRoomFor (items : List ℕ) (capacity total : ℕ) : Type 0 where
   pub none : items ≡ []
-  pub fits : (size : ℕ) → IsBinSize size total → size ≤ capacity
+  pub fits : (size : ℕ) → IsBinSize size total → size ≡ capacity

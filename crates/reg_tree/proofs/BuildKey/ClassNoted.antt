@@ -106,21 +106,26 @@ module _ (old new : List ℕ) (key : ℕ) (t : IsHere old key) (size moment : �
   largest = max n.key.fields.largest_subkey_class size
 
   abbrev after : Node
-  after = rewritten h j t.root was.offset n (seen old key t) l n.key.fields.flags moment n.key.fields.class n.key.fields.class_length largest key-now plain-now n.class l.class_cells class-now values-calm index-calm refl (seen old key t).written.class
+  after = rewritten h j t.root was.offset n (seen old key t) l n.key.fields.flags moment n.key.fields.class n.key.fields.class_length largest
+      key-now plain-now n.class l.class_cells class-now values-calm index-calm refl (seen old key t).written.class
 
   exchanged : IsExchanged h j t.root was.offset n after
   exchanged = record {
     frame = record {
       count = λ z. (
           let a = written-allocated h j was.offset there.others (key-exists h was.offset (is_some_of _ _ key-before)) (key-exists j was.offset (is_some_of _ _ key-now)) z in
-          let o = owned-rewritten h j t.root was.offset n (seen old key t) l n.key.fields.flags moment n.key.fields.class n.key.fields.class_length largest key-now plain-now n.class l.class_cells class-now values-calm index-calm refl (seen old key t).written.class z in
+          let o = owned-rewritten h j t.root was.offset n (seen old key t) l n.key.fields.flags moment n.key.fields.class n.key.fields.class_length largest
+          key-now plain-now n.class l.class_cells class-now values-calm index-calm refl (seen old key t).written.class z in
           omega (arith, a, o));
       same = λ z gone came. there.others z (λ e. (let p = parts z in let one = key-here z was.offset e in absurd (omega (arith, p, one, gone))));
     };
-    seen = sees-rewritten h j t.root was.offset n (seen old key t) l n.key.fields.flags moment n.key.fields.class n.key.fields.class_length largest key-now plain-now n.class l.class_cells class-now values-calm index-calm refl (seen old key t).written.class;
+    seen = sees-rewritten h j t.root was.offset n (seen old key t) l n.key.fields.flags moment n.key.fields.class n.key.fields.class_length largest
+        key-now plain-now n.class l.class_cells class-now values-calm index-calm refl (seen old key t).written.class;
     alike = record { name = refl; parent = refl; class_length = refl };
-    fits = fits-rewritten h j t.root was.offset n (seen old key t) l n.key.fields.flags moment n.key.fields.class n.key.fields.class_length largest key-now plain-now n.class l.class_cells class-now values-calm index-calm refl (seen old key t).written.class (omega arith);
-    security = shared-rewritten h j t.root was.offset n (seen old key t) l n.key.fields.flags moment n.key.fields.class n.key.fields.class_length largest key-now plain-now n.class l.class_cells class-now values-calm index-calm refl (seen old key t).written.class;
+    fits = fits-rewritten h j t.root was.offset n (seen old key t) l n.key.fields.flags moment n.key.fields.class n.key.fields.class_length largest
+        key-now plain-now n.class l.class_cells class-now values-calm index-calm refl (seen old key t).written.class (omega arith);
+    security = shared-rewritten h j t.root was.offset n (seen old key t) l n.key.fields.flags moment n.key.fields.class n.key.fields.class_length largest
+        key-now plain-now n.class l.class_cells class-now values-calm index-calm refl (seen old key t).written.class;
   }
 
   abbrev is : Branch Node

@@ -1,9 +1,9 @@
 -- A name as a path of one name; and a key of that name made right below another that has none.
 use Rattle.std.proofs.Common.{◌≡◌, ◌≢◌, ◌⊎◌, inl, inr, ℕ, ◌+◌, ◌<◌, ◌≤◌, ◌==◌, ◌&&◌, not, nat_lt, nat_le, true, false, cond, is_some, List, [], ◌∷◌, length, refl, sym, ap, ◌∙◌, arith}
 use Rattle.std.specs.List.{list_all}
-use Rattle.std.proofs.lemmas.Bool.{and_parts, and_from, le-leb, ltb-true}
+use Rattle.std.proofs.lemmas.Bool.{and_parts, and_from, ltb-true}
 use Rattle.reg_names.specs.declared.TheConstants.{KEY_NAME_LIMIT, PATH_LIMIT}
-use Rattle.reg_names.specs.Names.{is_key_name, is_key_name_byte, is_value_name_byte, has_no_backslash, path_of, are_key_names, is_path}
+use Rattle.reg_names.specs.Names.{is_key_name, is_key_name_byte, is_value_name_byte, has_no_backslash, path_of}
 use Rattle.reg_names.proofs.PathTexts.{path_of-text_of}
 use Rattle.reg_heap.specs.declared.limits.TheConstants.{MADE_LIMIT, SUBKEYS_LIMIT}
 use Rattle.reg_heap.specs.Paths.{Path, Tree, children_of}

@@ -138,7 +138,8 @@ held-none : (h : Heap) (o : ℕ) → h o ≡ None → ◌≡◌ {A = ℕ} (alloc
 held-none h o e = ap (λ (c : Option (List ℕ)). cond (is_some c) 1 0) e
 
 -- two cells are all
-two-alone : (m : Heap) (root at : ℕ) → root ≢ at → allocated m root ≡ 1 → allocated m at ≡ 1 → ((o : ℕ) → o ≢ root → o ≢ at → allocated m o ≡ 0) → (z : ℕ) → times z (root ∷ at ∷ []) ≡ allocated m z
+two-alone : (m : Heap) (root at : ℕ) → root ≢ at → allocated m root ≡ 1 → allocated m at ≡ 1 →
+    ((o : ℕ) → o ≢ root → o ≢ at → allocated m o ≡ 0) → (z : ℕ) → times z (root ∷ at ∷ []) ≡ allocated m z
 two-alone m root at apart sr sa others z = by (eqb root z) refl (eqb at z) refl
   where
     by : (s : Bool) → eqb root z ≡ s → (t : Bool) → eqb at z ≡ t → times z (root ∷ at ∷ []) ≡ allocated m z

@@ -15,7 +15,8 @@ use Rattle.reg_tree.proofs.Invariant.NodeLemmas.{on_ok, seen_as, here_at}
 pub lengths_seen : (bins : Bins) (root : ℕ) (now : Keys) → seen_as bins root ≡ now → (new : Bins) → LengthsStay (heap_of bins) (heap_of new) root → KeepsLengths now (seen_as new root)
 lengths_seen bins root now view_is new stay = subst (λ k. KeepsLengths k (seen_as new root)) view_is (λ q n a b. stay q n.offset a.offset b.offset)
 
-module _ {E : Type 0} (bins : Bins) (root : ℕ) {table : DescriptorCells} (holds : TreeInvariant bins.bytes root table) (now : Keys) (view_is : seen_as bins root ≡ now) (new : Bins) (result : Result (Unit {0}) E) (node : Node) where
+module _ {E : Type 0} (bins : Bins) (root : ℕ) {table : DescriptorCells} (holds : TreeInvariant bins.bytes root table) (now : Keys)
+    (view_is : seen_as bins root ≡ now) (new : Bins) (result : Result (Unit {0}) E) (node : Node) where
   pub lengths_changed : (change : Lengths → Lengths) → ((t : IsHere bins.bytes node.offset) → OnOk result (LengthsChange (heap_of bins) (heap_of new) t.root t.path change)) →
       (p : Path) → IsAt now p node → OnOk result (ChangesLengths now (seen_as new root) p change)
   lengths_changed change ok p at =

@@ -53,7 +53,8 @@ offset-own h offset node e =
     omega (arith, o, one)
 
 -- what holds of the cells of keys side by side holds of their offsets
-pub all-heads : (h : Heap) (root : ℕ) (Q : ℕ → Type 0) (F : Forest Node) → Stand (IsSeen h root) Fits F → ((z : ℕ) → 0 < total (owns z) F → Q z) → AllByRecursion (λ (e : ℕ × Node). Q e.0) (heads F)
+pub all-heads : (h : Heap) (root : ℕ) (Q : ℕ → Type 0) (F : Forest Node) → Stand (IsSeen h root) Fits F →
+    ((z : ℕ) → 0 < total (owns z) F → Q z) → AllByRecursion (λ (e : ℕ × Node). Q e.0) (heads F)
 all-heads h root Q End a q = tt
 all-heads h root Q (Hangs offset node below beside) a q = (
   q offset (let o = offset-own h offset node a.0.0.reads in omega (arith, o)),

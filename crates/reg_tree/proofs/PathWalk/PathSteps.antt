@@ -72,9 +72,10 @@ module _ (bytes : List ℕ) (from : Node) (t : IsHere bytes from.offset) (path :
       omega (arith, l, a, m, e, d)
 
 -- where nothing of the path is left, it was walked to its end, and else a key is missing
-pub walked : (h : Heap) (from : Node) (path : List ℕ) (node : Node) → Passes h from path node [] → IsWalked h from (folded_path path) (Some node)
-walked h from path node s =
-    let all : path_of path ≡ s.names = s.parts ∙ append-nil s.names in (
+pub walked : (h : Heap) (from : Node) (path : List ℕ) (node : Node) (rest : List ℕ) → Passes h from path node rest → path_of rest ≡ [] →
+    IsWalked h from (folded_path path) (Some node)
+walked h from path node rest s none =
+    let all : path_of path ≡ s.names = s.parts ∙ (ap (λ ns. s.names ++ ns) none ∙ append-nil s.names) in (
       ap (λ ns. key_offset_at h from.offset (map folded ns)) all ∙ s.offset,
       s.depth ∙ ap (λ k. from.depth + k) (ap length (sym all) ∙ sym (as-many (path_of path))),
     )
@@ -95,6 +96,15 @@ missing-by h from path node rest s (name ∷ names) e some stops =
 
 pub not_walked : (h : Heap) (from : Node) (path : List ℕ) (node : Node) (rest : List ℕ) → Reaches h from path node rest → (path_of rest ≡ [] → ⊥) → IsWalked h from (folded_path path) None
 not_walked h from path node rest r some = missing-by h from path node rest r.passes (path_of rest) refl some r.stops
+
+-- no key has the first name left
+pub none_named : (h : Heap) (from : Node) (path : List ℕ) (node : Node) (rest : List ℕ) → Passes h from path node rest → (name behind : List ℕ) →
+    IsFirst rest name behind → None ≡ subkey_named h (folded name) node.offset → IsWalked h from (folded_path path) None
+none_named h from path node rest s name behind f e =
+    not_walked h from path node rest (stopped h from path node rest s name behind f e) (λ z. absurd (some-first (path_of rest) (path_of behind) f.names z))
+  where
+    some-first : (xs names : List (List ℕ)) → xs ≡ name ∷ names → xs ≡ [] → ⊥
+    some-first xs names is z = let n = ap length (sym z ∙ is) in absurd (omega (arith, n))
 
 -- a text that has names has bytes
 pub some_names : (text : List ℕ) (e : Bool) → e ≡ (length text == 0) → e ≡ false → path_of text ≡ [] → ⊥

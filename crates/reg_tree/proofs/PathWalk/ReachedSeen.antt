@@ -11,7 +11,7 @@ use Rattle.reg_tree.specs.declared.node.Reached.{Reached}
 use Rattle.reg_tree.specs.TreeKeys.{Keys, IsAt, IsResolved}
 use Rattle.reg_tree.specs.Reaching.{IsWalkedTo}
 use Rattle.reg_tree.specs.Internal.TreeInvariant.{TreeInvariant}
-use Rattle.reg_tree.specs.Internal.PathWalks.{Passes, Reaches}
+use Rattle.reg_tree.specs.Internal.PathWalks.{Reaches}
 use Rattle.reg_tree.specs.Internal.ReachedPlaces.{IsPlace}
 use Rattle.reg_tree.proofs.Invariant.NodeLemmas.{seen_as, here_at, of_tree, resolved}
 use Rattle.reg_tree.proofs.PathWalk.PathSteps.{walked, not_walked}
@@ -35,7 +35,7 @@ module _ (bins : Bins) (root : ℕ) {table : DescriptorCells} (holds : TreeInvar
   -- none is left, or some are
   pub there_seen : (p : Path) → IsAt now p from → reached.missing.now ≡ [] → IsResolved now (p ++ folded_path path) (Some reached.node)
   there_seen p at none = resolved bins root holds now view_is from (folded_path path) (Some reached.node)
-      (walked (heap_of bins) from path reached.node (subst (λ rest. Passes (heap_of bins) from path reached.node rest) none r.passes)) p at
+      (walked (heap_of bins) from path reached.node reached.missing.now r.passes (ap path_of none)) p at
 
   pub absent_seen : (p : Path) → IsAt now p from → reached.missing.now ≢ [] → IsResolved now (p ++ folded_path path) None
   absent_seen p at some = resolved bins root holds now view_is from (folded_path path) None

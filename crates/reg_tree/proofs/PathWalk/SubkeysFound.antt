@@ -1,5 +1,5 @@
 -- The subkeys of a tree's key, and the one of a name.
-use Rattle.std.proofs.Common.{◌≡◌, ℕ, ◌<◌, Some, None, List, get_or, sym, ap, ◌∙◌, subst, arith}
+use Rattle.std.proofs.Common.{◌≡◌, ℕ, ◌<◌, Option, Some, None, List, get_or, sym, ap, ◌∙◌, subst, arith}
 use Rattle.std.specs.Prelude.{Ok, Err}
 use Rattle.reg_names.specs.Names.{folded}
 use Rattle.reg_heap.specs.Heaps.{Heap}
@@ -7,7 +7,7 @@ use Rattle.reg_arena.specs.Cells.{cell_at}
 use Rattle.reg_records.specs.SubkeyLists.{Entry}
 use Rattle.reg_shape.specs.Nodes.{Node, entries_of}
 use Rattle.reg_shape.specs.PathLookup.{subkey_named}
-use Rattle.reg_index.specs.Subkeys.{AreSubkeys, IsIndexFor, names_in}
+use Rattle.reg_index.specs.Subkeys.{AreSubkeys, IsIndexFor, IsKeyNamed, names_in}
 use Rattle.reg_index.proofs.NameSearch.{length-names}
 use Rattle.reg_tree.specs.Internal.TreeInvariant.{IsHere}
 use Rattle.reg_tree.specs.Internal.KeyNodeChanges.{HasSubkeysList}
@@ -55,3 +55,12 @@ module _ (bytes : List ℕ) (key : ℕ) (t : IsHere bytes key) where
     child_missing name index find =
         subst (λ o. None ≡ subkey_named h (folded name) o) (offset bytes key t)
         (sym (named-err h t.root (branch bytes key t) (stands bytes key t) (folded name) index (find (entries_of node.index) subkeys)))
+
+    pub named_found : (name : List ℕ) (found : Option ℕ) → ((entries : List Entry) → AreSubkeys h count list entries → IsKeyNamed h entries (folded name) found) →
+        found ≡ subkey_named h (folded name) key
+    named_found name found is = subst (λ o. found ≡ subkey_named h (folded name) o) (offset bytes key t) (by found (is (entries_of node.index) subkeys))
+      where
+        by : (found : Option ℕ) → IsKeyNamed h (entries_of node.index) (folded name) found → found ≡ subkey_named h (folded name) (branch bytes key t).offset
+        by (Some child) n =
+            sym (named-ok h t.root (branch bytes key t) (stands bytes key t) (folded name) n.0 subkeys.rising n.1 ∙ ap Some n.2)
+        by None n = sym (named-err h t.root (branch bytes key t) (stands bytes key t) (folded name) n.0 n.1)

@@ -225,7 +225,7 @@ module _ (bytes : List ℕ) (key : ℕ) (t : IsHere bytes key) (count list : ℕ
 
   pub first-some : (child : ℕ) → (count ≡ 0 → ⊥) →
       ((es : List Entry) → AreSubkeys (cell_at bytes) count list es → (get_or es (flat (cell_at bytes) count list first_place) no_entry).offset ≡ child) →
-      IsFirstSubkey bytes t.root t.path (Some (record { offset = child; place = first_place }))
+      IsFirstSubkey bytes t.root t.path (Some (record { key = child; place = first_place }))
   first-some child some at =
       let n = number_told bytes key t count list has in
       let l : 0 < count = omega (arith, some) in

@@ -11,7 +11,7 @@ use Rattle.reg_arena.specs.Cells.{cell_at}
 use Rattle.reg_shape.specs.PathLookup.{key_offset_at}
 use Rattle.reg_security.specs.Rings.{DescriptorCells}
 use Rattle.reg_tree.specs.declared.node.Node.{Node}
-use Rattle.reg_tree.specs.declared.find.PlacedKey.{PlacedKey}
+use Rattle.reg_index.specs.declared.PlacedKey.{PlacedKey}
 use Rattle.reg_tree.specs.TreeKeys.{tree_in}
 use Rattle.reg_tree.specs.KeyLengths.{lengths_at}
 use Rattle.reg_tree.specs.Internal.TreeInvariant.{TreeInvariant, IsHere}
@@ -170,22 +170,22 @@ module _ (old : List ℕ) (key : ℕ) (t : IsHere old key) (moment : ℕ) where
       abbrev names-first : Path
       names-first = m.names ++ x ∷ []
 
-      pub at-first : key_offset_at (cell_at new) root (p ++ names-first) ≡ Some first.offset
+      pub at-first : key_offset_at (cell_at new) root (p ++ names-first) ≡ Some first.key
       at-first = ap (key_offset_at (cell_at new) root) (sym (append_assoc p m.names (x ∷ []))) ∙ is_first.1
 
-      abbrev pub first-here : IsHere new first.offset
+      abbrev pub first-here : IsHere new first.key
       first-here = record { root = root; table = table; path = p ++ names-first; holds = m.holds; at = at-first }
 
       longer : length (p ++ names-first) ≡ length (p ++ m.names) + 1
       longer = ap length (sym (append_assoc p m.names (x ∷ []))) ∙ length-append (p ++ m.names) (x ∷ [])
 
       first-deep : length (p ++ names-first) ≤ PATH_LIMIT
-      first-deep = let s = shallow new first.offset first-here in omega (arith, s)
+      first-deep = let s = shallow new first.key first-here in omega (arith, s)
 
       pub low-first : node.depth + 1 ≤ PATH_LIMIT
       low-first = let d = m.depth in let l = longer in let e = first-deep in let a = length-append p m.names in omega (arith, d, l, e, a)
 
-      pub prunes-down : Prunes old root p moment new table (record { offset = first.offset; depth = node.depth + 1 })
+      pub prunes-down : Prunes old root p moment new table (record { offset = first.key; depth = node.depth + 1 })
       prunes-down = record {
         holds = m.holds;
         thins = m.thins;
@@ -196,10 +196,10 @@ module _ (old : List ℕ) (key : ℕ) (t : IsHere old key) (moment : ℕ) where
         depth = (let d = m.depth in let l = length-append m.names (x ∷ []) in omega (arith, d, l));
       }
 
-      pub steps-down : (r : Bool) → r ≡ not (length (children_of now (p ++ names-first)) == 0) → r ≡ true → at_place new first.offset steps_left < at_place new node.offset steps_left
+      pub steps-down : (r : Bool) → r ≡ not (length (children_of now (p ++ names-first)) == 0) → r ≡ true → at_place new first.key steps_left < at_place new node.offset steps_left
       unfolding steps_left
       steps-down r e f =
-          let s : at_place new first.offset steps_left ≡ steps_left now (p ++ names-first) = at_placed new first.offset steps_left first-here in
+          let s : at_place new first.key steps_left ≡ steps_left now (p ++ names-first) = at_placed new first.key steps_left first-here in
           fewer (p ++ names-first) (p ++ m.names) s steps (not-bare now (p ++ names-first) (some (children_of now (p ++ names-first)) (sym e ∙ f))) longer first-deep
         where
           some : (paths : List Path) → not (length paths == 0) ≡ true → 0 < length paths
@@ -210,8 +210,8 @@ module _ (old : List ℕ) (key : ℕ) (t : IsHere old key) (moment : ℕ) where
           fewer q r s u b n d = omega (arith, s, u, b, n, d)
 
       module _ (r : Bool) (e : r ≡ not (length (children_of now (p ++ names-first)) == 0)) (f : r ≡ false) where
-        pub first-lone : IsLone new first.offset first-here
-        first-lone = ((λ z. let n = ap length z in let l = longer in omega (arith, n, l)), no_children new first.offset first-here r e f)
+        pub first-lone : IsLone new first.key first-here
+        first-lone = ((λ z. let n = ap length z in let l = longer in omega (arith, n, l)), no_children new first.key first-here r e f)
 
         module _ (after : List ℕ) (left : DescriptorCells) (d : IsDeleted new after root left (p ++ names-first) moment)
             (stay : LengthsStay (cell_at new) (cell_at after) root) where
@@ -226,7 +226,7 @@ module _ (old : List ℕ) (key : ℕ) (t : IsHere old key) (moment : ℕ) where
               under (n ∷ ns) = under-is p (p ++ n ∷ (ns ++ x ∷ [])) n (ns ++ x ∷ []) refl
 
           there-first : IsSome (get now (p ++ names-first))
-          there-first = get-some new root m.holds (p ++ names-first) first.offset at-first
+          there-first = get-some new root m.holds (p ++ names-first) first.key at-first
 
           pub prunes-more : Prunes old root p moment after left node
           prunes-more = record {

@@ -8,7 +8,7 @@ use Rattle.reg_records.specs.SubkeyLists.{Entry}
 use Rattle.reg_shape.specs.PathLookup.{subkey_named}
 use Rattle.reg_index.specs.declared.Place.{Place}
 use Rattle.reg_index.specs.Subkeys.{StandsIn, flat, index_of}
-use Rattle.reg_tree.specs.declared.find.PlacedKey.{PlacedKey}
+use Rattle.reg_index.specs.declared.PlacedKey.{PlacedKey}
 use Rattle.reg_tree.specs.declared.node.Node.{Node}
 use Rattle.reg_tree.specs.declared.node.Subkey.{Subkey}
 use Rattle.reg_tree.specs.CellSizes.{first_place}
@@ -52,7 +52,7 @@ pub record StandsAt (heap : Heap) (key : ℕ) (place : Place) : Type 0 where
 
 -- the key of a name right below a key, and where it stands; or there is none, and the name belongs at a place
 abbrev pub IsChild : Heap → ℕ → List ℕ → Result PlacedKey Place → Type 0
-IsChild heap key name (Ok child) = (Some child.offset ≡ subkey_named heap (folded name) key) × StandsAt heap child.offset child.place
+IsChild heap key name (Ok child) = (Some child.key ≡ subkey_named heap (folded name) key) × StandsAt heap child.key child.place
 IsChild heap key name (Err place) = (None ≡ subkey_named heap (folded name) key) × BelongsAt heap key name place
 
 -- what the place of a path is that was walked to a key, with a path left behind it: where the first name left belongs among the key's

@@ -6,7 +6,7 @@ use Rattle.reg_heap.specs.Edits.{edited, at_time, without_values, is_under}
 use Rattle.reg_arena.specs.Cells.{cell_at}
 use Rattle.reg_shape.specs.PathLookup.{key_offset_at}
 use Rattle.reg_security.specs.Rings.{DescriptorCells}
-use Rattle.reg_tree.specs.declared.find.PlacedKey.{PlacedKey}
+use Rattle.reg_index.specs.declared.PlacedKey.{PlacedKey}
 use Rattle.reg_tree.specs.TreeKeys.{tree_in}
 use Rattle.reg_tree.specs.Internal.TreeInvariant.{TreeInvariant}
 use Rattle.reg_tree.specs.Internal.ReachedPlaces.{StandsAt}
@@ -15,7 +15,7 @@ use Rattle.reg_tree.specs.Internal.ReachedPlaces.{StandsAt}
 abbrev pub IsFirstSubkey : List ℕ → ℕ → Path → Option PlacedKey → Type 0
 IsFirstSubkey bytes root path None = children_of (tree_in bytes root) path ≡ []
 IsFirstSubkey bytes root path (Some child) =
-    (name : List ℕ) × (key_offset_at (cell_at bytes) root (path ++ name ∷ []) ≡ Some child.offset) × StandsAt (cell_at bytes) child.offset child.place
+    (name : List ℕ) × (key_offset_at (cell_at bytes) root (path ++ name ∷ []) ≡ Some child.key) × StandsAt (cell_at bytes) child.key child.place
 
 -- all keys below a key removed; its time is set where there were some
 abbrev pub bared : Tree → Path → ℕ → Tree

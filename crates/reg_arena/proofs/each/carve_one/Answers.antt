@@ -45,7 +45,7 @@ blank_in-blank-requires-clause-room c =
     let none = no-fit _ _ _ c.requires.arena (c.in_default.ensures.fit _ c.requires.arena.listed) in
     let room : IsRoomFor c.in-Some-take_spare.memory.items (vec_capacity c.in-Some-take_spare.memory) c.args.size =
     rw c.in-Some-take_spare.is at (c.take_spare.ensures.taken _ (c.requires.spare none)) in
-    room.fits _ c.bin_size.ensures.least
+    omega (arith, room.fits _ c.bin_size.ensures.least)
 
 pub carve_blank-requires-clause-blank : goal.carve_blank-requires-clause-blank
 carve_blank-requires-clause-blank c = blank-some _ _ _ c.blank_in-blank.ensures c.bin_size.ensures.least

@@ -9,5 +9,7 @@ loop-size-preserved c =
     let i = c.loop-size.size-index in
     let sizes = c.args.sizes.now in
     let more : take (i + 1) sizes ≡ take i sizes ++ get_or sizes i 0 ∷ [] = take_more sizes i 0 c.loop-size-test.true in
-    let room = room-some _ _ _ _ c.in_ok-memory.ensures.0 c.in_ok-memory.ensures.1 c.bin_size.ensures.least in
-    rw (more, replicate-more i NONE, c.in_ok-push.ensures.items) (spare-more NONE _ _ _ _ _ c.loop-size.invariant room)
+    let room = room-some _ _ _ _ c.in_ok-memory.ensures.exact.0 c.in_ok-memory.ensures.exact.1 c.bin_size.ensures.least in (
+      rw (more, replicate-more i NONE, c.in_ok-push.ensures.items) (spare-more NONE _ _ _ _ _ c.loop-size.invariant.0 room),
+      λ pages. c.in_ok-memory.ensures.pages (c.loop-size.invariant.1 pages),
+    )

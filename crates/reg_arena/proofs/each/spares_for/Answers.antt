@@ -54,4 +54,4 @@ returns-clause-ok c =
       firsts_long = room.firsts;
       words_long = room.words;
     } in
-    spares-ok _ _ c.make_spares.result reserved c.make_spares.ensures
+    spares-ok _ _ c.make_spares.result reserved c.make_spares.ensures.spares

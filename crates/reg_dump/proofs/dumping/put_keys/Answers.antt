@@ -7,7 +7,8 @@ use Rattle.reg_dump.proofs.dumping.put_keys.Goals as goal
 
 pub loop-walk-init : goal.loop-walk-init
 loop-walk-init g c =
-    let a = amid_start _ _ _ _ c.root.ensures.at c.root.ensures.tree c.new-walk.ensures.node c.new-walk.ensures.path c.new-walk.ensures.pending c.none-counts.ensures.keys c.none-counts.ensures.values in
+    let a = amid_start _ _ _ _ c.root.ensures.at c.root.ensures.tree c.new-walk.ensures.node c.new-walk.ensures.path c.new-walk.ensures.pending
+    c.none-counts.ensures.keys c.none-counts.ensures.values in
     (a.0, λ begin whole left s. swapped begin _ whole _ _ left _ _ s (ap (flat_map key_lines) (sym a.1)))
 
 pub returns-in_err-put_key-clause-puts : goal.returns-in_err-put_key-clause-puts

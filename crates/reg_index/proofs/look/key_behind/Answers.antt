@@ -52,7 +52,9 @@ pub returns-then-next-count_in-clause-place : goal.returns-then-next-count_in-cl
 returns-then-next-count_in-clause-place c = λ entries s.
     let h = lists-has _ _ _ _ s in
     let p = place-stands (heap_of c.args.arena.now) c.args.list.count c.args.list.offset c.args.place c.requires.place entries s in
-    let count = c.count_in.ensures (heap_of c.args.arena.now) _ _ (list-stands (heap_of c.args.arena.now) c.args.list.offset (lists_of s.index) c.args.place.list h p.0).leaf (c.leaf_under-leaf.ensures c.args.list.offset (lists_of s.index) h c.content.ensures p.0) in
+    let count = c.count_in.ensures (heap_of c.args.arena.now) _ _
+    (list-stands (heap_of c.args.arena.now) c.args.list.offset (lists_of s.index) c.args.place.list h p.0).leaf
+    (c.leaf_under-leaf.ensures c.args.list.offset (lists_of s.index) h c.content.ensures p.0) in
     next-place (heap_of c.args.arena.now) c.args.list.count c.args.list.offset c.args.place c.requires.place entries s
     (omega (arith, count, c.if-next-count_in.true))
 

@@ -27,7 +27,8 @@ count_entries-count-requires c =
     let s = c.requires in
     let there = list-there s.0 c.loop-place.place c.args.index s.2 (c.loop-place.invariant.0 s.0 s.1 s.2) in (
       _,
-      subst (λ o. IsLeaf (heap_of c.args.arena.now) o (numbered c.loop-place.place.list s.0).list.entries) (under-root (heap_of c.args.arena.now) c.args.offset c.loop-place.place.list c.count_lists.result s.0 s.1 there
+      subst (λ o. IsLeaf (heap_of c.args.arena.now) o (numbered c.loop-place.place.list s.0).list.entries)
+          (under-root (heap_of c.args.arena.now) c.args.offset c.loop-place.place.list c.count_lists.result s.0 s.1 there
           (c.count_lists.ensures.count s.0 s.1 (omega (arith, there))) c.if-count_lists-eq1.false c.content-root.result.now c.content-root.ensures c.entry_at-leaf.result c.entry_at-leaf.ensures)
           (list-stands (heap_of c.args.arena.now) c.args.offset s.0 c.loop-place.place.list s.1 there).leaf,
     )
@@ -38,7 +39,8 @@ returns-then-place-count c = λ lists h l.
     let there = list-there lists c.loop-place.place c.args.index l e in
     let count = count-of (heap_of c.args.arena.now) c.args.offset lists c.loop-place.place.list c.entry_at-leaf.result.offset c.count_entries-count.result h there
     (under-root (heap_of c.args.arena.now) c.args.offset c.loop-place.place.list c.count_lists.result lists h there
-    (c.count_lists.ensures.count lists h (omega (arith, there))) c.if-count_lists-eq1.false c.content-root.result.now c.content-root.ensures c.entry_at-leaf.result c.entry_at-leaf.ensures) c.count_entries-count.ensures in
+    (c.count_lists.ensures.count lists h (omega (arith, there))) c.if-count_lists-eq1.false c.content-root.result.now
+    c.content-root.ensures c.entry_at-leaf.result c.entry_at-leaf.ensures) c.count_entries-count.ensures in
     ((there, omega (arith, c.if-place-count.true, count)), e)
 
 pub overflow_add-place : goal.overflow_add-place
@@ -48,7 +50,8 @@ overflow_add-place c =
     let there = list-there s.0 c.loop-place.place c.args.index s.2 e in
     let count = count-of (heap_of c.args.arena.now) c.args.offset s.0 c.loop-place.place.list c.entry_at-leaf.result.offset c.count_entries-count.result s.1 there
     (under-root (heap_of c.args.arena.now) c.args.offset c.loop-place.place.list c.count_lists.result s.0 s.1 there
-    (c.count_lists.ensures.count s.0 s.1 (omega (arith, there))) c.if-count_lists-eq1.false c.content-root.result.now c.content-root.ensures c.entry_at-leaf.result c.entry_at-leaf.ensures) c.count_entries-count.ensures in
+    (c.count_lists.ensures.count s.0 s.1 (omega (arith, there))) c.if-count_lists-eq1.false c.content-root.result.now
+    c.content-root.ensures c.entry_at-leaf.result c.entry_at-leaf.ensures) c.count_entries-count.ensures in
     let one = one-passed (heap_of c.args.arena.now) c.args.offset s.0 c.loop-place.place c.args.index c.count_entries-count.result s.1 s.2 e count in
     omega (arith, one, c.loop-place.invariant.1, c.if-place-count.false)
 
@@ -59,7 +62,8 @@ loop-place-smaller c =
     let there = list-there s.0 c.loop-place.place c.args.index s.2 e in
     let count = count-of (heap_of c.args.arena.now) c.args.offset s.0 c.loop-place.place.list c.entry_at-leaf.result.offset c.count_entries-count.result s.1 there
     (under-root (heap_of c.args.arena.now) c.args.offset c.loop-place.place.list c.count_lists.result s.0 s.1 there
-    (c.count_lists.ensures.count s.0 s.1 (omega (arith, there))) c.if-count_lists-eq1.false c.content-root.result.now c.content-root.ensures c.entry_at-leaf.result c.entry_at-leaf.ensures) c.count_entries-count.ensures in
+    (c.count_lists.ensures.count s.0 s.1 (omega (arith, there))) c.if-count_lists-eq1.false c.content-root.result.now
+    c.content-root.ensures c.entry_at-leaf.result c.entry_at-leaf.ensures) c.count_entries-count.ensures in
     let one = one-passed (heap_of c.args.arena.now) c.args.offset s.0 c.loop-place.place c.args.index c.count_entries-count.result s.1 s.2 e count in
     omega (arith, one, c.if-place-count.false)
 
@@ -70,7 +74,8 @@ loop-place-preserved c =
     let there = list-there s.0 c.loop-place.place c.args.index s.2 e in
     let count = count-of (heap_of c.args.arena.now) c.args.offset s.0 c.loop-place.place.list c.entry_at-leaf.result.offset c.count_entries-count.result s.1 there
     (under-root (heap_of c.args.arena.now) c.args.offset c.loop-place.place.list c.count_lists.result s.0 s.1 there
-    (c.count_lists.ensures.count s.0 s.1 (omega (arith, there))) c.if-count_lists-eq1.false c.content-root.result.now c.content-root.ensures c.entry_at-leaf.result c.entry_at-leaf.ensures) c.count_entries-count.ensures in
+    (c.count_lists.ensures.count s.0 s.1 (omega (arith, there))) c.if-count_lists-eq1.false c.content-root.result.now
+    c.content-root.ensures c.entry_at-leaf.result c.entry_at-leaf.ensures) c.count_entries-count.ensures in
     let one = one-passed (heap_of c.args.arena.now) c.args.offset s.0 c.loop-place.place c.args.index c.count_entries-count.result s.1 s.2 e count in (
       λ lists h l.
           let e = c.loop-place.invariant.0 lists h l in
@@ -78,7 +83,8 @@ loop-place-preserved c =
           next-place (heap_of c.args.arena.now) c.args.offset lists c.loop-place.place c.args.index c.count_entries-count.result h l e
           (count-of (heap_of c.args.arena.now) c.args.offset lists c.loop-place.place.list c.entry_at-leaf.result.offset c.count_entries-count.result h there
           (under-root (heap_of c.args.arena.now) c.args.offset c.loop-place.place.list c.count_lists.result lists h there
-          (c.count_lists.ensures.count lists h (omega (arith, there))) c.if-count_lists-eq1.false c.content-root.result.now c.content-root.ensures c.entry_at-leaf.result c.entry_at-leaf.ensures) c.count_entries-count.ensures)
+          (c.count_lists.ensures.count lists h (omega (arith, there))) c.if-count_lists-eq1.false c.content-root.result.now
+          c.content-root.ensures c.entry_at-leaf.result c.entry_at-leaf.ensures) c.count_entries-count.ensures)
           (omega (arith, c.if-place-count.false)),
       omega (arith, one, c.loop-place.invariant.1, c.if-place-count.false),
     )

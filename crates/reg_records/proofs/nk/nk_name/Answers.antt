@@ -1,4 +1,4 @@
-use Rattle.std.proofs.Common.{arith, ap, sym, ◌∙◌, take, drop, List, ℕ}
+use Rattle.std.proofs.Common.{arith, ap, sym, ◌∙◌, take, drop, ℕ}
 use Rattle.reg_records.specs.KeyNodes.{KeyRecord}
 use Rattle.reg_records.proofs.KeyNodeCodec.{nk-open}
 use Rattle.reg_records.proofs.nk.nk_name.Goals as goal

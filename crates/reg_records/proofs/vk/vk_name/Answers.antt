@@ -1,4 +1,4 @@
-use Rattle.std.proofs.Common.{arith, ap, sym, ◌∙◌, take, drop, List, ℕ}
+use Rattle.std.proofs.Common.{arith, ap, sym, ◌∙◌, take, drop, ℕ}
 use Rattle.reg_records.specs.KeyValues.{KeyValueRecord}
 use Rattle.reg_records.proofs.KeyValueCodec.{vk-open}
 use Rattle.reg_records.proofs.vk.vk_name.Goals as goal

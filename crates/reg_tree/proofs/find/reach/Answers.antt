@@ -17,7 +17,7 @@ overflow_add-node c =
 pub loop-name-preserved : goal.loop-name-preserved
 loop-name-preserved c =
     next_at _ c.args.from c.args.path.now c.loop-name.node c.loop-name.rest.now c.loop-name.place c.loop-name.invariant c.in-Some.name.now
-    c.in-Some.behind.now c.in-Ok.below.offset c.in-Ok.below.place c.in-Some.ensures c.in-Ok.ensures.0 c.in-Ok.ensures.1
+    c.in-Some.behind.now c.in-Ok.below.key c.in-Ok.below.place c.in-Some.ensures c.in-Ok.ensures.0 c.in-Ok.ensures.1
 
 pub returns-in-Err-clause-place : goal.returns-in-Err-clause-place
 returns-in-Err-clause-place c =

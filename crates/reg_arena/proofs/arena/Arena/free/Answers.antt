@@ -8,10 +8,10 @@ returns-clause-gone c =
     rw (← c.self.view_is) (gives_up_one (cell_at c.self.inside.bins.items) (cell_at c.free_cell.new.bins.items) c.args.cell (rw (← c.self.view_is) at c.requires) c.free_cell.ensures.contents)
 
 pub free_cell-requires-clause-arena : goal.free_cell-requires-clause-arena
-free_cell-requires-clause-arena c = opened _ _ c.self.invariant
+free_cell-requires-clause-arena c = opened _ _ c.self.invariant.0
 
 pub invariant_of-self : goal.invariant_of-self
-invariant_of-self c = closed _ _ c.free_cell.ensures.arena c.free_cell.ensures.split
+invariant_of-self c = (closed _ _ c.free_cell.ensures.arena c.free_cell.ensures.split, c.self.invariant.1)
 
 pub free_cell-requires-clause-split : goal.free_cell-requires-clause-split
-free_cell-requires-clause-split c = apart _ _ c.self.invariant
+free_cell-requires-clause-split c = apart _ _ c.self.invariant.0

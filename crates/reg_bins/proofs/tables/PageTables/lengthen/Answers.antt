@@ -26,6 +26,10 @@ loop-self-preserved c =
           let more-long = length-more pages more page is long in
           let now = length-pages pages c.loop-self.invariant.whole in
           inr (omega (arith, more-long, now, c.loop-self-test.true, c.loop-self.self-inside.pages.ok.0, c.pages_for-pages.ensures.most));
+      few =
+          let more-long = length-more pages more page is long in
+          let now = length-pages pages c.loop-self.invariant.whole in
+          inr (omega (arith, more-long, now, c.loop-self-test.true, c.loop-self.self-inside.pages.ok.0, c.pages_for-pages.ensures.few));
       whole = rw is (grind (arith, common_steps));
     }
 

@@ -7,6 +7,7 @@ invariant-loop-self l = record {
   same : (place : ℕ) → get_or (numbers_of l.self-inside.pages.items) place 0 ≡ get_or l.fn.self.items place 0;
   longer : length l.fn.self.items ≤ length (numbers_of l.self-inside.pages.items);
   most : (length (numbers_of l.self-inside.pages.items) ≡ length l.fn.self.items) ⊎ (length (numbers_of l.self-inside.pages.items) ≤ l.long + l.long / 16 + 511);
+  few : (length (numbers_of l.self-inside.pages.items) ≡ length l.fn.self.items) ⊎ (length (numbers_of l.self-inside.pages.items) ≤ l.long + 8191);
   whole : AreWhole l.self-inside.pages.items;
 }
 
