@@ -1,12 +1,12 @@
-//! The same keys in a hive and in plain maps, by the same calls.
+//! Keys in a hive and in plain maps, made and used by the same calls.
 ghost use Rattle.std.specs.Prelude.{◌<◌};
 
 use crate::cells::print_cells;
 use crate::hives::{apply_all, new_hive, read_all};
 use crate::times::{Times, Visits};
 use anyhow::{Result, bail};
+use reg_fixtures::Registry;
 use reg_model::{Change, Query};
-use reg_registry::Registry;
 use reg_workload::{KeyHandles, KeyPlan, KeyStep, PlainMaps, numbers_below, queries};
 use std::alloc::Global;
 use std::rt::Clock;

@@ -3,7 +3,7 @@
 use crate::hives::{apply_all, new_hive, read_all};
 use crate::times::Times;
 use anyhow::{Result, bail};
-use reg_registry::Registry;
+use reg_fixtures::Registry;
 use reg_workload::{ValueStep, make_chain, query_times};
 use std::alloc::Global;
 use std::rt::Clock;

@@ -2,8 +2,8 @@
 ghost use Rattle.std.specs.Prelude.{◌≡◌, ◌+◌, IfOk, OnOk, length};
 
 use anyhow::{Result, bail};
+use reg_fixtures::Registry;
 use reg_model::{AnswerBody, Change, Query};
-use reg_registry::Registry;
 use reg_workload::ALL_RIGHTS;
 use std::alloc::Global;
 

@@ -7,7 +7,7 @@
 //! so is each change that a hive is given beside plain maps. It stands on reg_workload, which says what is done, and on the crates
 //! that it measures. Its main types are `OpenHive`, a hive with handles, and `Both`, a hive and plain maps with the same keys.
 //!
-//! Whatever works on a hive is generic in a [`reg_registry::Registry`], and `main` alone names the type, since a function that names it
+//! Whatever works on a hive is generic in a [`reg_fixtures::Registry`], and `main` alone names the type, since a function that names it
 //! is checked together with all that a hive is made of, which takes many times as long.
 #![tactic(auto)]
 
@@ -34,7 +34,7 @@ mod values;
 
 use crate::measured::Measured;
 use anyhow::{Result, bail};
-use reg_registry::PlainHive;
+use reg_fixtures::PlainHive;
 use reg_workload::Subject;
 use std::alloc::Global;
 use std::env;

@@ -2,7 +2,7 @@
 
 use crate::both::Both;
 use anyhow::Result;
-use reg_registry::Registry;
+use reg_fixtures::Registry;
 use reg_workload::{KeyPlan, KeyStep, numbers_below, take_at_random};
 use std::alloc::Global;
 use std::rt::Clock;

@@ -3,7 +3,7 @@ ghost use Rattle.std.specs.Prelude.{◌≡◌, ℕ, length};
 ghost use Rattle.reg_calls.specs.HiveView.{view_of};
 
 use anyhow::{Result, bail};
-use reg_registry::{PlainHive, Registry};
+use reg_fixtures::{PlainHive, Registry};
 use reg_script::run;
 use std::alloc::Global;
 

@@ -3,7 +3,7 @@
 use crate::both::Both;
 use crate::times::Times;
 use anyhow::Result;
-use reg_registry::Registry;
+use reg_fixtures::Registry;
 use reg_workload::{KeyHandles, KeyPlan, KeyStep, numbers_below, numbers_in_turn, take_at_random};
 use std::alloc::Global;
 use std::rt::Clock;

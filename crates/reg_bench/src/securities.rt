@@ -2,8 +2,8 @@
 
 use crate::hives::{apply_all, new_hive, open_root};
 use anyhow::{Result, bail};
+use reg_fixtures::Registry;
 use reg_model::{AnswerBody, Query};
-use reg_registry::Registry;
 use reg_workload::{
     PerCall, SecurityStep, descriptor_queries, numbers_below, numbers_in_turn, take_at_random,
 };

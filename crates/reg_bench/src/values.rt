@@ -2,9 +2,9 @@
 
 use crate::hives::new_hive;
 use anyhow::{Result, bail};
+use reg_fixtures::Registry;
 use reg_heap::limits::DATA_LIMIT;
 use reg_model::{AnswerBody, Bytes, Change, Query};
-use reg_registry::Registry;
 use reg_workload::{ALL_RIGHTS, PerCall};
 use std::alloc::Global;
 use std::rt::Clock;

@@ -89,7 +89,7 @@ fn print_both(
     print_times(rt, alloc, hive, root, calls)
 }
 
-/// The same of a new hive and callbacks that let every call go on.
+/// Measures the calls of a new hive without callbacks, and with callbacks that let every call go on.
 fn measure(rt: &(impl Print + Clock), alloc: Global, calls: usize) -> Result<()> {
     let mut hive = new_hive(alloc)?;
     let mut callbacks: Vec<Box<dyn Callback + Send>> = Vec::new(alloc);

@@ -12,7 +12,7 @@ use Rattle.reg_model.specs.Worlds.{World, Handle, IsStanding, look, numbered, ow
 use Rattle.reg_model.specs.Causes.{State, change_cause, is_full, no_handle_room, handles_of}
 use Rattle.reg_model.specs.Callbacks.{Callbacks, change_status}
 use Rattle.reg_model.specs.Replies.{reply_to}
-use Rattle.reg_model.specs.Calls.{entry_due}
+use Rattle.reg_model.specs.Calls.{entry_due, changes_keys}
 use Rattle.reg_model.specs.Watches.{Watch, ending, few_ending, watch_of, pending_past, notices}
 use Rattle.reg_model.specs.Histories.{state_of, replay, pending, fired, IsFit}
 use Rattle.reg_model.specs.declared.notice.Notice.{Notice}
@@ -287,15 +287,17 @@ kept-unmade {origin = origin} kept new es' room' session moment n change lack ma
 pub accepted : {origin : Tree} {es : List Entry} {store : Store} {room : ℕ} (kept : HiveInvariant origin es store room) (v new : View) →
     view_with origin es store ≡ v → (session moment : ℕ) (change : Change) (told : ChangeReply) →
     told ≡ reply_to (at (length es) store) session change → new.journal ≡ es ++ entry_with es session moment change told ∷ [] → new.origin ≡ origin →
-    new.watches.taken ≡ store.watches.taken → length store.tree.bins.bytes ≤ length new.keys.bins.bytes →
+    new.watches.taken ≡ store.watches.taken → (changes_keys change told ≡ false → new.keys ≡ store.tree) →
+    length store.tree.bins.bytes ≤ length new.keys.bins.bytes →
     length new.keys.bins.bytes ≤ length store.tree.bins.bytes + growth_of change → IsHive new → IsAccepted v new session moment change told
-accepted {origin = origin} {es = es} {store = store} kept v new view_is session moment change told reply journal same taken kept_bins grows hive =
+accepted {origin = origin} {es = es} {store = store} kept v new view_is session moment change told reply journal same taken kept_keys kept_bins grows hive =
     let says = reply ∙ ap (λ (s : State). reply_to s session change) (sym (state-kept kept)) in
     subst (λ (w : View). IsAccepted w new session moment change told) view_is (record {
       says = says;
       journal = journal ∙ ap (λ (r : ChangeReply). es ++ entry_with es session moment change r ∷ []) says;
       origin = same;
       taken = taken;
+      kept_keys = kept_keys;
       kept = kept_bins;
       grows = grows;
       hive = hive;

@@ -16,6 +16,7 @@ use Rattle.reg_notify.specs.Tables.{Table as Watches}
 use Rattle.reg_notify.specs.Asked.{Adds}
 use Rattle.reg_model.specs.Causes.{State, change_cause, handles_of, no_handle_room, is_full, watches_of, is_bad_descriptor, is_bad_given}
 use Rattle.reg_model.specs.Replies.{reply_to, disposition_of}
+use Rattle.reg_model.specs.Calls.{changes_keys}
 use Rattle.reg_model.specs.declared.reply.ChangeReply.{ChangeReply}
 use Rattle.reg_model.specs.declared.call.Change.{Change}
 use Rattle.reg_model.specs.declared.call.Change.TheVariants.{OpenRoot, OpenKey, CreateKey, SetValue, DeleteValue, DeleteKey, DeleteTree, SetSecurity, Notify, Close}
@@ -104,10 +105,10 @@ module _ (n : ℕ) (store : Store) (session : ℕ) (ready : IsReady n store) whe
   pub root-done : (moment mask : ℕ) (table : Table Node) (text : List ℕ) → text ≡ [] → added table mask text → (told : ChangeReply) →
       told ≡ opening None → KnowsKeys (record { tree = store.tree; handles = table; watches = store.watches }) →
       IsDone store (record { tree = store.tree; handles = table; watches = store.watches }) session moment n (OpenRoot mask) told
-  unfolding after reply_to watch_of
+  unfolding after reply_to watch_of changes_keys
   root-done moment mask table text empty add told e known =
       let handles = add ∙ ap (λ (t : List ℕ). hs ++ record { number = n; session = session; mask = mask; destination = At (path_of t) } ∷ []) empty in
-      record { world = λ i. record { tree = tree; handles = handles i }; reply = e; kept = omega arith; grows = no-growth store; known = known; watches = refl }
+      record { world = λ i. record { tree = tree; handles = handles i }; reply = e; kept_keys = λ none. refl; kept = omega arith; grows = no-growth store; known = known; watches = refl }
 
   -- ---- OpenKey
 
@@ -119,10 +120,10 @@ module _ (n : ℕ) (store : Store) (session : ℕ) (ready : IsReady n store) whe
         (told : ChangeReply) → told ≡ opening None → KnowsKeys (record { tree = store.tree; handles = table; watches = store.watches }) →
         IsDone store (record { tree = store.tree; handles = table; watches = store.watches }) session moment n
         (OpenKey h path mask) told
-    unfolding after reply_to watch_of
+    unfolding after reply_to watch_of changes_keys
     open-done moment table text names add told e known =
         let handles = add ∙ ap (λ (p : Path). hs ++ record { number = n; session = session; mask = mask; destination = At p } ∷ []) names in
-        record { world = λ i. record { tree = tree; handles = handles i }; reply = e; kept = omega arith; grows = no-growth store; known = known; watches = refl }
+        record { world = λ i. record { tree = tree; handles = handles i }; reply = e; kept_keys = λ none. refl; kept = omega arith; grows = no-growth store; known = known; watches = refl }
 
   -- ---- CreateKey
 
@@ -138,13 +139,14 @@ module _ (n : ℕ) (store : Store) (session : ℕ) (ready : IsReady n store) whe
     pub create-done : (moment : ℕ) (keys : Keys) (table : Table Node) (text : List ℕ) → path_of text ≡ path_from session h hs path →
         keys.tree ≡ with_keys tree (path_at session h hs) (path_of path) given moment → added table mask text → (told : ChangeReply) →
         told ≡ opening (Some (disposition_of (missing tree (path_at session h hs) (path_of path)))) →
+        (changes_keys (CreateKey h path mask given) told ≡ false → keys ≡ store.tree) →
         length store.tree.bins.bytes ≤ length keys.bins.bytes → length keys.bins.bytes ≤ length store.tree.bins.bytes + GROWTH_BOUND →
         KnowsKeys (record { tree = keys; handles = table; watches = store.watches }) →
         IsDone store (record { tree = keys; handles = table; watches = store.watches }) session moment n (CreateKey h path mask given) told
     unfolding after reply_to watch_of
-    create-done moment keys table text names made add told e kept larger known =
+    create-done moment keys table text names made add told e same kept larger known =
         let handles = add ∙ ap (λ (p : Path). hs ++ record { number = n; session = session; mask = mask; destination = At p } ∷ []) names in
-        record { world = λ i. record { tree = made i; handles = handles i }; reply = e; kept = kept; grows = larger; known = known; watches = refl }
+        record { world = λ i. record { tree = made i; handles = handles i }; reply = e; kept_keys = same; kept = kept; grows = larger; known = known; watches = refl }
 
     -- where no key is missing
     pub create-there : (rest : List ℕ) → path_of rest ≡ missing tree (path_at session h hs) (path_of path) → rest ≡ [] →
@@ -154,7 +156,7 @@ module _ (n : ℕ) (store : Store) (session : ℕ) (ready : IsReady n store) whe
     create-there rest missed empty moment table text names add told e known =
         let none : missing tree (path_at session h hs) (path_of path) ≡ [] = sym missed ∙ ap path_of empty in
         create-done moment store.tree table text names (sym (none-made tree (path_at session h hs) (path_of path) given moment none)) add told
-        (e ∙ ap (λ (m : List (List ℕ)). opening (Some (disposition_of m))) (sym none)) (omega arith) (omega arith) known
+        (e ∙ ap (λ (m : List (List ℕ)). opening (Some (disposition_of m))) (sym none)) (λ is. refl) (omega arith) (omega arith) known
 
     -- where some are
     pub made-disposition : (rest : List ℕ) → path_of rest ≡ missing tree (path_at session h hs) (path_of path) → rest ≢ [] →
@@ -164,6 +166,11 @@ module _ (n : ℕ) (store : Store) (session : ℕ) (ready : IsReady n store) whe
         by : (m : List (List ℕ)) → path_of rest ≡ m → 1 ≡ disposition_of m
         by [] e = absurd (with-names rest some e)
         by (x ∷ xs) e = refl
+
+    -- and it may have changed keys
+    pub made-changed : (told : ChangeReply) → told ≡ opening (Some 1) → {X : Type 0} → changes_keys (CreateKey h path mask given) told ≡ false → X
+    unfolding changes_keys
+    made-changed told e none = absurd (cc)
 
   -- ---- SetValue
 
@@ -181,8 +188,8 @@ module _ (n : ℕ) (store : Store) (session : ℕ) (ready : IsReady n store) whe
         told ≡ plain → length store.tree.bins.bytes ≤ length keys.bins.bytes → length keys.bins.bytes ≤ length store.tree.bins.bytes + GROWTH_BOUND →
         KnowsKeys (record { tree = keys; handles = store.handles; watches = store.watches }) →
         IsDone store (record { tree = keys; handles = store.handles; watches = store.watches }) session moment n (SetValue h name kind bytes) told
-    unfolding after reply_to watch_of
-    set-done moment keys set told e kept larger known = record { world = λ i. record { tree = set i; handles = hs }; reply = e; kept = kept; grows = larger; known = known; watches = refl }
+    unfolding after reply_to watch_of changes_keys
+    set-done moment keys set told e kept larger known = record { world = λ i. record { tree = set i; handles = hs }; reply = e; kept_keys = λ none. absurd (cc); kept = kept; grows = larger; known = known; watches = refl }
 
   -- ---- DeleteValue
 
@@ -190,9 +197,9 @@ module _ (n : ℕ) (store : Store) (session : ℕ) (ready : IsReady n store) whe
     pub drop-done : (moment : ℕ) (keys : Keys) → keys.tree ≡ edited tree (path_at session h hs) (without_value name moment) → (told : ChangeReply) → told ≡ plain →
         length keys.bins.bytes ≡ length store.tree.bins.bytes → KnowsKeys (record { tree = keys; handles = store.handles; watches = store.watches }) →
         IsDone store (record { tree = keys; handles = store.handles; watches = store.watches }) session moment n (DeleteValue h name) told
-    unfolding after reply_to watch_of
+    unfolding after reply_to watch_of changes_keys
     drop-done moment keys set told e long known =
-        record { world = λ i. record { tree = set i; handles = hs }; reply = e; kept = omega (arith, long); grows = omega (arith, long); known = known; watches = refl }
+        record { world = λ i. record { tree = set i; handles = hs }; reply = e; kept_keys = λ none. absurd (cc); kept = omega (arith, long); grows = omega (arith, long); known = known; watches = refl }
 
   -- ---- DeleteKey
 
@@ -202,10 +209,10 @@ module _ (n : ℕ) (store : Store) (session : ℕ) (ready : IsReady n store) whe
         told ≡ plain → length keys.bins.bytes ≡ length store.tree.bins.bytes →
         KnowsKeys (record { tree = keys; handles = table; watches = store.watches }) →
         IsDone store (record { tree = keys; handles = table; watches = store.watches }) session moment n (DeleteKey h path) told
-    unfolding after reply_to watch_of
+    unfolding after reply_to watch_of changes_keys
     delete-done moment keys table text names gone turn told e long known =
         let handles = turn ∙ ap (λ (p : Path). turned p hs) names in
-        record { world = λ i. record { tree = gone i; handles = handles i }; reply = e; kept = omega (arith, long); grows = omega (arith, long); known = known; watches = refl }
+        record { world = λ i. record { tree = gone i; handles = handles i }; reply = e; kept_keys = λ none. absurd (cc); kept = omega (arith, long); grows = omega (arith, long); known = known; watches = refl }
 
   -- ---- DeleteTree
 
@@ -220,8 +227,8 @@ module _ (n : ℕ) (store : Store) (session : ℕ) (ready : IsReady n store) whe
         cond (length path == 0) (gone-contents moment) (gone-tree moment) → (told : ChangeReply) → told ≡ plain → length keys.bins.bytes ≡ length store.tree.bins.bytes →
         KnowsKeys (record { tree = keys; handles = table; watches = store.watches }) →
         IsDone store (record { tree = keys; handles = table; watches = store.watches }) session moment n (DeleteTree h path) told
-    unfolding after reply_to watch_of
-    tree-done moment keys table world told e long known = record { world = world; reply = e; kept = omega (arith, long); grows = omega (arith, long); known = known; watches = refl }
+    unfolding after reply_to watch_of changes_keys
+    tree-done moment keys table world told e long known = record { world = world; reply = e; kept_keys = λ none. absurd (cc); kept = omega (arith, long); grows = omega (arith, long); known = known; watches = refl }
 
     -- by a path that has names
     pub branch-done : (moment : ℕ) (keys : Keys) (table : Table Node) (text : List ℕ) → path_of path ≢ [] → path_of text ≡ path_from session h hs path →
@@ -256,8 +263,8 @@ module _ (n : ℕ) (store : Store) (session : ℕ) (ready : IsReady n store) whe
         told ≡ plain → length store.tree.bins.bytes ≤ length keys.bins.bytes → length keys.bins.bytes ≤ length store.tree.bins.bytes + GROWTH_BOUND →
         KnowsKeys (record { tree = keys; handles = store.handles; watches = store.watches }) →
         IsDone store (record { tree = keys; handles = store.handles; watches = store.watches }) session moment n (SetSecurity h descriptor) told
-    unfolding after reply_to watch_of
-    secure-done moment keys set told e kept larger known = record { world = λ i. record { tree = set i; handles = hs }; reply = e; kept = kept; grows = larger; known = known; watches = refl }
+    unfolding after reply_to watch_of changes_keys
+    secure-done moment keys set told e kept larger known = record { world = λ i. record { tree = set i; handles = hs }; reply = e; kept_keys = λ none. absurd (cc); kept = kept; grows = larger; known = known; watches = refl }
 
   -- ---- Notify
 
@@ -273,10 +280,11 @@ module _ (n : ℕ) (store : Store) (session : ℕ) (ready : IsReady n store) whe
 
     pub notify-done : (moment : ℕ) (watches : Watches) (p : Path) → p ≡ path_at session h hs → Adds (watch p) store.watches watches → (told : ChangeReply) → told ≡ plain →
         IsDone store (record { tree = store.tree; handles = store.handles; watches = watches }) session moment n (Notify h filter subtree) told
-    unfolding after reply_to watch_of
+    unfolding after reply_to watch_of changes_keys
     notify-done moment watches p here adds told e = record {
       world = refl;
       reply = e;
+      kept_keys = λ none. refl;
       kept = omega arith;
       grows = no-growth store;
       known = ready.known;
@@ -291,8 +299,8 @@ module _ (n : ℕ) (store : Store) (session : ℕ) (ready : IsReady n store) whe
   pub close-done : (moment h : ℕ) (table : Table Node) → table.handles ≡ closed h hs → (told : ChangeReply) → told ≡ plain →
       KnowsKeys (record { tree = store.tree; handles = table; watches = store.watches }) →
       IsDone store (record { tree = store.tree; handles = table; watches = store.watches }) session moment n (Close h) told
-  unfolding after reply_to watch_of
-  close-done moment h table shut told e known = record { world = λ i. record { tree = tree; handles = shut i }; reply = e; kept = omega arith; grows = no-growth store; known = known; watches = refl }
+  unfolding after reply_to watch_of changes_keys
+  close-done moment h table shut told e known = record { world = λ i. record { tree = tree; handles = shut i }; reply = e; kept_keys = λ none. refl; kept = omega arith; grows = no-growth store; known = known; watches = refl }
 
 -- ---- a change that isn't made
 

@@ -123,6 +123,7 @@ carried-out old mid new session moment n change told announced done ann tree han
     subst (λ (s : Store). IsCarriedOut old s session moment n change told) (sym same) (record {
       world = done.world;
       reply = done.reply;
+      kept_keys = done.kept_keys;
       kept = done.kept;
       grows = done.grows;
       known = done.known;

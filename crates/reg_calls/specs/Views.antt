@@ -12,7 +12,7 @@ use Rattle.reg_model.specs.Worlds.{Handle}
 use Rattle.reg_model.specs.Causes.{State, change_cause, query_cause}
 use Rattle.reg_model.specs.Callbacks.{Callbacks, change_status, query_status}
 use Rattle.reg_model.specs.Replies.{reply_to, refusal, body_of}
-use Rattle.reg_model.specs.Calls.{entry_due}
+use Rattle.reg_model.specs.Calls.{entry_due, changes_keys}
 use Rattle.reg_model.specs.Histories.{state_of, IsLegal, replay, pending, fired}
 use Rattle.reg_model.specs.contracts.reply.Entry.{the_row}
 use Rattle.reg_model.specs.declared.reply.Entry.{Entry}
@@ -84,13 +84,14 @@ pub record HiveInvariant (origin : Tree) (journal : List Entry) (store : Store) 
 abbrev pub entry_of : View → ℕ → ℕ → Change → Entry
 entry_of v session moment change = entry_due (state v) session moment change
 
--- the change is accepted: its reply is the one due, the journal grows by its entry, no notice is handed out, and the bins are no
--- smaller and grow by no more than it may take
+-- the change is accepted: its reply is the one due, the journal grows by its entry, no notice is handed out, the keys are as they were
+-- in their bins unless it may have changed some, and the bins are no smaller and grow by no more than it may take
 pub record IsAccepted (old new : View) (session moment : ℕ) (change : Change) (reply : ChangeReply) : Type 0 where
   pub says : reply ≡ reply_to (state old) session change
   pub journal : new.journal ≡ old.journal ++ entry_of old session moment change ∷ []
   pub origin : new.origin ≡ old.origin
   pub taken : new.watches.taken ≡ old.watches.taken
+  pub kept_keys : changes_keys change reply ≡ false → new.keys ≡ old.keys
   pub kept : length old.keys.bins.bytes ≤ length new.keys.bins.bytes
   pub grows : length new.keys.bins.bytes ≤ length old.keys.bins.bytes + growth_of change
   pub hive : IsHive new

@@ -18,17 +18,12 @@ use crate::replies::opened;
 use crate::store::{Store, is_bad_descriptor, is_bad_open, path_below};
 use reg_callbacks::Callback;
 use reg_model::ChangeReply;
+use reg_model::dispositions::{MADE, THERE};
 use reg_model::filters::NAME;
 use reg_model::statuses::NO_SYSTEM_RESOURCES;
 use reg_notify::{Place, Removed};
 use reg_tree::Reached;
 use std::alloc::{AllocError, Global};
-
-/// The disposition of a key that was made.
-const MADE: u32 = 1;
-
-/// The disposition of a key that was there.
-const THERE: u32 = 2;
 
 /// What a CreateKey was admitted with.
 #[derive(Drop)]

@@ -6,6 +6,7 @@ ghost use Rattle.reg_arena.specs.Arena.{IsSound};
 ghost use Rattle.reg_arena.specs.Cells.{cell_at};
 ghost use Rattle.reg_model.specs.Histories.{IsLegal, replay, pending, fired};
 ghost use Rattle.reg_tree.specs.TreeKeys.{made_root, IsWholeTree};
+ghost use Rattle.reg_tree.specs.NewHive.{IsNewHive};
 ghost use Rattle.reg_notify.specs.Tables.{told_to, taken_by};
 ghost use Rattle.reg_callbacks.specs.declared.callbacks.TheConstants.{REGISTRATIONS_LIMIT};
 ghost use Rattle.reg_callbacks.specs.Rows.{is_falling, is_among, IsOneMore};
@@ -59,7 +60,7 @@ impl<C: Callback> Hive<C> {
     /// A hive of one root: the name as given, mark 8 (no delete), no class, the descriptor, the moment (100 ns units
     /// since 1601) and no values. No handle is open, no watch is pending, and the journal is empty. `Name` where the name is none that a key may
     /// have, else `Descriptor` where that is empty or above 65,535 bytes, else `Memory`. It has one bin, of the least size that
-    /// holds its root's key node and security.
+    /// holds its root's key node and security, and these two stand there (clause `cells`).
     pub fn new(
         alloc: Global,
         root_name: &[u8],
@@ -72,6 +73,7 @@ impl<C: Callback> Hive<C> {
         ensures taken { IfOk result (λ h. (s : ℕ) → taken_by (view_of h).watches s ≡ 0) }
         ensures callbacks { IfOk result (λ h. (rows_of (callbacks_of h) ≡ []) × (made_of (callbacks_of h) ≡ 0)) }
         ensures bin { IfOk result (λ h. length (view_of h).keys.bins.bytes ≡ new_size (length root_name.now) (length descriptor.now)) }
+        ensures cells { IfOk result (λ h. IsNewHive (view_of h).keys root_name.now descriptor.now moment) }
         ensures name { IsErrOf result NewFault.Name ↔ (is_key_name root_name.now ≡ false) }
         ensures descriptor { IsErrOf result NewFault.Descriptor
             ↔ ((is_key_name root_name.now ≡ true)

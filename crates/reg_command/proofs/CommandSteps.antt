@@ -1,23 +1,21 @@
 -- What each command did, put together of what its steps did.
-use Rattle.std.proofs.Common.{◌≡◌, ◌∙◌, ◌≤◌, ◌+◌, List, [], ℕ, ap, sym, subst, inl, inr, length, map}
-use Rattle.std.specs.Prelude.{Option, Ok}
+use Rattle.std.proofs.Common.{◌≡◌, ◌∙◌, List, [], ℕ, ap, sym, subst, inl, inr, map}
+use Rattle.std.specs.Prelude.{Option}
 use Rattle.reg_callbacks.specs.Asking.{Answers, asks}
 use Rattle.reg_callbacks.specs.declared.row.Row.{Row}
 use Rattle.reg_model.specs.Callbacks.{Callbacks, no_callbacks}
 use Rattle.std.specs.Io.KnownBytes.{Appends, Consumes, IsAtEnd}
 use Rattle.reg_heap.specs.Paths.{Tree}
-use Rattle.reg_heap.specs.declared.limits.TheConstants.{BINS_LIMIT}
-use Rattle.reg_tree.specs.TreeKeys.{Keys}
 use Rattle.reg_calls.specs.Views.{View}
 use Rattle.reg_script.specs.LineWords.{lines_of}
 use Rattle.reg_script.specs.Lines.{IsFresh, Lines, LinesTo}
 use Rattle.reg_script.specs.Stops.{AreWithin, Stops as ScriptStops, StopsFresh}
 use Rattle.reg_script.specs.declared.engine.ScriptFault.{ScriptFault}
-use Rattle.reg_image.specs.declared.LoadFault.{LoadFault}
-use Rattle.reg_image.specs.Loads.{IsLoaded, IsRefused}
+use Rattle.reg_tree_image.specs.declared.LoadFault.{LoadFault}
+use Rattle.reg_tree_image.specs.Loads.{ReadsImage, MeetsFault}
 use Rattle.reg_command.specs.ScriptRuns.{RunsScript, LeadsTo, image_at}
-use Rattle.reg_command.specs.ImageRuns.{ReadsImage, TellsImage, MeetsFault, fault_line}
-use Rattle.reg_command.specs.Failures.{ImageStops, TellStops}
+use Rattle.reg_command.specs.ImageRuns.{TellsImage, fault_line}
+use Rattle.reg_command.specs.Failures.{ImageStops, TellStops, script_line}
 use Rattle.reg_command.specs.Internal.Steps.{SendStops, TellingStops, IsFaultTold}
 use Rattle.reg_command.specs.declared.failure.Stop.{Stop}
 use Rattle.reg_command.specs.declared.failure.Stop.TheVariants.{Script, Load, Write, Memory}
@@ -80,20 +78,6 @@ image_stops sequence last moment (Load fault) unread left before after leads h =
 
 -- ---- images
 
-pub reads : (tree : Keys) (view : View) (unread left : Option (List ℕ)) → tree ≡ view.keys →
-    ((image : List ℕ) × Consumes unread left image × IsLoaded image view) → ReadsImage unread left tree.tree
-reads tree view unread left is h = record {
-  image = h.0;
-  consumed = h.1;
-  size = h.2.size;
-  loads = h.2.tree ∙ ap Ok (sym (ap (λ (k : Keys). k.tree) is ∙ h.2.keys));
-}
-
-pub meets : (fault : LoadFault) (unread left : Option (List ℕ)) →
-    ((image : List ℕ) × Consumes unread left image × (length image ≤ 4096 + BINS_LIMIT) × IsRefused fault image left) →
-    MeetsFault fault unread left
-meets fault unread left h = record { image = h.0; consumed = h.1; within = h.2; refused = h.3 }
-
 module _ (text_of : Tree → List ℕ) (unread left before after : Option (List ℕ)) where
   pub tells : (tree : Tree) → ReadsImage unread left tree → Appends before after (text_of tree) →
       TellsImage text_of unread left before after
@@ -117,3 +101,7 @@ module _ (text_of : Tree → List ℕ) (unread left before after : Option (List 
 -- the line of a fault that is known
 pub line_at : (fault known : LoadFault) (line : List ℕ) → fault ≡ known → line ≡ fault_line known → line ≡ fault_line fault
 line_at fault known line is e = e ∙ ap fault_line (sym is)
+
+-- and of a script's fault that is
+pub script_line_at : (fault known : ScriptFault) (line : List ℕ) → fault ≡ known → line ≡ script_line known → line ≡ script_line fault
+script_line_at fault known line is e = e ∙ ap script_line (sym is)

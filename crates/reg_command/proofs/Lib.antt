@@ -1,4 +1,2 @@
-pub mod AskedLemmas
-pub mod CommandLineLemmas
 pub mod CommandSteps
 pub mod FreshHives

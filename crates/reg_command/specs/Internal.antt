@@ -1,3 +1,2 @@
--- Words that only private contracts and proofs use: what is read of a command line.
-pub mod Readings
+-- Words that only private contracts and proofs use: what the steps of a command do.
 pub mod Steps

@@ -1,4 +1,3 @@
-pub mod CommandLines
 pub mod ScriptRuns
 pub mod ImageRuns
 pub mod Failures

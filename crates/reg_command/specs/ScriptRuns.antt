@@ -4,7 +4,7 @@ use Rattle.std.specs.Io.KnownBytes.{IsAtEnd, Appends, Consumes}
 use Rattle.reg_model.specs.Callbacks.{no_callbacks}
 use Rattle.reg_calls.specs.Views.{View}
 use Rattle.reg_script.specs.Lines.{IsFresh, Writes, LinesTo}
-use Rattle.reg_image.specs.Images.{image_of}
+use Rattle.reg_tree_image.specs.Images.{image_of}
 
 -- the input was read to its end, and what was written are the replies that the rules give for all that was read
 pub record RunsScript (unread left before after : Option (List ℕ)) : Type 0 where

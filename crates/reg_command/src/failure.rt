@@ -1,7 +1,7 @@
-use reg_image::LoadFault;
 use reg_script::ScriptFault;
+use reg_tree_image::LoadFault;
 
-/// What ended a command early, with status 1.
+/// What ended a request early, with status 1.
 #[derive(Clone, Copy, Debug, PartialEq, Eq)]
 pub enum Stop {
     /// `error script N`.
@@ -12,15 +12,4 @@ pub enum Stop {
     Write(u64),
     /// `error 8`.
     Memory,
-}
-
-/// What ended the tool early.
-#[derive(Drop)]
-pub enum Failure {
-    /// The text of `clap` on the command line, status 2.
-    Usage(String),
-    /// What ended a command, status 1.
-    Stopped(Stop),
-    /// `error 8`, status 1: no memory to read the command line.
-    NoMemory,
 }

@@ -1,16 +1,15 @@
 //! What `dump` and `check` do: an image loaded, and its tree told.
 ghost use Rattle.std.specs.Prelude.{◌≡◌, OnOk, IfOk, IfErr, string_bytes};
 ghost use Rattle.std.specs.Io.KnownBytes.{Appends};
-ghost use Rattle.reg_dump.specs.DumpTexts.{dump_text, check_text};
+ghost use Rattle.reg_tree_text.specs.DumpTexts.{dump_text, check_text};
 ghost use Rattle.reg_command.specs.ImageRuns.{TellsImage, fault_line};
 ghost use Rattle.reg_command.specs.Failures.{TellStops};
 ghost use Rattle.reg_command.specs.Internal.Steps.{TellingStops, IsFaultTold};
 
 use crate::failure::Stop;
-use reg_callbacks::NoCallback;
-use reg_dump::{DumpFault, check_line, count, dump};
-use reg_image::{LoadFault, load, write_image};
 use reg_tree::Tree;
+use reg_tree_image::{LoadFault, load_tree, write_image};
+use reg_tree_text::{DumpFault, check_line, count, dump};
 use std::alloc::{AllocError, Global};
 use std::io::{Read, Write};
 
@@ -92,8 +91,8 @@ pub fn dump_image<R: Read, W: Write>(
     ensures err { IfErr result (λ stop. TellStops dump_text stop (R.remaining input.old) (R.remaining input.new) (W.contents output.old)
         (W.contents output.new)) }
 {
-    match load::<R, NoCallback>(alloc, input) {
-        Ok(hive) => send_dump(alloc, hive.tree(), output),
+    match load_tree(alloc, input) {
+        Ok(tree) => send_dump(alloc, &tree, output),
         Err(fault) => Err(send_fault(fault, output)),
     }
 }
@@ -109,8 +108,8 @@ pub fn check_image<R: Read, W: Write>(
     ensures err { IfErr result (λ stop. TellStops check_text stop (R.remaining input.old) (R.remaining input.new) (W.contents output.old)
         (W.contents output.new)) }
 {
-    match load::<R, NoCallback>(alloc, input) {
-        Ok(hive) => send_counts(alloc, hive.tree(), output),
+    match load_tree(alloc, input) {
+        Ok(tree) => send_counts(alloc, &tree, output),
         Err(fault) => Err(send_fault(fault, output)),
     }
 }

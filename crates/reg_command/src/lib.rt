@@ -1,62 +1,37 @@
-//! The tool as a library: which words its command line takes, and the exit status and the texts of a run. The program is the crate
-//! regtool, which only passes on what it is started with: nothing can stand on a program, no test of another crate either.
+//! The tool on its standard streams, as a library: the exit status and the texts of a run. The program is the crate regtool, which only
+//! passes on what it is started with: nothing can stand on a program, no test of another crate either.
 //!
-//! Its one contract is that of [`tool`]: the status is 0 only where the words are a command line and what it asks for was done; 1 where
-//! a script's fault, a load fault, a failed write or want of memory ended it; 2 for any other words, and then nothing is touched.
-//! It stands on reg_script, reg_image, reg_dump and reg_calls, and reads its words by `clap`. It has no type of its own that others
-//! need.
+//! Its contracts are those of [`serve_stream`], which does what is asked of standard input (the status is 0 only where that was done,
+//! and 1 where a script's fault, a load fault, a failed write or want of memory ended it), and of [`tool`], which reads a command line
+//! before, and answers 2 for words that ask for nothing of the kind, and then nothing is touched. [`refuse_words`] tells these words'
+//! fault. [`perform`] and [`report_stop`] are the two halves of [`serve_stream`]. It stands on reg_words, which reads the words by
+//! `clap`, and on reg_script, reg_image, reg_tree_text and reg_calls. Its one type is [`Stop`], what ended a request early.
 //!
-//! `words` reads the command line; `scripts` has what `run` does, and `images` what `dump` and `check` do.
+//! `scripts` has what `run` does, `images` what `dump` and `check` do, and `tellings` what is told on the side.
 #![tactic(auto)]
 
 mod failure;
 mod images;
 mod scripts;
-mod words;
+mod tellings;
 
-ghost use Rattle.std.specs.Prelude.{◌≡◌, ◌≤◌, OnOk, IfOk, IfErr};
-ghost use Rattle.clap.specs.Values.{kind_of};
-ghost use Rattle.reg_command.specs.CommandLines.{texts, IsCommandLine, IsUnderstood};
-ghost use Rattle.reg_command.specs.Failures.{Does, Stops, IsDone, IsRefused, IsBefore, IsTold, IsFailure, IsStopped};
-ghost use Rattle.reg_command.specs.Internal.Steps.{IsAnswered};
+ghost use Rattle.std.specs.Prelude.{◌≡◌, ◌≤◌, OnOk, IfErr};
+ghost use Rattle.reg_words.specs.CommandLines.{texts};
+ghost use Rattle.reg_command.specs.Failures.{Does, Stops, EndsEarly, IsDone, IsRefused, IsStopped};
 
-use crate::failure::{Failure, Stop};
 use crate::images::{check_image, dump_image};
 use crate::scripts::{run_script, run_to_image};
-use crate::words::{Request, read_words};
-use clap::Error;
-use clap::error::ErrorKind;
-use reg_text::{Sink, write_counted};
-use std::alloc::{AllocError, Global};
+pub use failure::Stop;
+use reg_text::Sink;
+use reg_words::{StreamRequest, read_stream_words};
+use std::alloc::Global;
 use std::io::{Read, Write};
+pub use tellings::{refuse_words, report_stop};
 
-fn usage(alloc: Global, error: &Error) -> Failure
-    ensures { IsTold (kind_of error.now) result }
-{
-    if error.kind() == ErrorKind::OutOfMemory {
-        return Failure::NoMemory;
-    }
-    match format!(in alloc; "{error}") {
-        Ok(text) => Failure::Usage(text),
-        Err(_) => Failure::NoMemory,
-    }
-}
-
-/// What the words ask for, or why they are no command line.
-fn ask(alloc: Global, words: &[String]) -> Result<Request, Failure>
-    ensures ok { IfOk result (λ request. IsCommandLine (texts words.now) request) }
-    ensures err { IfErr result (λ failure. IsBefore (texts words.now) failure) }
-{
-    match read_words(alloc, words) {
-        Ok(request) => Ok(request),
-        Err(error) => Err(usage(alloc, &error)),
-    }
-}
-
-/// Does what was asked for.
-fn answer<R: Read, W: Write>(
+/// Does what [`serve_stream`] does, but leaves it to the caller to say what ended it early ([`report_stop`]).
+pub fn perform<R: Read, W: Write>(
     alloc: Global,
-    request: Request,
+    request: StreamRequest,
     input: &mut R,
     output: &mut W,
 ) -> Result<(), Stop>
@@ -66,75 +41,50 @@ fn answer<R: Read, W: Write>(
         (W.contents output.new)) }
 {
     match request {
-        Request::Run => run_script(alloc, input, output),
-        Request::Image(sequence) => run_to_image(alloc, sequence, input, output),
-        Request::Dump => dump_image(alloc, input, output),
-        Request::Check => check_image(alloc, input, output),
+        StreamRequest::Run => run_script(alloc, input, output),
+        StreamRequest::Image(sequence) => run_to_image(alloc, sequence, input, output),
+        StreamRequest::Dump => dump_image(alloc, input, output),
+        StreamRequest::Check => check_image(alloc, input, output),
     }
 }
 
-fn attempt<R: Read, W: Write>(
-    alloc: Global,
-    words: &[String],
-    input: &mut R,
-    output: &mut W,
-) -> Result<(), Failure>
-    ensures ok { OnOk result (IsAnswered (texts words.now) (R.remaining input.old) (R.remaining input.new) (W.contents output.old)
-        (W.contents output.new)) }
-    ensures err { IfErr result (λ failure. IsFailure failure (texts words.now) (R.remaining input.old) (R.remaining input.new)
-        (W.contents output.old) (W.contents output.new)) }
-{
-    match ask(alloc, words) {
-        Ok(request) => match answer(alloc, request, input, output) {
-            Ok(()) => Ok(()),
-            Err(stop) => Err(Failure::Stopped(stop)),
-        },
-        Err(failure) => Err(failure),
-    }
-}
-
-/// Tells what ended a command. What a writer doesn't take is lost.
-fn tell<E: Sink>(alloc: Global, errors: &mut E, stop: Stop) {
-    match stop {
-        Stop::Script(fault) => {
-            let _ = write_counted(errors, b"error script ");
-            let _ = write_counted(errors, &[b'0' + fault.number(), b'\n']);
-        }
-        Stop::Load(_) => {}
-        Stop::Write(written) => {
-            let _ = match format!(in alloc; "error 1013 written {written}\n") {
-                Ok(text) => write_counted(errors, text.as_bytes()),
-                Err(_) => write_counted(errors, b"error 8\n"),
-            };
-        }
-        Stop::Memory => {
-            let _ = write_counted(errors, b"error 8\n");
-        }
-    }
-}
-
-/// Whether words, the program's name first, are a command line of [`tool`]. Want of memory is its one fault.
-pub fn understands(alloc: Global, words: &[String]) -> Result<bool, AllocError>
-    ensures { IfOk result (λ is. IsUnderstood (texts words.now) is) }
-{
-    match ask(alloc, words) {
-        Ok(_) => Ok(true),
-        Err(Failure::Usage(_)) => Ok(false),
-        Err(_) => Err(AllocError),
-    }
-}
-
-/// Runs the tool on a command line, whose first word is the program's name, and answers the exit status.
+/// Does what is asked of `input`, and answers the exit status.
 ///
-/// `run` runs a script from `input` and writes its replies to `output`; with `--image SEQ` it writes no replies but, at the script's
-/// end, the image of its hive at the moment of the last `at`, with that sequence number, a `u32`. `dump` reads an image and writes
-/// its tree as text, `check` how many keys and values it has.
+/// `Run` runs a script and writes its replies to `output`; `Image` writes no replies but, at the script's end, the image of its hive
+/// at the moment of the last `at`, with that sequence number. `Dump` reads an image and writes its tree as text, `Check` how many keys
+/// and values it has.
 ///
 /// The status is 0 where all that was done. It is 1 after a script's fault (`error script N` on `errors`; no image is written), after
 /// a load fault (`error 1009 load N` on `output`, `error 8` where memory was wanting), after a failed write of an image or of the text
-/// of `dump` or `check` (`error 1013 written N` on `errors`), and for any other want of memory (`error 8` on `errors`). It is 2 for a
-/// command line that isn't understood or a request for help (the text on `errors`), and then nothing was read or written. A failed
-/// write to `errors` changes nothing.
+/// of a tree (`error 1013 written N` on `errors`), and for any other want of memory (`error 8` on `errors`). A failed write to `errors`
+/// changes nothing.
+pub fn serve_stream<R: Read, W: Write, E: Sink>(
+    alloc: Global,
+    request: StreamRequest,
+    input: &mut R,
+    output: &mut W,
+    errors: &mut E,
+) -> u8
+    ensures status { result ≤ 1 }
+    ensures done { result ≡ 0 → Does request (R.remaining input.old) (R.remaining input.new) (W.contents output.old) (W.contents output.new)
+        × (E.contents errors.new ≡ E.contents errors.old) }
+    ensures stopped { result ≡ 1 → EndsEarly request (R.remaining input.old) (R.remaining input.new) (W.contents output.old)
+        (W.contents output.new) (E.contents errors.old) (E.contents errors.new) (E.failures errors.old) (E.failures errors.new) }
+{
+    match perform(alloc, request, input, output) {
+        Ok(()) => 0,
+        Err(stop) => {
+            report_stop(alloc, errors, stop);
+            1
+        }
+    }
+}
+
+/// Runs the tool on a command line, whose first word is the program's name, and answers the exit status: that of [`serve_stream`] for
+/// what the words ask for.
+///
+/// It is 2 for a command line that asks for nothing of the standard streams, or for help (the text on `errors`), and then nothing was
+/// read or written; and 1 (`error 8` on `errors`) where there is no memory to read it.
 pub fn tool<R: Read, W: Write, E: Sink>(
     alloc: Global,
     words: Vec<String>,
@@ -152,19 +102,8 @@ pub fn tool<R: Read, W: Write, E: Sink>(
     ensures usage { result ≡ 2 →
         IsRefused (texts words.items) (R.remaining input.old) (R.remaining input.new) (W.contents output.old) (W.contents output.new) }
 {
-    match attempt(alloc, words.as_slice(), input, output) {
-        Ok(()) => 0,
-        Err(Failure::Usage(text)) => {
-            let _ = write_counted(errors, text.as_bytes());
-            2
-        }
-        Err(Failure::Stopped(stop)) => {
-            tell(alloc, errors, stop);
-            1
-        }
-        Err(Failure::NoMemory) => {
-            let _ = write_counted(errors, b"error 8\n");
-            1
-        }
+    match read_stream_words(alloc, words.as_slice()) {
+        Ok(request) => serve_stream(alloc, request, input, output, errors),
+        Err(error) => refuse_words(alloc, errors, &error),
     }
 }

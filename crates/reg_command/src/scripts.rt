@@ -10,7 +10,7 @@ use crate::failure::Stop;
 use reg_callbacks::{Callback, NoCallback};
 use reg_calls::{Hive, NewFault};
 use reg_image::write_hive;
-use reg_script::{run, run_to};
+use reg_script::{FRESH_DESCRIPTOR, run, run_to};
 use std::alloc::Global;
 use std::io;
 use std::io::{Read, Write};
@@ -18,16 +18,11 @@ use std::io::{Read, Write};
 /// The name of a script's hive's root.
 const ROOT_NAME: &[u8; 4] = b"ROOT";
 
-/// The root's descriptor: a self-relative security descriptor with nothing in it.
-const DESCRIPTOR: [u8; 20] = [
-    0x01, 0x00, 0x04, 0x80, 0, 0, 0, 0, 0, 0, 0, 0, 0, 0, 0, 0, 0, 0, 0, 0,
-];
-
 /// A script's hive: a root of that name at moment 0, and nothing else. `Memory` is its one fault.
 fn fresh_hive(alloc: Global) -> Result<Hive<NoCallback>, NewFault>
     ensures { IfOk result (λ hive. IsScriptHive hive) }
 {
-    Hive::new(alloc, ROOT_NAME, &DESCRIPTOR, 0)
+    Hive::new(alloc, ROOT_NAME, &FRESH_DESCRIPTOR, 0)
 }
 
 /// Runs a script on a hive and writes its replies.

@@ -1,15 +1,16 @@
 //! The tool on images: made of scripts, told and counted. The wanted bytes, lines and faults come from the format's tables and the rules
 //! of the tool.
-use crate::support::{assert_told, outcome_of, text_of, whole};
+use crate::support::{outcome_of, text_of, whole};
 use reg_fixtures::{
     Failure, FakeReader, FakeWriter, LIES, digits, drafted, narrow, put_changes, put_table,
     script_of_keys, table_of_keys, wide,
 };
+use reg_test_support::assert_report;
 use std::alloc::Global;
 use std::test::Fail;
 
 /// What a command with one word leaves behind of a reader, as text.
-fn told_by(
+fn report_by(
     alloc: Global,
     word: &str,
     input: FakeReader<'_>,
@@ -20,9 +21,9 @@ fn told_by(
 }
 
 /// What `dump` and `check` leave behind of an image.
-fn told(alloc: Global, image: &[u8]) -> Result<String, Fail> {
-    let mut text = told_by(alloc, "dump", whole(image), wide(alloc))?;
-    let checked = told_by(alloc, "check", whole(image), wide(alloc))?;
+fn report(alloc: Global, image: &[u8]) -> Result<String, Fail> {
+    let mut text = report_by(alloc, "dump", whole(image), wide(alloc))?;
+    let checked = report_by(alloc, "check", whole(image), wide(alloc))?;
     text.push_str(checked.as_str())?;
     Ok(text)
 }
@@ -41,7 +42,7 @@ fn image_of(alloc: Global, script: &str, sequence: &str) -> Result<Vec<u8>, Fail
 /// What is told of the image of a script.
 fn script_told(alloc: Global, script: &str) -> Result<String, Fail> {
     let bytes = image_of(alloc, script, "1")?;
-    told(alloc, &bytes)
+    report(alloc, &bytes)
 }
 
 /// So many digits of an image at each of these places.
@@ -69,8 +70,7 @@ fn image_digits(
 #[test]
 fn makes_the_image_of_a_fresh_hive(rt: HostRuntime) -> Result<(), Fail> {
     let places = [(0, 48), (508, 4), (4096, 12), (4128, 8), (4264, 8)];
-    assert_told(
-        &rt,
+    assert_report(
         image_digits(rt.alloc(), "", "1", &places),
         "8192 726567660100000001000000000000000000000001000000050000000000000001000000200000000010000001000000 \
          56756766 6862696e0000000000100000 a8ffffff6e6b2c00 580f0000ffffffff",
@@ -81,8 +81,7 @@ fn makes_the_image_of_a_fresh_hive(rt: HostRuntime) -> Result<(), Fail> {
 #[test]
 fn gives_images_their_moment_and_number(rt: HostRuntime) -> Result<(), Fail> {
     let script = "at 7\nroot 983103\nat 9\nat 258\nfrob\n";
-    assert_told(
-        &rt,
+    assert_report(
         image_digits(rt.alloc(), script, "4294967295", &[(0, 20)]),
         "8192 72656766ffffffffffffffff0201000000000000",
     )
@@ -98,7 +97,7 @@ keys 1 values 0
 
 #[test]
 fn tells_the_image_of_a_fresh_hive(rt: HostRuntime) -> Result<(), Fail> {
-    assert_told(&rt, script_told(rt.alloc(), ""), FRESH)
+    assert_report(script_told(rt.alloc(), ""), FRESH)
 }
 
 /// Makes `b` with two values and `A\c`.
@@ -113,8 +112,7 @@ set 1 = 1 x
 
 #[test]
 fn tells_keys_and_values(rt: HostRuntime) -> Result<(), Fail> {
-    assert_told(
-        &rt,
+    assert_report(
         script_told(rt.alloc(), SCRIPT),
         "\
 0;;root =ROOT
@@ -140,7 +138,7 @@ fn two_lists_told(alloc: Global) -> Result<String, Fail> {
 fn one_list_told(alloc: Global) -> Result<String, Fail> {
     let table = table_of_keys(alloc, 501)?;
     let bytes = drafted(alloc, 5, table.as_str())?;
-    told(alloc, &bytes)
+    report(alloc, &bytes)
 }
 
 /// Its last lines.
@@ -162,7 +160,7 @@ fn lists_told(alloc: Global) -> Result<String, Fail> {
 // a line for the root's name, one for each key, one for the counts; and the line of `check`
 #[test]
 fn tells_501_keys_of_one_list_and_of_two(rt: HostRuntime) -> Result<(), Fail> {
-    assert_told(&rt, lists_told(rt.alloc()), "true 505 true")
+    assert_report(lists_told(rt.alloc()), "true 505 true")
 }
 
 /// What is told of the first bytes of a fresh hive's image, from a reader that gives so many a call.
@@ -172,7 +170,7 @@ fn front_told(alloc: Global, len: usize, step: usize, fails: bool) -> Result<Str
     let mut text = String::new(alloc);
     for word in ["dump", "check"] {
         let input = FakeReader { rest, step, fails };
-        let found = told_by(alloc, word, input, wide(alloc))?;
+        let found = report_by(alloc, word, input, wide(alloc))?;
         text.push_str(found.as_str())?;
     }
     Ok(text)
@@ -183,20 +181,20 @@ fn tells_images_that_are_cut(rt: HostRuntime) -> Result<(), Fail> {
     let alloc = rt.alloc();
     for len in [0, 4095, 4096, 8191] {
         let found = front_told(alloc, len, usize::MAX, false);
-        assert_told(&rt, found, "1;;error 1009 load 2\n1;;error 1009 load 2\n")?;
+        assert_report(found, "1;;error 1009 load 2\n1;;error 1009 load 2\n")?;
     }
     for len in [0, 4096, 8191] {
         let found = front_told(alloc, len, 1000, true);
-        assert_told(&rt, found, "1;;error 1009 load 1\n1;;error 1009 load 1\n")?;
+        assert_report(found, "1;;error 1009 load 1\n1;;error 1009 load 1\n")?;
     }
-    assert_told(&rt, front_told(alloc, 8192, 1, true), FRESH)
+    assert_report(front_told(alloc, 8192, 1, true), FRESH)
 }
 
 /// What is told of a fresh hive's image with the changes of a table.
 fn changed_told(alloc: Global, changes: &str) -> Result<String, Fail> {
     let mut bytes = image_of(alloc, "", "1")?;
     put_table(alloc, &mut bytes, changes)?;
-    told(alloc, &bytes)
+    report(alloc, &bytes)
 }
 
 // the second sequence number with the checksum that this makes; and a name of three characters, one of them 0xE9
@@ -204,9 +202,9 @@ fn changed_told(alloc: Global, changes: &str) -> Result<String, Fail> {
 fn tells_images_that_were_changed(rt: HostRuntime) -> Result<(), Fail> {
     let alloc = rt.alloc();
     let found = changed_told(alloc, "8 02000000\n508 55756766");
-    assert_told(&rt, found, "1;;error 1009 load 6\n1;;error 1009 load 6\n")?;
+    assert_report(found, "1;;error 1009 load 6\n1;;error 1009 load 6\n")?;
     let found = changed_told(alloc, "4204 0300\n4208 52e954");
-    assert_told(&rt, found, "1;;error 1009 load 12\n1;;error 1009 load 12\n")
+    assert_report(found, "1;;error 1009 load 12\n1;;error 1009 load 12\n")
 }
 
 /// A key whose list of subkeys names the key itself, which is the next cell.
@@ -229,16 +227,16 @@ nk 44 9 1 @5 0 - @1 - 0 =ROOT";
 /// What is told of the image of a table.
 fn table_told(alloc: Global, table: &str) -> Result<String, Fail> {
     let bytes = drafted(alloc, 5, table)?;
-    told(alloc, &bytes)
+    report(alloc, &bytes)
 }
 
 #[test]
 fn tells_lists_that_lie(rt: HostRuntime) -> Result<(), Fail> {
     let alloc = rt.alloc();
     let found = table_told(alloc, OWN_KEY);
-    assert_told(&rt, found, "1;;error 1009 load 10\n1;;error 1009 load 10\n")?;
+    assert_report(found, "1;;error 1009 load 10\n1;;error 1009 load 10\n")?;
     let found = table_told(alloc, TWO_LISTS);
-    assert_told(&rt, found, "1;;error 1009 load 11\n1;;error 1009 load 11\n")
+    assert_report(found, "1;;error 1009 load 11\n1;;error 1009 load 11\n")
 }
 
 /// What `run --image 1` leaves behind of a script: its status, what was told of faults, and how many bytes of the image were written
@@ -260,7 +258,7 @@ fn image_told(
     )?)
 }
 
-/// The same of an empty script, for a writer of so much room.
+/// What the tool writes of an empty script to a writer of so much room.
 fn fresh_written(
     alloc: Global,
     step: usize,
@@ -284,11 +282,11 @@ fn tells_failed_writes_of_images(rt: HostRuntime) -> Result<(), Fail> {
             (8191, "1;error 1013 written 8191\n;true 8191"),
             (8192, "0;;true 8192"),
         ] {
-            assert_told(&rt, fresh_written(alloc, 1000, room, failure), wanted)?;
+            assert_report(fresh_written(alloc, 1000, room, failure), wanted)?;
         }
     }
     let found = fresh_written(alloc, 1, 9000, Failure::Flush);
-    assert_told(&rt, found, "1;error 1013 written 8192\n;true 8192")
+    assert_report(found, "1;error 1013 written 8192\n;true 8192")
 }
 
 /// What is left behind where a script's reader fails.
@@ -301,13 +299,13 @@ fn image_of_a_failed_script(alloc: Global) -> Result<String, Fail> {
 #[test]
 fn makes_no_image_after_a_fault_of_the_script(rt: HostRuntime) -> Result<(), Fail> {
     let found = image_of_a_failed_script(rt.alloc());
-    assert_told(&rt, found, "1;error script 1\n;true 0")
+    assert_report(found, "1;error script 1\n;true 0")
 }
 
 /// What a command tells of a fresh hive's image to a writer of so much room.
-fn told_within(alloc: Global, word: &str, room: usize, failure: Failure) -> Result<String, Fail> {
+fn report_within(alloc: Global, word: &str, room: usize, failure: Failure) -> Result<String, Fail> {
     let bytes = image_of(alloc, "", "1")?;
-    told_by(alloc, word, whole(&bytes), narrow(alloc, room, failure))
+    report_by(alloc, word, whole(&bytes), narrow(alloc, room, failure))
 }
 
 #[test]
@@ -321,7 +319,7 @@ fn tells_failed_writes_of_texts(rt: HostRuntime) -> Result<(), Fail> {
             ("check", 18, "1;error 1013 written 18\n;ok keys 1 values 0"),
             ("check", 19, "0;;ok keys 1 values 0\n"),
         ] {
-            assert_told(&rt, told_within(alloc, word, room, failure), wanted)?;
+            assert_report(report_within(alloc, word, room, failure), wanted)?;
         }
     }
     Ok(())
@@ -329,7 +327,7 @@ fn tells_failed_writes_of_texts(rt: HostRuntime) -> Result<(), Fail> {
 
 /// What `dump` tells of no byte to a writer of so much room.
 fn fault_within(alloc: Global, room: usize) -> Result<String, Fail> {
-    told_by(
+    report_by(
         alloc,
         "dump",
         whole(b""),
@@ -341,15 +339,15 @@ fn fault_within(alloc: Global, room: usize) -> Result<String, Fail> {
 fn tells_failed_writes_of_load_faults(rt: HostRuntime) -> Result<(), Fail> {
     let alloc = rt.alloc();
     let found = fault_within(alloc, 5);
-    assert_told(&rt, found, "1;error 1013 written 5\n;error")?;
-    assert_told(&rt, fault_within(alloc, 18), "1;;error 1009 load 2\n")
+    assert_report(found, "1;error 1013 written 5\n;error")?;
+    assert_report(fault_within(alloc, 18), "1;;error 1009 load 2\n")
 }
 
 /// What `dump` and `check` tell of a fresh hive's image with the changes of a line.
 fn lie_told(alloc: Global, changes: &str) -> Result<String, Fail> {
     let mut bytes = image_of(alloc, "", "1")?;
     put_changes(alloc, &mut bytes, changes)?;
-    told(alloc, &bytes)
+    report(alloc, &bytes)
 }
 
 /// Whether they tell the fault of this number.
@@ -360,7 +358,7 @@ fn is_told(alloc: Global, changes: &str, number: &str) -> Result<bool, Fail> {
 }
 
 /// The lines of a table of which they tell something else.
-fn told_otherwise(alloc: Global, table: &str) -> Result<String, Fail> {
+fn report_otherwise(alloc: Global, table: &str) -> Result<String, Fail> {
     let mut text = String::new(alloc);
     for line in table.split('\n') {
         let Some((changes, number)) = line.split_once(" -> ") else {
@@ -375,5 +373,5 @@ fn told_otherwise(alloc: Global, table: &str) -> Result<String, Fail> {
 
 #[test]
 fn tells_what_is_wrong_with_images_that_lie(rt: HostRuntime) -> Result<(), Fail> {
-    assert_told(&rt, told_otherwise(rt.alloc(), LIES), "")
+    assert_report(report_otherwise(rt.alloc(), LIES), "")
 }

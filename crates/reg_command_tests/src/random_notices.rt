@@ -2,9 +2,10 @@
 //! of a plain hive, which goes over all watches for each change.
 mod plain_hive;
 
-use crate::support::{assert_told, outcome_of, whole};
+use crate::support::{outcome_of, whole};
 use plain_hive::PlainHive;
 use reg_fixtures::wide;
+use reg_test_support::assert_report;
 use std::alloc::Global;
 use std::test::Fail;
 
@@ -287,7 +288,7 @@ fn difference(alloc: Global, replies: &str, wanted: &str) -> Result<String, Fail
 }
 
 /// How the tool answers the script of a seed: its status, how its replies differ, and whether the script is a good one.
-fn told_of_seed(alloc: Global, seed: u64) -> Result<String, Fail> {
+fn report_of_seed(alloc: Global, seed: u64) -> Result<String, Fail> {
     let (draft, is_good) = drawn(alloc, seed)?;
     let input = whole(draft.script.as_bytes());
     let found = outcome_of(alloc, &["regtool", "run"], input, wide(alloc), wide(alloc))?;
@@ -299,7 +300,7 @@ fn told_of_seed(alloc: Global, seed: u64) -> Result<String, Fail> {
 #[test]
 fn random_scripts_are_answered_as_by_a_plain_hive(rt: HostRuntime) -> Result<(), Fail> {
     for seed in 1..=8 {
-        assert_told(&rt, told_of_seed(rt.alloc(), seed), "0;as wanted;true")?;
+        assert_report(report_of_seed(rt.alloc(), seed), "0;as wanted;true")?;
     }
     Ok(())
 }

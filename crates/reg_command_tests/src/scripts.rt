@@ -7,8 +7,9 @@ mod subkeys;
 mod trees;
 mod turns;
 
-use crate::support::{Outcome, assert_told, outcome_of, text_of, whole};
+use crate::support::{Outcome, outcome_of, text_of, whole};
 use reg_fixtures::{Failure, FakeReader, FakeWriter, narrow, wide};
+use reg_test_support::assert_report;
 use std::alloc::Global;
 use std::process::Abort;
 use std::test::Fail;
@@ -22,12 +23,12 @@ fn outcome_of_run(
 }
 
 /// What `regtool run` left behind, as one text: the status, what was told of faults, and the replies.
-fn told(alloc: Global, input: FakeReader<'_>, output: FakeWriter) -> Result<String, Fail> {
-    told_on(alloc, input, output, wide(alloc))
+fn report(alloc: Global, input: FakeReader<'_>, output: FakeWriter) -> Result<String, Fail> {
+    report_on(alloc, input, output, wide(alloc))
 }
 
-/// The same, with this writer for what is told of faults.
-fn told_on(
+/// What the tool tells of a script, with this writer for what is told of faults.
+fn report_on(
     alloc: Global,
     input: FakeReader<'_>,
     output: FakeWriter,
@@ -38,7 +39,7 @@ fn told_on(
 }
 
 /// Whether what a writer of so much room took is the start of the replies: the status, that, and what was told of faults.
-fn told_of_start(
+fn report_of_start(
     alloc: Global,
     script: &str,
     replies: &str,
@@ -54,7 +55,7 @@ fn told_of_start(
     Ok(format!(in alloc; "{};{is_start};{}", found.status, found.errors.as_str())?)
 }
 
-/// A table's lines as a script, and what is wanted of it as `told` has it. After ` -> ` stands a line's reply, if it has one.
+/// A table's lines as a script, and what is wanted of it as `report` has it. After ` -> ` stands a line's reply, if it has one.
 fn read_table(table: &str, script: &mut String, wanted: &mut String) -> Result<(), Fail> {
     wanted.push_str("0;;")?;
     for row in table.split('\n') {
@@ -77,8 +78,8 @@ fn check_table(rt: &impl Abort, alloc: Global, table: &str) -> Result<(), Fail> 
     let mut script = String::new(alloc);
     let mut wanted = String::new(alloc);
     read_table(table, &mut script, &mut wanted)?;
-    let found = told(alloc, whole(script.as_bytes()), wide(alloc));
-    assert_told(rt, found, wanted.as_str())
+    let found = report(alloc, whole(script.as_bytes()), wide(alloc));
+    assert_report(found, wanted.as_str())
 }
 
 const ANSWERS: &str = "\
@@ -239,7 +240,7 @@ fn passes_over_bad_lines(rt: HostRuntime) -> Result<(), Fail> {
 }
 
 /// What a command line with this input left behind: the status, and whether nothing was written and nothing told.
-fn told_of_words(
+fn report_of_words(
     alloc: Global,
     words: &[&str],
     script: &str,
@@ -257,19 +258,21 @@ fn told_of_words(
 #[test]
 fn refuses_command_lines(rt: HostRuntime) -> Result<(), Fail> {
     let alloc = rt.alloc();
-    let command_lines: [&[&str]; 6] = [
+    let command_lines: [&[&str]; 8] = [
         &["regtool"],
         &["regtool", "frob"],
         &["regtool", "run", "extra"],
         &["regtool", "--help"],
         &["regtool", "run", "--help"],
+        &["regtool", "dump", "hive"],
+        &["regtool", "ls", "hive"],
         &[],
     ];
     for words in command_lines {
-        let found = told_of_words(alloc, words, "frob\n", wide(alloc));
-        assert_told(&rt, found, "2;true;false")?;
-        let found = told_of_words(alloc, words, "", narrow(alloc, 0, Failure::Write));
-        assert_told(&rt, found, "2;true;true")?;
+        let found = report_of_words(alloc, words, "frob\n", wide(alloc));
+        assert_report(found, "2;true;false")?;
+        let found = report_of_words(alloc, words, "", narrow(alloc, 0, Failure::Write));
+        assert_report(found, "2;true;true")?;
     }
     Ok(())
 }
@@ -279,20 +282,19 @@ const SCRIPT: &str = "root 983103\nset 0 = 4 x01000000\nquery 0 = 4";
 const REPLIES: &str = "0 handle 0\n0\n0 type 4 size 4 x01000000\n";
 
 /// What is told of that script where so many bytes a call are read and written.
-fn told_in_pieces(alloc: Global, step: usize) -> Result<String, Fail> {
+fn report_in_pieces(alloc: Global, step: usize) -> Result<String, Fail> {
     let mut input = whole(SCRIPT.as_bytes());
     input.step = step;
     let mut output = wide(alloc);
     output.step = step;
-    told(alloc, input, output)
+    report(alloc, input, output)
 }
 
 #[test]
 fn reads_and_writes_in_pieces(rt: HostRuntime) -> Result<(), Fail> {
     for step in [1, 7, usize::MAX] {
-        assert_told(
-            &rt,
-            told_in_pieces(rt.alloc(), step),
+        assert_report(
+            report_in_pieces(rt.alloc(), step),
             "0;;0 handle 0\n0\n0 type 4 size 4 x01000000\n",
         )?;
     }
@@ -317,7 +319,7 @@ fn tells_faults_of_readers(rt: HostRuntime) -> Result<(), Fail> {
         ("root 1", "1;error script 1\n;"),
         ("root 1\nfrob\nr", "1;error script 1\n;0 handle 0\nbad\n"),
     ] {
-        assert_told(&rt, told(alloc, failing(script), wide(alloc)), wanted)?;
+        assert_report(report(alloc, failing(script), wide(alloc)), wanted)?;
     }
     Ok(())
 }
@@ -327,14 +329,14 @@ fn tells_faults_of_writers(rt: HostRuntime) -> Result<(), Fail> {
     let alloc = rt.alloc();
     for failure in [Failure::Write, Failure::Zero] {
         for room in [0, 5, 12, 38] {
-            let found = told_of_start(alloc, SCRIPT, REPLIES, room, failure);
-            assert_told(&rt, found, "1;true;error script 2\n")?;
+            let found = report_of_start(alloc, SCRIPT, REPLIES, room, failure);
+            assert_report(found, "1;true;error script 2\n")?;
         }
     }
     // once two lines are told, and at the end
     for (script, replies, room) in [(SCRIPT, REPLIES, 13), ("frob", "bad\n", 4)] {
-        let found = told_of_start(alloc, script, replies, room, Failure::Flush);
-        assert_told(&rt, found, "1;true;error script 2\n")?;
+        let found = report_of_start(alloc, script, replies, room, Failure::Flush);
+        assert_report(found, "1;true;error script 2\n")?;
     }
     Ok(())
 }
@@ -343,40 +345,40 @@ fn tells_faults_of_writers(rt: HostRuntime) -> Result<(), Fail> {
 fn passes_over_faults_of_the_errors(rt: HostRuntime) -> Result<(), Fail> {
     let alloc = rt.alloc();
     let errors = narrow(alloc, 0, Failure::Write);
-    let found = told_on(alloc, failing("frob\n"), wide(alloc), errors);
-    assert_told(&rt, found, "1;;bad\n")
+    let found = report_on(alloc, failing("frob\n"), wide(alloc), errors);
+    assert_report(found, "1;;bad\n")
 }
 
 /// What is told of a text so many times, and then another.
-fn told_of_many(alloc: Global, text: &str, times: usize, rest: &str) -> Result<String, Fail> {
+fn report_of_many(alloc: Global, text: &str, times: usize, rest: &str) -> Result<String, Fail> {
     let mut script = text.repeat(alloc, times)?;
     script.push_str(rest)?;
-    told(alloc, whole(script.as_bytes()), wide(alloc))
+    report(alloc, whole(script.as_bytes()), wide(alloc))
 }
 
 #[test]
 fn keeps_the_limit_of_a_line(rt: HostRuntime) -> Result<(), Fail> {
     let alloc = rt.alloc();
-    let found = told_of_many(alloc, "#", 2_200_000, "\nfrob");
-    assert_told(&rt, found, "0;;bad\n")?;
-    let found = told_of_many(alloc, "#", 2_200_001, "\nfrob");
-    assert_told(&rt, found, "1;error script 3\n;")
+    let found = report_of_many(alloc, "#", 2_200_000, "\nfrob");
+    assert_report(found, "0;;bad\n")?;
+    let found = report_of_many(alloc, "#", 2_200_001, "\nfrob");
+    assert_report(found, "1;error script 3\n;")
 }
 
 #[test]
 fn keeps_the_limit_of_lines(rt: HostRuntime) -> Result<(), Fail> {
     let alloc = rt.alloc();
-    let found = told_of_many(alloc, "\n", 999_998, "frob\nfrob\n");
-    assert_told(&rt, found, "0;;bad\nbad\n")?;
-    let found = told_of_many(alloc, "\n", 999_999, "frob\nfrob");
-    assert_told(&rt, found, "1;error script 3\n;bad\n")
+    let found = report_of_many(alloc, "\n", 999_998, "frob\nfrob\n");
+    assert_report(found, "0;;bad\nbad\n")?;
+    let found = report_of_many(alloc, "\n", 999_999, "frob\nfrob");
+    assert_report(found, "1;error script 3\n;bad\n")
 }
 
-/// The same as `told_of_start` of a script of 40,000 lines.
-fn told_of_long_start(alloc: Global, room: usize) -> Result<String, Fail> {
+/// What `report_of_start` tells of a script of 40,000 lines.
+fn report_of_long_start(alloc: Global, room: usize) -> Result<String, Fail> {
     let script = "frob\n".repeat(alloc, 40_000)?;
     let replies = "bad\n".repeat(alloc, 40_000)?;
-    told_of_start(
+    report_of_start(
         alloc,
         script.as_str(),
         replies.as_str(),
@@ -389,9 +391,9 @@ fn told_of_long_start(alloc: Global, room: usize) -> Result<String, Fail> {
 fn counts_a_long_output(rt: HostRuntime) -> Result<(), Fail> {
     let alloc = rt.alloc();
     for room in [65_535, 65_537, 159_999] {
-        let found = told_of_long_start(alloc, room);
-        assert_told(&rt, found, "1;true;error script 2\n")?;
+        let found = report_of_long_start(alloc, room);
+        assert_report(found, "1;true;error script 2\n")?;
     }
-    let found = told_of_long_start(alloc, 160_000);
-    assert_told(&rt, found, "0;true;")
+    let found = report_of_long_start(alloc, 160_000);
+    assert_report(found, "0;true;")
 }

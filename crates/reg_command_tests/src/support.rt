@@ -2,15 +2,7 @@
 use reg_command::tool;
 use reg_fixtures::{FakeReader, FakeWriter};
 use std::alloc::Global;
-use std::process::Abort;
 use std::test::Fail;
-
-/// Stops where what was told isn't what was wanted.
-pub fn assert_told(rt: &impl Abort, told: Result<String, Fail>, wanted: &str) -> Result<(), Fail> {
-    let text = told?;
-    assert_eq!(rt; text.as_str(), wanted);
-    Ok(())
-}
 
 /// A reader that gives these bytes at once.
 pub fn whole(bytes: &[u8]) -> FakeReader<'_> {

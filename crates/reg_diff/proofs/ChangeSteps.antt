@@ -3,8 +3,8 @@ use Rattle.std.proofs.Common.{◌≡◌, ℕ, ◌&&◌, Bool, true, false, cond,
 use Rattle.std.specs.Prelude.{codes}
 use Rattle.std.proofs.lemmas.Bool.{false≢true}
 use Rattle.reg_heap.specs.Paths.{Rec, Member}
-use Rattle.reg_dump.specs.Internal.Gathered.{WriterState, IsSoFar}
-use Rattle.reg_dump.proofs.SentTexts.{opened, swapped}
+use Rattle.reg_tree_text.specs.Internal.Gathered.{WriterState, IsSoFar}
+use Rattle.reg_tree_text.proofs.SentTexts.{opened, swapped}
 use Rattle.reg_diff.specs.Differences.{name_change, number_change, bytes_change, field_changes, same_members, lost_values}
 use Rattle.reg_diff.specs.Differences.{come_values, order_line, order_change, value_changes}
 use Rattle.reg_diff.specs.Internal.Parts.{is_nothing}

@@ -3,8 +3,8 @@ use Rattle.std.proofs.Common.{◌≡◌, ℕ, ◌+◌, ◌≤◌, ◌&&◌, Bool
 use Rattle.std.specs.Prelude.{flat_map}
 use Rattle.std.proofs.lemmas.List.{drop_all}
 use Rattle.reg_heap.specs.Paths.{Member}
-use Rattle.reg_dump.specs.Internal.Gathered.{WriterState, IsSoFar}
-use Rattle.reg_dump.proofs.SentTexts.{opened, swapped}
+use Rattle.reg_tree_text.specs.Internal.Gathered.{WriterState, IsSoFar}
+use Rattle.reg_tree_text.proofs.SentTexts.{opened, swapped}
 use Rattle.reg_diff.specs.Differences.{same_member, same_members}
 use Rattle.reg_diff.specs.Internal.Parts.{is_nothing}
 use Rattle.reg_diff.proofs.SameValues.{nothing-append}

@@ -10,7 +10,7 @@ use Rattle.std.proofs.lemmas.Slice.Eq.{bytes_eq-Decides}
 use Rattle.reg_names.specs.Names.{folded, text_of}
 use Rattle.reg_heap.specs.Paths.{Path, Tree, Rec, Member}
 use Rattle.reg_heap.specs.Trees.{IsTree, IsWithinLimits, NamesDiffer}
-use Rattle.reg_dump.specs.DumpTexts.{Told, keys_told}
+use Rattle.reg_tree_text.specs.DumpTexts.{Told, keys_told}
 use Rattle.reg_diff.specs.declared.side.Side.{Side}
 use Rattle.reg_diff.specs.declared.side.Side.TheVariants.{Old, New}
 use Rattle.reg_diff.specs.Differences.{key_line, whole_key, name_change, number_change, bytes_change, field_changes}

@@ -7,7 +7,7 @@ use Rattle.reg_heap.specs.Edits.{values_of, values_at}
 use Rattle.reg_heap.specs.Trees.{IsTree, IsWithinLimits, NamesDiffer}
 use Rattle.reg_tree.specs.TreeKeys.{Keys, IsAt, IsResolved}
 use Rattle.reg_tree.specs.declared.node.Node.{Node}
-use Rattle.reg_dump.specs.Internal.Gathered.{WriterState, IsSoFar}
+use Rattle.reg_tree_text.specs.Internal.Gathered.{WriterState, IsSoFar}
 use Rattle.reg_diff.specs.declared.side.Side.{Side}
 use Rattle.reg_diff.specs.declared.side.Side.TheVariants.{Old}
 use Rattle.reg_diff.specs.Differences.{whole_key, field_changes, value_changes, key_changes, diff_text}

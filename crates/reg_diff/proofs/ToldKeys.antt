@@ -16,7 +16,7 @@ use Rattle.reg_heap.specs.Paths.{Path, Tree, Rec, path_cmp, is_child, children_o
 use Rattle.reg_heap.specs.Trees.{IsTree, IsWithinLimits}
 use Rattle.reg_heap.proofs.ChildrenOfPath.{named, is_child-below, children-contain, path-is}
 use Rattle.reg_tree.proofs.Invariant.CellReadings.{some_of}
-use Rattle.reg_dump.specs.DumpTexts.{Told, name_of, told_here, told_from, keys_told}
+use Rattle.reg_tree_text.specs.DumpTexts.{Told, name_of, told_here, told_from, keys_told}
 
 -- a key is told as it stands in a tree, at the end of names of keys, not too many
 pub record IsToldIn (tree : Tree) (told : Told) : Type 0 where

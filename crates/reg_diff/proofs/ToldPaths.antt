@@ -13,12 +13,12 @@ use Rattle.reg_heap.specs.Paths.{Tree}
 use Rattle.reg_heap.specs.Edits.{folded_path}
 use Rattle.reg_heap.specs.Trees.{IsTree, IsWithinLimits}
 use Rattle.reg_tree.specs.TreeKeys.{Keys}
-use Rattle.reg_dump.specs.declared.counts.Counts.{Counts}
-use Rattle.reg_dump.specs.declared.walk.Walk.{Walk}
-use Rattle.reg_dump.specs.DumpTexts.{Told}
-use Rattle.reg_dump.specs.Internal.Gathered.{WriterState, IsSoFar}
-use Rattle.reg_dump.specs.Internal.Walking.{IsAmid, CountsKey}
-use Rattle.reg_dump.proofs.SentTexts.{opened, swapped}
+use Rattle.reg_tree_text.specs.declared.counts.Counts.{Counts}
+use Rattle.reg_tree_text.specs.declared.walk.Walk.{Walk}
+use Rattle.reg_tree_text.specs.DumpTexts.{Told}
+use Rattle.reg_tree_text.specs.Internal.Gathered.{WriterState, IsSoFar}
+use Rattle.reg_tree_text.specs.Internal.Walking.{IsAmid, CountsKey}
+use Rattle.reg_tree_text.proofs.SentTexts.{opened, swapped}
 use Rattle.reg_diff.specs.declared.side.Side.{Side}
 use Rattle.reg_diff.specs.Differences.{key_changes, told_changes}
 use Rattle.reg_diff.proofs.ToldKeys.{IsToldIn, keys-there, all-back}

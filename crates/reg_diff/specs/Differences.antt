@@ -7,7 +7,7 @@ use Rattle.reg_names.specs.Names.{folded, text_of}
 use Rattle.reg_heap.specs.Paths.{Tree, Rec, Member}
 use Rattle.reg_heap.specs.Members.{value_named}
 use Rattle.reg_text.specs.Texts.{line_feed, escaped, digits_text}
-use Rattle.reg_dump.specs.DumpTexts.{Told, keys_told}
+use Rattle.reg_tree_text.specs.DumpTexts.{Told, keys_told}
 use Rattle.reg_diff.specs.declared.side.Side.{Side}
 use Rattle.reg_diff.specs.declared.side.Side.TheVariants.{Old, New}
 

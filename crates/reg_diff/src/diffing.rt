@@ -7,17 +7,17 @@ ghost use Rattle.reg_heap.specs.Paths.{Path, Rec};
 ghost use Rattle.reg_heap.specs.Edits.{folded_path};
 ghost use Rattle.reg_text.specs.Failures.{Stays};
 ghost use Rattle.reg_tree.specs.TreeKeys.{IsAt, IsThere};
-ghost use Rattle.reg_dump.specs.DumpFronts.{IsStopped, IsBlamed};
-ghost use Rattle.reg_dump.specs.Internal.Gathered.{Puts};
+ghost use Rattle.reg_tree_text.specs.DumpFronts.{IsStopped, IsBlamed};
+ghost use Rattle.reg_tree_text.specs.Internal.Gathered.{Puts};
 ghost use Rattle.reg_diff.specs.Differences.{key_line, whole_key, field_changes, value_changes, key_changes, side_text, diff_text};
 
 use crate::fields::put_field_changes;
 use crate::line::{Part, put_line};
 use crate::side::Side;
 use crate::values::{put_value_changes, put_values};
-use reg_dump::{DumpFault, Output, Walk};
 use reg_text::Sink;
 use reg_tree::{Node, Tree};
+use reg_tree_text::{DumpFault, Output, Walk};
 use std::alloc::Global;
 
 /// Tells the line of a key that one tree alone has.

@@ -3,13 +3,13 @@ ghost use Rattle.std.specs.Prelude.{◌≡◌, Some};
 ghost use Rattle.std.specs.FinMap.{get};
 ghost use Rattle.reg_heap.specs.Paths.{Path, Rec};
 ghost use Rattle.reg_tree.specs.TreeKeys.{IsAt, IsThere};
-ghost use Rattle.reg_dump.specs.Internal.Gathered.{Puts};
+ghost use Rattle.reg_tree_text.specs.Internal.Gathered.{Puts};
 ghost use Rattle.reg_diff.specs.Differences.{name_change, number_change, bytes_change, field_changes};
 
 use crate::line::{Part, put_line};
-use reg_dump::{DumpFault, Output};
 use reg_text::Sink;
 use reg_tree::{Node, Tree};
+use reg_tree_text::{DumpFault, Output};
 
 /// Tells a key's name that was spelt otherwise.
 fn put_name_change<'a, W: Sink>(

@@ -1,7 +1,7 @@
 //! How two trees of keys differ, told as text, a line for each difference.
 //!
 //! Its one contract: [`diff`] writes just the text that `specs/Differences.antt` says, byte for byte, or a front of it where a write or
-//! memory fails, and says whether the trees are equal. It stands on reg_tree, whose trees it reads, on reg_dump, whose walk and gathered
+//! memory fails, and says whether the trees are equal. It stands on reg_tree, whose trees it reads, on reg_tree_text, whose walk and gathered
 //! output it takes, and on reg_text.
 //!
 //! `diffing` goes over the keys of both trees, `fields` and `values` tell how a key differs that both have, `value` reads values and

@@ -1,11 +1,11 @@
 //! A line told part by part.
 ghost use Rattle.std.specs.Prelude.{◌≡◌, ◌++◌, string_bytes, OnOk, flat_map};
 ghost use Rattle.std.specs.Fmt.{decimal};
-ghost use Rattle.reg_dump.specs.Internal.Gathered.{Puts};
+ghost use Rattle.reg_tree_text.specs.Internal.Gathered.{Puts};
 ghost use Rattle.reg_diff.specs.Internal.Parts.{part_text};
 
-use reg_dump::{DumpFault, Output};
 use reg_text::Sink;
+use reg_tree_text::{DumpFault, Output};
 use std::alloc::AllocError;
 
 /// A part of a line.

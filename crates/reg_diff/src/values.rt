@@ -3,16 +3,16 @@ ghost use Rattle.std.specs.Prelude.{◌≡◌, ◌<◌, length, slice_get, Some,
 ghost use Rattle.reg_heap.specs.Paths.{Path, Member};
 ghost use Rattle.reg_heap.specs.Edits.{values_at};
 ghost use Rattle.reg_tree.specs.TreeKeys.{IsAt, IsThere};
-ghost use Rattle.reg_dump.specs.Internal.Gathered.{Puts};
+ghost use Rattle.reg_tree_text.specs.Internal.Gathered.{Puts};
 ghost use Rattle.reg_diff.specs.Differences.{value_line, value_change, order_line, lost_line, come_line, lost_values, come_values, value_changes};
 ghost use Rattle.reg_diff.specs.Internal.Parts.{member_of, is_nothing};
 
 use crate::line::{Part, put_line};
 use crate::side::Side;
 use crate::value::{Copied, are_same, index_near, is_same, read_value};
-use reg_dump::{DumpFault, Output};
 use reg_text::Sink;
 use reg_tree::{Node, Tree};
+use reg_tree_text::{DumpFault, Output};
 use std::alloc::Global;
 
 /// Tells a value that one tree alone has.

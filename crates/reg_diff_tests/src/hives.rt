@@ -1,12 +1,10 @@
 //! Two hives made by scripts: keys and values that are gone, have come or changed. The wanted lines come from the rules of a difference.
-use crate::support::{assert_told, differences};
+use crate::support::differences;
 use reg_calls::Hive;
-use reg_script::run;
+use reg_script::{FRESH_DESCRIPTOR, run};
+use reg_test_support::assert_report;
 use std::alloc::Global;
 use std::test::Fail;
-
-/// The descriptor of the hives here: 20 bytes.
-const DESCRIPTOR: [u8; 20] = [1, 0, 4, 128, 0, 0, 0, 0, 0, 0, 0, 0, 0, 0, 0, 0, 0, 0, 0, 0];
 
 /// Makes `A` with three values, `A\c` with one, `b`, and `O` with two.
 const OLD: &str = "\
@@ -61,16 +59,21 @@ fn filled(
     differences(alloc, old.tree(), new.tree())
 }
 
-/// The same of a hive and a fresh one.
-fn told_against(alloc: Global, old: &mut Hive, script: &str, other: &str) -> Result<String, Fail> {
-    let mut new = Hive::new(alloc, b"ROOT", &DESCRIPTOR, 0)?;
+/// How a fresh hive after a script differs from an old one.
+fn report_against(
+    alloc: Global,
+    old: &mut Hive,
+    script: &str,
+    other: &str,
+) -> Result<String, Fail> {
+    let mut new = Hive::new(alloc, b"ROOT", &FRESH_DESCRIPTOR, 0)?;
     filled(alloc, old, script, &mut new, other)
 }
 
-/// The same of two fresh hives.
-fn told(alloc: Global, script: &str, other: &str) -> Result<String, Fail> {
-    let mut old = Hive::new(alloc, b"ROOT", &DESCRIPTOR, 0)?;
-    told_against(alloc, &mut old, script, other)
+/// How two fresh hives differ, each after its script.
+fn report(alloc: Global, script: &str, other: &str) -> Result<String, Fail> {
+    let mut old = Hive::new(alloc, b"ROOT", &FRESH_DESCRIPTOR, 0)?;
+    report_against(alloc, &mut old, script, other)
 }
 
 #[test]
@@ -88,10 +91,10 @@ come key =a\\d
 come value =a\\d =z type 1 x41
 differ
 ";
-    assert_told(&rt, told(rt.alloc(), OLD, NEW), wanted)
+    assert_report(report(rt.alloc(), OLD, NEW), wanted)
 }
 
 #[test]
 fn hives_of_one_script_are_the_same(rt: HostRuntime) -> Result<(), Fail> {
-    assert_told(&rt, told(rt.alloc(), OLD, OLD), "same\n")
+    assert_report(report(rt.alloc(), OLD, OLD), "same\n")
 }

@@ -1,8 +1,9 @@
 //! Two trees of one root: what differs of a key beside its values, and a writer that fails. The wanted lines come from the rules of a
 //! difference.
-use crate::support::{assert_told, differences};
+use crate::support::differences;
 use reg_diff::diff;
 use reg_names::check_key_name;
+use reg_test_support::assert_report;
 use reg_tree::{NewKey, Tree};
 use std::alloc::Global;
 use std::io::{self, Write};
@@ -66,7 +67,7 @@ fn new_root(alloc: Global) -> Result<Option<Tree>, Fail> {
 }
 
 /// How the second one differs from a tree.
-fn told_against(alloc: Global, old: &Tree) -> Result<String, Fail> {
+fn report_against(alloc: Global, old: &Tree) -> Result<String, Fail> {
     match new_root(alloc)? {
         Some(new) => differences(alloc, old, &new),
         None => Ok(String::new(alloc)),
@@ -74,9 +75,9 @@ fn told_against(alloc: Global, old: &Tree) -> Result<String, Fail> {
 }
 
 /// How they differ.
-fn told(alloc: Global) -> Result<String, Fail> {
+fn report(alloc: Global) -> Result<String, Fail> {
     match old_root(alloc)? {
-        Some(old) => told_against(alloc, &old),
+        Some(old) => report_against(alloc, &old),
         None => Ok(String::new(alloc)),
     }
 }
@@ -89,7 +90,7 @@ fn stopped_between(alloc: Global, old: &Tree, new: &Tree, room: usize) -> Result
     }
 }
 
-/// The same of a tree and the second one.
+/// How the comparison of a tree with the second one ends at a writer of so much room.
 fn stopped_against(alloc: Global, old: &Tree, room: usize) -> Result<String, Fail> {
     match new_root(alloc)? {
         Some(new) => stopped_between(alloc, old, &new, room),
@@ -97,7 +98,7 @@ fn stopped_against(alloc: Global, old: &Tree, room: usize) -> Result<String, Fai
     }
 }
 
-/// The same of both.
+/// How the comparison of both trees ends at a writer of so much room.
 fn stopped(alloc: Global, room: usize) -> Result<String, Fail> {
     match old_root(alloc)? {
         Some(old) => stopped_against(alloc, &old, room),
@@ -115,14 +116,10 @@ changed security = from x0100 to x01ff00
 changed time = from 7 to 10
 differ
 ";
-    assert_told(&rt, told(rt.alloc()), wanted)
+    assert_report(report(rt.alloc()), wanted)
 }
 
 #[test]
 fn writers_that_fail(rt: HostRuntime) -> Result<(), Fail> {
-    assert_told(
-        &rt,
-        stopped(rt.alloc(), 11),
-        "a write failed after 11 bytes",
-    )
+    assert_report(stopped(rt.alloc(), 11), "a write failed after 11 bytes")
 }

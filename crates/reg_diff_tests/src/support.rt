@@ -1,8 +1,7 @@
-//! What the tests share: the text of a difference, and a comparison.
+//! What the tests share: the text of a difference.
 use reg_diff::diff;
 use reg_tree::Tree;
 use std::alloc::Global;
-use std::process::Abort;
 use std::test::Fail;
 
 /// How two trees differ, and a line that says whether they are equal.
@@ -12,11 +11,4 @@ pub fn differences(alloc: Global, old: &Tree, new: &Tree) -> Result<String, Fail
     let mut text = String::from_utf8(bytes)?;
     text.push_str(if is_same { "same\n" } else { "differ\n" })?;
     Ok(text)
-}
-
-/// Stops where what was told isn't what was wanted.
-pub fn assert_told(rt: &impl Abort, told: Result<String, Fail>, wanted: &str) -> Result<(), Fail> {
-    let text = told?;
-    assert_eq!(rt; text.as_str(), wanted);
-    Ok(())
 }

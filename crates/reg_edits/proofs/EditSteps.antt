@@ -1,103 +1,127 @@
 -- What an edit did, put together of what its steps did.
-use Rattle.std.proofs.Common.{◌≡◌, ◌≢◌, ◌∙◌, ◌+◌, ◌≤◌, List, ℕ, length, drop, ap, sym, subst, refl, inl, inr, arith, length-append}
-use Rattle.std.specs.Prelude.{Option, Some, None}
-use Rattle.reg_model.specs.Callbacks.{Callbacks, no_callbacks}
-use Rattle.std.specs.Io.KnownBytes.{Appends, Consumes, IsAtEnd, prepend_known}
-use Rattle.reg_calls.specs.Views.{View}
-use Rattle.reg_script.specs.LineWords.{lines_of}
-use Rattle.reg_script.specs.Lines.{LinesTo}
-use Rattle.reg_script.specs.Stops.{AreWithin, Stops}
-use Rattle.reg_script.specs.declared.engine.ScriptFault.{ScriptFault}
-use Rattle.reg_image.specs.Loads.{IsRefused}
-use Rattle.reg_command.specs.ScriptRuns.{image_at}
-use Rattle.reg_edits.proofs.ImageBins.{image-bins}
-use Rattle.reg_image.specs.declared.LoadFault.{LoadFault}
+use Rattle.std.proofs.Common.{◌≡◌, ◌∙◌, ◌+◌, ◌≤◌, ℕ, Bool, true, false, true≢false, List, [], length, map, ap, sym, subst}
+use Rattle.std.specs.Prelude.{Option}
+use Rattle.reg_text.specs.Failures.{Stays}
+use Rattle.std.specs.Io.KnownBytes.{Appends, Consumes, IsAtEnd}
+use Rattle.reg_heap.specs.ByteWords.{word}
 use Rattle.reg_heap.specs.declared.limits.TheConstants.{BINS_LIMIT}
-use Rattle.reg_edits.specs.Edits.{at_line, LeadsOn, IsToSave, Halts, RunStops, Edits, EditStops, begin_of, next_sequence, sequence_in}
-use Rattle.reg_lookups.specs.Opened.{Opens}
+use Rattle.reg_model.specs.Callbacks.{Callbacks, no_callbacks}
+use Rattle.reg_callbacks.specs.Asking.{Answers, asks}
+use Rattle.reg_callbacks.specs.declared.row.Row.{Row}
+use Rattle.reg_calls.specs.Views.{View}
+use Rattle.reg_calls.specs.HiveView.{view_of}
+use Rattle.reg_script.specs.LineWords.{lines_of}
+use Rattle.reg_script.specs.Lines.{LinesFrom}
+use Rattle.reg_script.specs.Stops.{AreWithin, StopsFrom}
+use Rattle.reg_script.specs.FailedLines.{HaveFailed, StopsStrictly}
+use Rattle.reg_script.specs.declared.engine.ScriptFault.{ScriptFault}
+use Rattle.reg_script.specs.declared.failed.FailedLine.{FailedLine}
+use Rattle.reg_script.specs.declared.failed.StrictFault.{StrictFault}
+use Rattle.reg_script.specs.declared.failed.StrictFault.TheVariants.{Script as ByFault, Line as AtLine}
+use Rattle.reg_tree_image.specs.declared.LoadFault.{LoadFault}
+use Rattle.reg_tree_image.specs.Loads.{MeetsFault, IsRefused}
+use Rattle.reg_image.specs.Loads.{IsLoaded}
+use Rattle.reg_edits.specs.Edits.{Opens, Leads, IsHalted, RunStops, Edits, EditStops, IsReadBlamed, are_changed, next_sequence}
+use Rattle.reg_edits.specs.declared.edits.Edited.{Edited}
 use Rattle.reg_edits.specs.declared.edits.EditFault.{EditFault}
-use Rattle.reg_edits.specs.declared.edits.EditFault.TheVariants.{Load, Script, Memory}
+use Rattle.reg_edits.specs.declared.edits.EditFault.TheVariants.{Load, Script, Line}
+use Rattle.reg_edits.proofs.KeptKeys.{script_kept}
 
--- the line that sets the moment was put back
-pub begun : (moment : ℕ) (line bytes : List ℕ) (unread whole : Option (List ℕ)) → whole ≡ prepend_known bytes unread → bytes ≡ line →
-    line ≡ at_line moment → whole ≡ prepend_known (at_line moment) unread
-begun moment line bytes unread whole put is sets = put ∙ ap (λ (front : List ℕ). prepend_known front unread) (is ∙ sets)
+-- where no callback is registered, none refuses
+pub none_asked : {C : Type 0} (answers : C → Answers) (rows : List (Row C)) → rows ≡ [] →
+    asks (map (λ row. answers row.callback) rows) ≡ no_callbacks
+none_asked {C = C} answers rows none = ap (λ (some : List (Row C)). asks (map (λ row. answers row.callback) some)) none
 
--- a script whose first line was put back before it
-module _ (begin : ℕ) (old last : View) (callbacks : Callbacks) (unread whole left before after : Option (List ℕ))
-    (none : callbacks ≡ no_callbacks) (is_whole : whole ≡ prepend_known (at_line begin) unread) where
-  pub leads_on : (moment : ℕ) → IsAtEnd left →
-      ((script : List ℕ) × (text : List ℕ) × Consumes whole left script × LinesTo callbacks old script text last moment ×
-      Appends before after text × AreWithin (lines_of script))
-      → LeadsOn begin old last moment unread left before after
-  leads_on moment at_end h = record {
+-- ---- the load
+
+pub opens : (unread left : Option (List ℕ)) (hive : View) (sequence : ℕ) →
+    ((image : List ℕ) × Consumes unread left image × IsLoaded image hive × (sequence ≡ word image 4)) → Opens unread left hive sequence
+opens unread left hive sequence h = record { image = h.0; consumed = h.1; loaded = h.2; numbered = h.3 }
+
+pub met : (fault : LoadFault) (unread left : Option (List ℕ)) →
+    ((image : List ℕ) × Consumes unread left image × (length image ≤ 4096 + BINS_LIMIT) × IsRefused fault image left) → MeetsFault fault unread left
+met fault unread left h = record { image = h.0; consumed = h.1; within = h.2; refused = h.3 }
+
+-- ---- the script
+
+module _ (keeps_going : Bool) (begin : ℕ) (old last : View) (callbacks : Callbacks) (unread left before after : Option (List ℕ))
+    (none : callbacks ≡ no_callbacks) where
+  pub leads : (moment failed : ℕ) → (keeps_going ≡ false → failed ≡ 0) → IsAtEnd left →
+      ((script : List ℕ) × (text : List ℕ) × Consumes unread left script × LinesFrom begin callbacks old script text last moment
+      × Appends before after text × AreWithin (lines_of script) × HaveFailed failed (lines_of script) old last)
+      → Leads keeps_going begin old last moment failed unread left before after
+  leads moment failed strict at_end h = record {
     at_end = at_end;
     script = h.0;
-    consumed = subst (λ o. Consumes o left h.0) is_whole h.2;
+    consumed = h.2;
     text = h.1;
-    lines = subst (λ (asked : Callbacks). LinesTo asked old h.0 h.1 last moment) none h.3;
+    lines = subst (λ (asked : Callbacks). LinesFrom begin asked old h.0 h.1 last moment) none h.3;
+    within = h.5;
+    failed_are = h.6;
+    strict = strict;
     appended = h.4;
   }
 
-  pub halts : (fault : ScriptFault) → Stops fault whole left callbacks old last before after → Halts fault begin old unread left before after
-  halts fault h = (
+  -- where it goes on behind a line that fails
+  pub halts : (fault : ScriptFault) → keeps_going ≡ true → StopsFrom begin fault unread left callbacks old last before after →
+      RunStops (Script fault) keeps_going begin old unread left before after
+  halts fault goes h = (
     last,
-    subst (λ o. Stops fault o left no_callbacks old last before after) is_whole
-        (subst (λ (asked : Callbacks). Stops fault whole left asked old last before after) none h),
+    subst (λ (g : Bool). IsHalted g fault begin old last unread left before after) (sym goes)
+        (subst (λ (asked : Callbacks). StopsFrom begin fault unread left asked old last before after) none h),
   )
 
--- a script that ended early
-pub edit_stops : (fault : EditFault) (bytes : List ℕ) (begin : Option ℕ) (at : ℕ) (old : View) (unread left before after : Option (List ℕ)) →
-    Opens bytes old → at ≡ begin_of begin bytes → RunStops fault at old unread left before after → EditStops fault bytes begin unread left before after
-edit_stops (Load fault) bytes begin at old unread left before after o is h = absurd h
-edit_stops (Script fault) bytes begin at old unread left before after o is h =
-    (old, o, subst (λ (moment : ℕ). Halts fault moment old unread left before after) is h)
-edit_stops Memory bytes begin at old unread left before after o is h = (old, o, inl h)
+  -- where it doesn't
+  module _ (found : StrictFault) (stops : keeps_going ≡ false) (h : StopsStrictly begin found unread left callbacks old last before after) where
+    stops_unasked : StopsStrictly begin found unread left no_callbacks old last before after
+    stops_unasked = subst (λ (asked : Callbacks). StopsStrictly begin found unread left asked old last before after) none h
 
--- no memory before the script began
-pub no_memory_before : (bytes : List ℕ) (begin : Option ℕ) (old : View) (unread before : Option (List ℕ)) → Opens bytes old →
-    EditStops Memory bytes begin unread unread before before
-no_memory_before bytes begin old unread before o = (old, o, inl (refl, refl))
-
--- an image that doesn't load
-pub not_loaded : (fault : LoadFault) (bytes rest : List ℕ) (begin : Option ℕ) (unread before : Option (List ℕ)) →
-    ((image : List ℕ) × Consumes (Some bytes) (Some rest) image × (length image ≤ 4096 + BINS_LIMIT) × IsRefused fault image (Some rest))
-    → EditStops (Load fault) bytes begin unread unread before before
-not_loaded fault bytes rest begin unread before h = (h.0, rest, h.1, h.3, (refl, refl))
-
--- a base block stands in front of what was loaded
-pub is_long : (bytes : List ℕ) (hive : View) → Opens bytes hive → 4096 ≤ length bytes
-is_long bytes hive o =
-    let l : length bytes ≡ length o.image + length o.rest = ap length o.bytes_are ∙ length-append o.image o.rest in
-    omega (arith, l, o.loaded.size)
-
--- a script that ended well
-module _ (bytes : List ℕ) (begin : Option ℕ) (at : ℕ) (old last : View) (moment : ℕ) (unread left told now_told : Option (List ℕ))
-    (is_open : Opens bytes old) (is_at : at ≡ begin_of begin bytes) (leads : LeadsOn at old last moment unread left told now_told) where
-  leads_here : LeadsOn (begin_of begin bytes) old last moment unread left told now_told
-  leads_here = subst (λ (n : ℕ). LeadsOn n old last moment unread left told now_told) is_at leads
-
-  pub no_memory_after : EditStops Memory bytes begin unread left told now_told
-  no_memory_after = (old, is_open, inr (last, moment, leads_here))
-
-  edited : (saved : Option (List ℕ)) → IsToSave old last moment (next_sequence (sequence_in bytes)) saved →
-      Edits bytes begin saved unread left told now_told
-  edited saved h = record { old = old; opens = is_open; last = last; moment = moment; leads = leads_here; to_save = h }
-
-  -- what the comparison of two images tells
-  module _ (number sequence : ℕ) (before after first second : List ℕ) (counted : number ≡ sequence_in bytes) (next : sequence ≡ next_sequence number)
-      (before_is : before ≡ image_at old 0 0) (after_is : after ≡ image_at last moment sequence) (first_is : first ≡ before) (second_is : second ≡ after) where
-    old_bins : drop 4096 first ≡ old.keys.bins.bytes
-    old_bins = image-bins _ _ _ _ first (first_is ∙ before_is)
-
-    last_bins : drop 4096 second ≡ last.keys.bins.bytes
-    last_bins = image-bins _ _ _ _ second (second_is ∙ after_is)
-
-    pub saves : drop 4096 second ≢ drop 4096 first → Edits bytes begin (Some after) unread left told now_told
-    saves other = edited (Some after) (
-      after_is ∙ ap (image_at last moment) (next ∙ ap next_sequence counted),
-      λ same. other (last_bins ∙ same ∙ sym old_bins),
+    pub halts_strictly : (fault : ScriptFault) → found ≡ ByFault fault → RunStops (Script fault) keeps_going begin old unread left before after
+    halts_strictly fault is = (
+      last,
+      subst (λ (g : Bool). IsHalted g fault begin old last unread left before after) (sym stops)
+          (subst (λ (f : StrictFault). StopsStrictly begin f unread left no_callbacks old last before after) is stops_unasked),
     )
 
-    pub keeps : drop 4096 second ≡ drop 4096 first → Edits bytes begin None unread left told now_told
-    keeps same = edited None (sym last_bins ∙ same ∙ old_bins)
+    pub ends_at_line : (line : FailedLine) → found ≡ AtLine line → RunStops (Line line) keeps_going begin old unread left before after
+    ends_at_line line is =
+        (stops, (last, subst (λ (f : StrictFault). StopsStrictly begin f unread left no_callbacks old last before after) is stops_unasked))
+
+-- of a script that goes on behind lines that fail, any number may
+pub any_number : (keeps_going : Bool) (failed : ℕ) → keeps_going ≡ true → keeps_going ≡ false → failed ≡ 0
+any_number keeps_going failed goes stops = absurd (true≢false (sym goes ∙ stops))
+
+-- what ended it
+pub stopped : (fault : EditFault) (keeps_going : Bool) (begin : ℕ) (file file_left : Option (List ℕ)) (old : View) (sequence : ℕ)
+    (unread left before after : Option (List ℕ)) → Opens file file_left old sequence →
+    RunStops fault keeps_going begin old unread left before after → EditStops fault keeps_going begin file file_left unread left before after
+stopped (Load fault) keeps_going begin file file_left old sequence unread left before after o h = absurd h
+stopped (Script fault) keeps_going begin file file_left old sequence unread left before after o h = (old, sequence, o, h)
+stopped (Line line) keeps_going begin file file_left old sequence unread left before after o h = (old, sequence, o, h)
+
+-- then no read of the file failed
+pub none_blamed : (fault : EditFault) (keeps_going : Bool) (begin : ℕ) (old : View) (unread left before after : Option (List ℕ)) (read now_read : Option ℕ) →
+    RunStops fault keeps_going begin old unread left before after → Stays read now_read → IsReadBlamed fault read now_read
+none_blamed (Load fault) keeps_going begin old unread left before after read now_read h stays = absurd h
+none_blamed (Script fault) keeps_going begin old unread left before after read now_read h stays = stays
+none_blamed (Line line) keeps_going begin old unread left before after read now_read h stays = stays
+
+-- ---- the whole
+
+pub edits : (keeps_going : Bool) (begin : ℕ) (edited : Edited) (file file_left unread left before after : Option (List ℕ)) (old : View)
+    (sequence moment failed : ℕ) → Opens file file_left old sequence →
+    Leads keeps_going begin old (view_of edited.hive) moment failed unread left before after →
+    edited.moment ≡ moment → edited.failed ≡ failed → edited.sequence ≡ next_sequence sequence →
+    edited.is_changed ≡ are_changed (view_of edited.hive).journal → Edits keeps_going begin edited file file_left unread left before after
+edits keeps_going begin edited file file_left unread left before after old sequence moment failed o led moment_is failed_is next changed = record {
+  old = old;
+  sequence = sequence;
+  opens = o;
+  leads = subst (λ (n : ℕ). Leads keeps_going begin old (view_of edited.hive) n edited.failed unread left before after) (sym moment_is)
+      (subst (λ (n : ℕ). Leads keeps_going begin old (view_of edited.hive) moment n unread left before after) (sym failed_is) led);
+  next = next;
+  changed = record {
+    by_calls = changed;
+    same = λ same. script_kept begin old (view_of edited.hive) led.script led.text moment led.lines o.loaded.journal (sym changed ∙ same);
+  };
+}

@@ -1,23 +1,25 @@
 -- What an import did, put together of what its steps did.
-use Rattle.std.proofs.Common.{◌≡◌, ◌≢◌, ◌∙◌, List, ℕ, ap, sym, subst, drop}
-use Rattle.std.specs.Prelude.{Option, Some, None, Result, Ok, Err, IfErr}
-use Rattle.reg_entry_reader.specs.FileUnits.{units_of}
-use Rattle.reg_entry_reader.specs.EntryMeanings.{entries_in, IsRefused}
-use Rattle.reg_entry_reader.specs.declared.fault.ReadFault.{ReadFault}
+use Rattle.std.proofs.Common.{◌≡◌, ◌∙◌, List, ℕ, sym, subst}
+use Rattle.std.specs.Prelude.{Option, Some, Result, Ok, Err, IfErr}
+use Rattle.std.specs.Io.KnownBytes.{Consumes, IsAtEnd}
+use Rattle.reg_text.specs.Failures.{Stays}
+use Rattle.reg_dotreg_reader.specs.FileUnits.{units_of}
+use Rattle.reg_dotreg_reader.specs.EntryMeanings.{entries_in, IsRefused}
+use Rattle.reg_dotreg_reader.specs.declared.fault.ReadFault.{ReadFault}
+use Rattle.reg_dotreg_reader.specs.declared.entry.Numbered.{Numbered}
 use Rattle.reg_model.specs.Callbacks.{Callbacks, no_callbacks}
 use Rattle.reg_calls.specs.Views.{View, IsHive}
-use Rattle.reg_command.specs.ScriptRuns.{image_at}
-use Rattle.reg_entry_reader.specs.declared.entry.Numbered.{Numbered}
-use Rattle.reg_import.specs.Imports.{imported, entries_of}
-use Rattle.reg_import.specs.ImportCalls.{Accepts, import_calls}
-use Rattle.reg_import.specs.ImportStops.{ImportStops}
-use Rattle.reg_import.specs.declared.fault.ImportFault.{ImportFault}
-use Rattle.reg_lookups.specs.Opened.{Opens}
-use Rattle.reg_edits.specs.Edits.{begin_of, next_sequence, sequence_in, IsToSave}
-use Rattle.reg_edits.specs.TextImports.{IsText, IsNoText, NoEntries, root_name, Applies, ApplyStops, Imports, ImportEnds}
+use Rattle.reg_calls.specs.HiveView.{view_of}
+use Rattle.reg_dotreg_import.specs.Imports.{imported, entries_of}
+use Rattle.reg_dotreg_import.specs.ImportCalls.{Accepts, import_calls}
+use Rattle.reg_dotreg_import.specs.ImportStops.{ImportStops}
+use Rattle.reg_dotreg_import.specs.declared.fault.ImportFault.{ImportFault}
+use Rattle.reg_edits.specs.Edits.{Opens, are_changed, next_sequence}
+use Rattle.reg_edits.specs.TextImports.{IsText, IsNoText, NoEntries, root_name, Applies, ApplyStops, ReadStops, IsReadBlamed, Imports, ImportEnds}
+use Rattle.reg_edits.specs.declared.edits.Edited.{Edited}
 use Rattle.reg_edits.specs.declared.importing.ImportEnd.{ImportEnd}
-use Rattle.reg_edits.specs.declared.importing.ImportEnd.TheVariants.{Load, Text, Entry, Memory}
-use Rattle.reg_edits.proofs.ImageBins.{image-bins}
+use Rattle.reg_edits.specs.declared.importing.ImportEnd.TheVariants.{Load, Input, Text, Entry, Memory}
+use Rattle.reg_edits.proofs.KeptByCalls.{calls_kept}
 
 -- the units of a text were read, and no entries
 pub no_entries : {T : Type 0} (r : Result T ReadFault) (root text units : List ℕ) → units_of text ≡ Some units →
@@ -38,38 +40,64 @@ pub entry_stops : (moment : ℕ) (text : List ℕ) (old last : View) (entries : 
 entry_stops moment text old last entries fault is_text none hive stops =
     (entries, last, is_text, hive, subst (λ (asked : Callbacks). ImportStops asked moment fault old entries last) none stops)
 
--- what ended it is told of the moment that is due
-pub import_ends : (fault : ImportEnd) (bytes : List ℕ) (begin : Option ℕ) (text : List ℕ) (at : ℕ) (old : View) → Opens bytes old →
-    at ≡ begin_of begin bytes → ApplyStops fault at text old → ImportEnds fault bytes begin text
-import_ends (Load fault) bytes begin text at old o is h = absurd h
-import_ends (Text fault) bytes begin text at old o is h = (old, o, h)
-import_ends (Entry fault) bytes begin text at old o is h =
-    (old, o, subst (λ (moment : ℕ). ApplyStops (Entry fault) moment text old) is h)
-import_ends Memory bytes begin text at old o is h = absurd h
+-- what was read, as it is handed on
+pub read_as : (unread left : Option (List ℕ)) (bytes text : List ℕ) → text ≡ bytes → Consumes unread left bytes → Consumes unread left text
+read_as unread left bytes text same h = subst (λ (w : List ℕ). Consumes unread left w) (sym same) h
 
--- the entries were made, and two images compared
-module _ (bytes : List ℕ) (begin : Option ℕ) (text : List ℕ) (at : ℕ) (old last : View) (is_open : Opens bytes old) (is_at : at ≡ begin_of begin bytes)
-    (made : Applies at text old last) where
-  made_here : Applies (begin_of begin bytes) text old last
-  made_here = subst (λ (moment : ℕ). Applies moment text old last) is_at made
+-- the text wasn't read to its end
+pub unread_ends : (fault : ImportEnd) (moment : ℕ) (file file_left unread left : Option (List ℕ)) (old : View) (sequence : ℕ) →
+    Opens file file_left old sequence → ReadStops fault → ImportEnds fault moment file file_left unread left
+unread_ends (Load fault) moment file file_left unread left old sequence o h = absurd h
+unread_ends (Input error) moment file file_left unread left old sequence o h = (old, sequence, o)
+unread_ends (Text fault) moment file file_left unread left old sequence o h = absurd h
+unread_ends (Entry fault) moment file file_left unread left old sequence o h = absurd h
+unread_ends Memory moment file file_left unread left old sequence o h = (old, sequence, o)
 
-  imports : (saved : Option (List ℕ)) → IsToSave old last (begin_of begin bytes) (next_sequence (sequence_in bytes)) saved →
-      Imports bytes begin text saved
-  imports saved h = record { old = old; opens = is_open; last = last; applies = made_here; to_save = h }
+-- its entries weren't made
+pub apply_ends : (fault : ImportEnd) (moment : ℕ) (file file_left unread left : Option (List ℕ)) (text : List ℕ) (old : View) (sequence : ℕ) →
+    Opens file file_left old sequence → IsAtEnd left → Consumes unread left text → ApplyStops fault moment text old →
+    ImportEnds fault moment file file_left unread left
+apply_ends (Load fault) moment file file_left unread left text old sequence o at_end consumed h = absurd h
+apply_ends (Input error) moment file file_left unread left text old sequence o at_end consumed h = absurd h
+apply_ends (Text fault) moment file file_left unread left text old sequence o at_end consumed h = (old, sequence, text, o, at_end, consumed, h)
+apply_ends (Entry fault) moment file file_left unread left text old sequence o at_end consumed h = (old, sequence, text, o, at_end, consumed, h)
+apply_ends Memory moment file file_left unread left text old sequence o at_end consumed h = absurd h
 
-  module _ (number sequence : ℕ) (before after first second : List ℕ) (counted : number ≡ sequence_in bytes) (next : sequence ≡ next_sequence number)
-      (before_is : before ≡ image_at old 0 0) (after_is : after ≡ image_at last at sequence) (first_is : first ≡ before) (second_is : second ≡ after) where
-    old_bins : drop 4096 first ≡ old.keys.bins.bytes
-    old_bins = image-bins _ _ _ _ first (first_is ∙ before_is)
+-- then no read of the file failed
+pub unread_unblamed : (fault : ImportEnd) (before after : Option ℕ) → ReadStops fault → Stays before after → IsReadBlamed fault before after
+unread_unblamed (Load fault) before after h stays = absurd h
+unread_unblamed (Input error) before after h stays = stays
+unread_unblamed (Text fault) before after h stays = absurd h
+unread_unblamed (Entry fault) before after h stays = absurd h
+unread_unblamed Memory before after h stays = stays
 
-    last_bins : drop 4096 second ≡ last.keys.bins.bytes
-    last_bins = image-bins _ _ _ _ second (second_is ∙ after_is)
+pub apply_unblamed : (fault : ImportEnd) (moment : ℕ) (text : List ℕ) (old : View) (before after : Option ℕ) → ApplyStops fault moment text old →
+    Stays before after → IsReadBlamed fault before after
+apply_unblamed (Load fault) moment text old before after h stays = absurd h
+apply_unblamed (Input error) moment text old before after h stays = absurd h
+apply_unblamed (Text fault) moment text old before after h stays = stays
+apply_unblamed (Entry fault) moment text old before after h stays = stays
+apply_unblamed Memory moment text old before after h stays = absurd h
 
-    pub import_saves : drop 4096 second ≢ drop 4096 first → Imports bytes begin text (Some after)
-    import_saves other = imports (Some after) (
-      after_is ∙ (ap (λ (moment : ℕ). image_at last moment sequence) is_at ∙ ap (image_at last (begin_of begin bytes)) (next ∙ ap next_sequence counted)),
-      λ same. other (last_bins ∙ same ∙ sym old_bins),
-    )
-
-    pub import_keeps : drop 4096 second ≡ drop 4096 first → Imports bytes begin text None
-    import_keeps same = imports None (sym last_bins ∙ same ∙ old_bins)
+-- the whole
+pub imports : (moment : ℕ) (edited : Edited) (file file_left unread left : Option (List ℕ)) (text : List ℕ) (old : View) (sequence : ℕ) →
+    Opens file file_left old sequence → IsAtEnd left → Consumes unread left text → Applies moment text old (view_of edited.hive) →
+    edited.moment ≡ moment → edited.sequence ≡ next_sequence sequence → edited.is_changed ≡ are_changed (view_of edited.hive).journal →
+    edited.failed ≡ 0 → Imports moment edited file file_left unread left
+imports moment edited file file_left unread left text old sequence o at_end consumed made saved_at next changed none_failed = record {
+  old = old;
+  sequence = sequence;
+  opens = o;
+  at_end = at_end;
+  text = text;
+  consumed = consumed;
+  applies = made;
+  saved_at = saved_at;
+  next = next;
+  changed = record {
+    by_calls = changed;
+    same = λ same. calls_kept moment old (view_of edited.hive) (import_calls moment old (entries_of made.entries)) made.calls o.loaded.journal
+        (sym changed ∙ same);
+  };
+  none_failed = none_failed;
+}

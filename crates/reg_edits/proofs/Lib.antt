@@ -1,4 +1,6 @@
+pub mod Results
+pub mod ChangedKeys
+pub mod KeptKeys
+pub mod KeptByCalls
 pub mod EditSteps
-pub mod ImageBins
-pub mod OtherBins
 pub mod ImportSteps

@@ -1,3 +1,2 @@
 pub mod Edits
-pub mod Inputs
 pub mod TextImports

@@ -1,20 +1,24 @@
--- What an import of a .reg text makes of an image (this project's own).
-use Rattle.std.specs.Prelude.{◌≡◌, ℕ, List, [], Option, Some, Ok}
+-- What an import of a .reg text makes of a file's hive (this project's own).
+use Rattle.std.specs.Prelude.{◌≡◌, ⊤, ℕ, List, [], Option, Some, Ok}
+use Rattle.std.specs.Io.KnownBytes.{IsAtEnd, Consumes}
 use Rattle.std.specs.FinMap.{get}
 use Rattle.reg_model.specs.Callbacks.{no_callbacks}
-use Rattle.reg_dump.specs.DumpTexts.{name_of}
+use Rattle.reg_tree_text.specs.DumpTexts.{name_of}
 use Rattle.reg_calls.specs.Views.{View, IsHive}
-use Rattle.reg_entry_reader.specs.FileUnits.{units_of, IsUnread}
-use Rattle.reg_entry_reader.specs.EntryMeanings.{entries_in, IsRefused}
-use Rattle.reg_entry_reader.specs.declared.entry.Numbered.{Numbered}
-use Rattle.reg_entry_reader.specs.declared.fault.ReadFault.{ReadFault}
-use Rattle.reg_import.specs.Imports.{imported, entries_of}
-use Rattle.reg_import.specs.ImportCalls.{Accepts, import_calls}
-use Rattle.reg_import.specs.ImportStops.{ImportStops}
-use Rattle.reg_lookups.specs.Opened.{Opens, IsUnloaded}
-use Rattle.reg_edits.specs.Edits.{begin_of, next_sequence, sequence_in, IsToSave}
+use Rattle.reg_dotreg_reader.specs.FileUnits.{units_of, IsUnread}
+use Rattle.reg_dotreg_reader.specs.EntryMeanings.{entries_in, IsRefused}
+use Rattle.reg_dotreg_reader.specs.declared.entry.Numbered.{Numbered}
+use Rattle.reg_dotreg_reader.specs.declared.fault.ReadFault.{ReadFault}
+use Rattle.reg_dotreg_import.specs.Imports.{imported, entries_of}
+use Rattle.reg_dotreg_import.specs.ImportCalls.{Accepts, import_calls}
+use Rattle.reg_dotreg_import.specs.ImportStops.{ImportStops}
+use Rattle.reg_calls.specs.HiveView.{view_of}
+use Rattle.reg_text.specs.Failures.{Stays}
+use Rattle.reg_tree_image.specs.Loads.{MeetsFault, IsBlamed}
+use Rattle.reg_edits.specs.Edits.{next_sequence, Opens, IsChanged}
+use Rattle.reg_edits.specs.declared.edits.Edited.{Edited}
 use Rattle.reg_edits.specs.declared.importing.ImportEnd.{ImportEnd}
-use Rattle.reg_edits.specs.declared.importing.ImportEnd.TheVariants.{Load, Text, Entry, Memory}
+use Rattle.reg_edits.specs.declared.importing.ImportEnd.TheVariants.{Load, Input, Text, Entry, Memory}
 
 -- the entries that the bytes of a text ask for, below a root of that name
 pub record IsText (root text : List ℕ) (entries : List Numbered) : Type 0 where
@@ -44,19 +48,39 @@ ApplyStops (Text fault) moment text old = IsNoText (root_name old) text fault
 ApplyStops (Entry fault) moment text old =
     (entries : List Numbered) × (last : View) × IsText (root_name old) text entries × IsHive last
     × ImportStops no_callbacks moment fault old entries last
-ApplyStops (Load fault) moment text old = ⊥
-ApplyStops Memory moment text old = ⊥
+ApplyStops fault moment text old = ⊥
 
--- what an import made of an image, and what is to be saved
-pub record Imports (bytes : List ℕ) (begin : Option ℕ) (text : List ℕ) (saved : Option (List ℕ)) : Type 0 where
+-- what an import left of the hive of a file: an input was read to its end, and the entries of its text were made, all at one moment
+pub record Imports (moment : ℕ) (edited : Edited) (file file_left unread left : Option (List ℕ)) : Type 0 where
   pub old : View
-  pub opens : Opens bytes old
-  pub last : View
-  pub applies : Applies (begin_of begin bytes) text old last
-  pub to_save : IsToSave old last (begin_of begin bytes) (next_sequence (sequence_in bytes)) saved
+  pub sequence : ℕ
+  pub opens : Opens file file_left old sequence
+  pub at_end : IsAtEnd left
+  pub text : List ℕ
+  pub consumed : Consumes unread left text
+  pub applies : Applies moment text old (view_of edited.hive)
+  pub saved_at : edited.moment ≡ moment
+  pub next : edited.sequence ≡ next_sequence sequence
+  pub changed : IsChanged old (view_of edited.hive) edited.is_changed
+  pub none_failed : edited.failed ≡ 0
 
--- what ended an import: the image doesn't load; the text wasn't read, or an entry stopped it; or there was no memory for an image
-abbrev pub ImportEnds : ImportEnd → List ℕ → Option ℕ → List ℕ → Type 0
-ImportEnds (Load fault) bytes begin text = IsUnloaded fault bytes
-ImportEnds Memory bytes begin text = (old : View) × Opens bytes old
-ImportEnds fault bytes begin text = (old : View) × Opens bytes old × ApplyStops fault (begin_of begin bytes) text old
+-- why an input wasn't read to its end: its reader failed, or there was no memory for it
+abbrev pub ReadStops : ImportEnd → Type 0
+ReadStops (Input error) = ⊤
+ReadStops Memory = ⊤
+ReadStops fault = ⊥
+
+-- what ended an import before there was anything to save: the image doesn't load, and then nothing was read of the text; the text's reader
+-- failed, or memory lacked for it; or the text wasn't understood, or an entry stopped it
+abbrev pub ImportEnds : ImportEnd → (moment : ℕ) → (file file_left unread left : Option (List ℕ)) → Type 0
+ImportEnds (Load fault) moment file file_left unread left = MeetsFault fault file file_left × (left ≡ unread)
+ImportEnds (Input error) moment file file_left unread left = (old : View) × (sequence : ℕ) × Opens file file_left old sequence
+ImportEnds Memory moment file file_left unread left = (old : View) × (sequence : ℕ) × Opens file file_left old sequence
+ImportEnds fault moment file file_left unread left =
+    (old : View) × (sequence : ℕ) × (text : List ℕ) × Opens file file_left old sequence × IsAtEnd left × Consumes unread left text
+    × ApplyStops fault moment text old
+
+-- a read of the file failed where the load tells just this, and none else
+abbrev pub IsReadBlamed : ImportEnd → (before after : Option ℕ) → Type 0
+IsReadBlamed (Load fault) before after = IsBlamed fault before after
+IsReadBlamed fault before after = Stays before after

@@ -1,30 +1,45 @@
-//! What an edit makes of an image: a hive loaded, a script run on it, and the image of what it left.
+//! What an edit makes of a file's hive: a hive loaded, a script run on it, and what its image is to be saved with.
 
-ghost use Rattle.std.specs.Prelude.{◌≡◌, ◌≢◌, ◌≤◌, ◌↔◌, [], length, drop, string_bytes, option_map, OnOk, IfOk, IfErr, IsErrOf, true, false};
+ghost use Rattle.std.specs.Prelude.{◌≡◌, ◌↔◌, [], IfOk, IfErr, IsErrOf, MatchResult, false};
 ghost use Rattle.reg_names.specs.Names.{is_key_name};
+ghost use Rattle.reg_text.specs.Failures.{Stays};
 ghost use Rattle.reg_callbacks.specs.Lists.{rows_of};
 ghost use Rattle.reg_calls.specs.HiveView.{view_of, callbacks_of};
-ghost use Rattle.reg_heap.specs.ByteWords.{long};
-ghost use Rattle.reg_edits.specs.Edits.{sequence_in, next_sequence as following, begin_of as moment_begun, at_line, LeadsOn, RunStops, Edits, EditStops, IsFreshImage};
+ghost use Rattle.reg_edits.specs.Edits.{next_sequence as following, are_changed, Leads, RunStops, Edits, EditStops, IsReadBlamed, IsFreshHive};
 
-use crate::input::PutBack;
-use byteorder::{ByteOrder, LittleEndian};
 use reg_callbacks::{Callback, NoCallback};
 use reg_calls::{Hive, NewFault};
-use reg_image::{ImageFault, LoadFault, image, load};
-use reg_script::{ScriptFault, run_to};
-use std::alloc::{AllocError, Global};
-use std::io::Write;
+use reg_image::{LoadFault, NumberedHive, load_numbered};
+use reg_script::{
+    FRESH_DESCRIPTOR, FailedLine, Ran, ScriptFault, StrictFault, run_counted, run_strictly,
+};
+use reg_text::Source;
+use std::alloc::Global;
+use std::io::{Read, Write};
 
-/// What ended an edit before there was an image to save.
-#[derive(Clone, Copy, Debug, PartialEq, Eq)]
+/// A file's hive after an edit, and what its image is to be saved with.
+#[derive(Drop)]
+pub struct Edited {
+    pub hive: Hive<NoCallback>,
+    /// The moment of the image, in units of 100 ns since 1601.
+    pub moment: u64,
+    /// The sequence number of the image: that of the file's image, and one more.
+    pub sequence: u32,
+    /// Whether a call that was accepted may have changed a key. Where none may, the bins are as they were loaded.
+    pub is_changed: bool,
+    /// How many lines of the script failed.
+    pub failed: u32,
+}
+
+/// What ended an edit before there was anything to save.
+#[derive(Debug, Drop)]
 pub enum EditFault {
     /// The image doesn't load; nothing was read of the script.
     Load(LoadFault),
     /// The script ended early.
     Script(ScriptFault),
-    /// There is no memory for an image, or for the script's first line.
-    Memory,
+    /// A line of the script failed: it has no form of a line, or asks for a change that was refused.
+    Line(FailedLine),
 }
 
 impl From<LoadFault> for EditFault {
@@ -37,26 +52,6 @@ impl From<LoadFault> for EditFault {
     }
 }
 
-impl From<ImageFault> for EditFault {
-    ghost use Rattle.reg_edits.specs.declared.edits.EditFault.{EditFault};
-
-    ghost from_gives = { λ _ e. e ≡ EditFault.Memory };
-
-    fn from(_fault: ImageFault) -> EditFault {
-        EditFault::Memory
-    }
-}
-
-impl From<AllocError> for EditFault {
-    ghost use Rattle.reg_edits.specs.declared.edits.EditFault.{EditFault};
-
-    ghost from_gives = { λ _ e. e ≡ EditFault.Memory };
-
-    fn from(_fault: AllocError) -> EditFault {
-        EditFault::Memory
-    }
-}
-
 /// The sequence number of the next image: one more, and 0 after the greatest.
 pub fn next_sequence(sequence: u32) -> u32
     ensures { result ≡ following sequence }
@@ -64,102 +59,82 @@ pub fn next_sequence(sequence: u32) -> u32
     sequence.wrapping_add(1)
 }
 
-/// The sequence number in a base block.
-#[tactic(auto, unfolding(reg_heap::specs::ByteWords::word))]
-pub fn sequence_of(block: &[u8]) -> u32
-    requires { 8 ≤ length block.now }
-    ensures { result ≡ sequence_in block.now }
+/// Whether a call that a hive accepted may have changed a key.
+pub fn is_changed<C: Callback>(hive: &Hive<C>) -> bool
+    ensures { result ≡ are_changed (view_of hive.now).journal }
 {
-    LittleEndian::read_u32(&block[4..])
-}
-
-/// The moment in a base block.
-#[tactic(auto, unfolding(reg_heap::specs::ByteWords::long))]
-fn moment_of(block: &[u8]) -> u64
-    requires { 20 ≤ length block.now }
-    ensures { result ≡ long block.now 12 }
-{
-    LittleEndian::read_u64(&block[12..])
-}
-
-/// The line that sets a script's first moment.
-fn first_line(alloc: Global, moment: u64) -> Result<String, AllocError>
-    ensures { IfOk result (λ text. string_bytes text ≡ at_line moment) }
-{
-    format!(in alloc; "at {moment}\n")
-}
-
-/// Whether two images have other bins, which stand behind a base block of 4,096 bytes each.
-pub fn have_other_bins(before: &[u8], after: &[u8]) -> bool
-    requires before { 4096 ≤ length before.now }
-    requires after { 4096 ≤ length after.now }
-    ensures other { result ≡ true → drop 4096 after.now ≢ drop 4096 before.now }
-    ensures same { result ≡ false → drop 4096 after.now ≡ drop 4096 before.now }
-{
-    before[4096..] != after[4096..]
-}
-
-/// The moment at which a script on an image begins.
-pub fn begin_of(begin: Option<u64>, image: &[u8]) -> u64
-    requires { 20 ≤ length image.now }
-    ensures { result ≡ moment_begun begin image.now }
-{
-    match begin {
-        Some(moment) => moment,
-        None => moment_of(image),
+    for number in 0..hive.len() {
+        let Some(entry) = hive.entry(number) else {
+            unreachable!()
+        };
+        if entry.changes_keys() {
+            return true;
+        }
     }
+    false
 }
 
-/// Runs a script behind the line that sets its first moment.
-fn run_from<R: PutBack, W: Write, C: Callback>(
+/// Runs a script on a hive from a moment on. Where a line fails it is passed over and counted, or ends the script.
+fn run_on<R: Read, W: Write, C: Callback>(
     alloc: Global,
-    moment: u64,
+    begin: u64,
+    keeps_going: bool,
     hive: &mut Hive<C>,
     input: &mut R,
     output: &mut W,
-) -> Result<u64, EditFault>
+) -> Result<Ran, EditFault>
     requires { rows_of (callbacks_of hive.old) ≡ [] }
-    ensures ok { IfOk result (λ last. LeadsOn moment (view_of hive.old) (view_of hive.new) last (R.remaining input.old) (R.remaining input.new)
-        (W.contents output.old) (W.contents output.new)) }
-    ensures err { IfErr result (λ fault. RunStops fault moment (view_of hive.old) (R.remaining input.old) (R.remaining input.new)
+    ensures ok { IfOk result (λ ran. Leads keeps_going begin (view_of hive.old) (view_of hive.new) ran.moment ran.failed
+        (R.remaining input.old) (R.remaining input.new) (W.contents output.old) (W.contents output.new)) }
+    ensures err { IfErr result (λ fault. RunStops fault keeps_going begin (view_of hive.old) (R.remaining input.old) (R.remaining input.new)
         (W.contents output.old) (W.contents output.new)) }
 {
-    let line = first_line(alloc, moment)?;
-    input.put_back(alloc, line.as_bytes())?;
-    match run_to(alloc, input, output, hive) {
-        Ok(last) => Ok(last),
-        Err(fault) => Err(EditFault::Script(fault)),
+    if keeps_going {
+        return match run_counted(alloc, begin, input, output, hive) {
+            Ok(ran) => Ok(ran),
+            Err(fault) => Err(EditFault::Script(fault)),
+        };
+    }
+    match run_strictly(alloc, begin, input, output, hive) {
+        Ok(moment) => Ok(Ran { moment, failed: 0 }),
+        Err(StrictFault::Script(fault)) => Err(EditFault::Script(fault)),
+        Err(StrictFault::Line(line)) => Err(EditFault::Line(line)),
     }
 }
 
-/// Loads a hive from an image, runs a script on it from a moment on, that of the image's base block where none is given, and answers
-/// the image of what the script left, at its last moment, with the next sequence number; `None` where the script left the hive's bytes
-/// as they were.
-pub fn edit<R: PutBack, W: Write>(
+/// Loads a hive from the image at the front of a file, runs a script on it from a moment on, and answers the hive that it left, with the
+/// script's last moment and the next sequence number.
+///
+/// The first line that fails ends the script, and is the fault: it has no form of a line, or asks for a change whose status isn't 0. Its
+/// reply is the last that is written. With `keeps_going` such lines are passed over and counted.
+pub fn edit<F: Source, R: Read, W: Write>(
     alloc: Global,
-    old: &[u8],
-    begin: Option<u64>,
+    file: &mut F,
+    begin: u64,
+    keeps_going: bool,
     input: &mut R,
     output: &mut W,
-) -> Result<Option<Vec<u8>>, EditFault>
-    ensures ok { IfOk result (λ saved. Edits old.now begin (option_map (λ image. image.items) saved) (R.remaining input.old)
-        (R.remaining input.new) (W.contents output.old) (W.contents output.new)) }
-    ensures err { IfErr result (λ fault. EditStops fault old.now begin (R.remaining input.old) (R.remaining input.new)
-        (W.contents output.old) (W.contents output.new)) }
+) -> Result<Edited, EditFault>
+    ensures ok { IfOk result (λ edited. Edits keeps_going begin edited (F.remaining file.old) (F.remaining file.new)
+        (R.remaining input.old) (R.remaining input.new) (W.contents output.old) (W.contents output.new)) }
+    ensures err { IfErr result (λ fault. EditStops fault keeps_going begin (F.remaining file.old) (F.remaining file.new)
+        (R.remaining input.old) (R.remaining input.new) (W.contents output.old) (W.contents output.new)) }
+    ensures failures { MatchResult result (λ _. Stays (F.failures file.old) (F.failures file.new))
+        (λ fault. IsReadBlamed fault (F.failures file.old) (F.failures file.new)) }
 {
-    let mut unread = old;
-    let mut hive = load::<&[u8], NoCallback>(alloc, &mut unread)?;
-    let before = image(alloc, &hive, 0, 0)?;
-    let last = run_from(alloc, begin_of(begin, old), &mut hive, input, output)?;
-    let after = image(alloc, &hive, last, next_sequence(sequence_of(old)))?;
-    if have_other_bins(before.as_slice(), after.as_slice()) {
-        Ok(Some(after))
-    } else {
-        Ok(None)
-    }
+    let NumberedHive { mut hive, sequence } = load_numbered::<F, NoCallback>(alloc, file)?;
+    let ran = run_on(alloc, begin, keeps_going, &mut hive, input, output)?;
+    let is_changed = is_changed(&hive);
+    Ok(Edited {
+        hive,
+        moment: ran.moment,
+        sequence: next_sequence(sequence),
+        is_changed,
+        failed: ran.failed,
+    })
 }
 
-/// Why a fresh hive has no image.
+/// Why there is no fresh hive.
 #[derive(Clone, Copy, Debug, PartialEq, Eq)]
 pub enum FreshFault {
     /// The root's name is no key name.
@@ -168,23 +143,14 @@ pub enum FreshFault {
     Memory,
 }
 
-/// The root's descriptor: a self-relative security descriptor with nothing in it.
-const DESCRIPTOR: [u8; 20] = [
-    0x01, 0x00, 0x04, 0x80, 0, 0, 0, 0, 0, 0, 0, 0, 0, 0, 0, 0, 0, 0, 0, 0,
-];
-
-/// The image of a hive of one root of that name at moment 0, with the sequence number 1.
-pub fn fresh_image(alloc: Global, name: &[u8]) -> Result<Vec<u8>, FreshFault>
-    ensures ok { IfOk result (λ image. IsFreshImage name.now image.items) }
+/// A hive of one root of that name at moment 0, with the descriptor of a script's root.
+pub fn fresh_hive(alloc: Global, name: &[u8]) -> Result<Hive<NoCallback>, FreshFault>
+    ensures ok { IfOk result (λ hive. IsFreshHive name.now (view_of hive)) }
     ensures name { IsErrOf result FreshFault.Name ↔ (is_key_name name.now ≡ false) }
 {
-    let hive: Hive<NoCallback> = match Hive::new(alloc, name, &DESCRIPTOR, 0) {
-        Ok(hive) => hive,
-        Err(NewFault::Name) => return Err(FreshFault::Name),
-        Err(_) => return Err(FreshFault::Memory),
-    };
-    match image(alloc, &hive, 0, 1) {
-        Ok(bytes) => Ok(bytes),
+    match Hive::new(alloc, name, &FRESH_DESCRIPTOR, 0) {
+        Ok(hive) => Ok(hive),
+        Err(NewFault::Name) => Err(FreshFault::Name),
         Err(_) => Err(FreshFault::Memory),
     }
 }

@@ -1,28 +1,35 @@
-//! What an import makes of an image: a hive loaded, the entries of a .reg text made in it, and the image of what they left.
+//! What an import makes of a file's hive: a hive loaded, the entries of a .reg text made in it, and what its image is to be saved with.
 
-ghost use Rattle.std.specs.Prelude.{◌≡◌, [], option_map, IfOk, IfErr, OnOk};
+ghost use Rattle.std.specs.Prelude.{◌≡◌, [], IfOk, IfErr, OnOk, MatchResult};
+ghost use Rattle.std.specs.Io.KnownBytes.{Consumes, IsAtEnd};
+ghost use Rattle.reg_text.specs.Failures.{Stays};
 ghost use Rattle.reg_callbacks.specs.Lists.{rows_of};
 ghost use Rattle.reg_calls.specs.HiveView.{view_of, callbacks_of};
-ghost use Rattle.reg_edits.specs.TextImports.{IsText, IsNoText, root_name, Applies, ApplyStops, Imports, ImportEnds};
+ghost use Rattle.reg_edits.specs.TextImports.{IsText, IsNoText, root_name, Applies, ApplyStops, Imports, ImportEnds, ReadStops, IsReadBlamed};
 
-use crate::edits::{begin_of, have_other_bins, next_sequence, sequence_of};
+use crate::edits::{Edited, is_changed, next_sequence};
 use reg_callbacks::{Callback, NoCallback};
 use reg_calls::Hive;
-use reg_entry_reader::{Numbered, ReadFault, read_entries, units_in};
-use reg_image::{ImageFault, LoadFault, image, load};
-use reg_import::ImportFault;
+use reg_dotreg_import::ImportFault;
+use reg_dotreg_reader::{Numbered, ReadFault, read_entries, units_in};
+use reg_image::{LoadFault, NumberedHive, load_numbered};
+use reg_text::Source;
 use std::alloc::Global;
+use std::io;
+use std::io::{ErrorKind, Read};
 
-/// What ended an import before there was an image to save.
-#[derive(Clone, Copy, Debug, PartialEq, Eq)]
+/// What ended an import before there was anything to save.
+#[derive(Debug, Drop)]
 pub enum ImportEnd {
-    /// The image doesn't load.
+    /// The image doesn't load; nothing was read of the text.
     Load(LoadFault),
+    /// The text's reader failed.
+    Input(io::Error),
     /// A line of the text isn't understood, or the text is in no encoding that is read, or memory was refused for it.
     Text(ReadFault),
     /// An entry was refused, or memory was refused for it.
     Entry(ImportFault),
-    /// There is no memory for an image.
+    /// There is no memory for the text.
     Memory,
 }
 
@@ -46,16 +53,6 @@ impl From<ReadFault> for ImportEnd {
     }
 }
 
-impl From<ImageFault> for ImportEnd {
-    ghost use Rattle.reg_edits.specs.declared.importing.ImportEnd.{ImportEnd};
-
-    ghost from_gives = { λ _ e. e ≡ ImportEnd.Memory };
-
-    fn from(_fault: ImageFault) -> ImportEnd {
-        ImportEnd::Memory
-    }
-}
-
 /// The entries of the bytes of a .reg text, of keys below a root of that name.
 fn read_text(alloc: Global, root: &[u8], text: &[u8]) -> Result<Vec<Numbered>, ReadFault>
     ensures ok { IfOk result (λ entries. IsText root.now text.now entries.items) }
@@ -65,7 +62,7 @@ fn read_text(alloc: Global, root: &[u8], text: &[u8]) -> Result<Vec<Numbered>, R
     read_entries(alloc, root, units.as_slice())
 }
 
-/// The same of keys of a hive.
+/// The entries of the bytes of a .reg text, of keys of a hive.
 fn read_text_for<C: Callback>(
     alloc: Global,
     hive: &Hive<C>,
@@ -90,7 +87,7 @@ fn apply_text<C: Callback>(
     ensures err { IfErr result (λ fault. ApplyStops fault moment text.now (view_of hive.old)) }
 {
     let entries = read_text_for(alloc, hive, text)?;
-    match reg_import::import(alloc, hive, moment, entries) {
+    match reg_dotreg_import::import(alloc, hive, moment, entries) {
         Ok(()) => Ok(()),
         Err(fault) => {
             // Only for its clauses: what stopped it met a hive.
@@ -100,27 +97,43 @@ fn apply_text<C: Callback>(
     }
 }
 
-/// Loads a hive from an image, makes the entries of a .reg text in it, all at one moment, that of the image's base block where none is
-/// given, and answers the image of what they left, at that moment, with the next sequence number; `None` where the hive's bytes are as
-/// they were.
-pub fn import(
-    alloc: Global,
-    old: &[u8],
-    begin: Option<u64>,
-    text: &[u8],
-) -> Result<Option<Vec<u8>>, ImportEnd>
-    ensures ok { IfOk result (λ saved. Imports old.now begin text.now (option_map (λ image. image.items) saved)) }
-    ensures err { IfErr result (λ fault. ImportEnds fault old.now begin text.now) }
+/// Reads an input to its end.
+fn read_whole<R: Read>(alloc: Global, input: &mut R) -> Result<Vec<u8>, ImportEnd>
+    ensures ok { IfOk result (λ bytes. IsAtEnd (R.remaining input.new) × Consumes (R.remaining input.old) (R.remaining input.new) bytes.items) }
+    ensures err { IfErr result (λ fault. ReadStops fault) }
 {
-    let mut unread = old;
-    let mut hive = load::<&[u8], NoCallback>(alloc, &mut unread)?;
-    let before = image(alloc, &hive, 0, 0)?;
-    let moment = begin_of(begin, old);
-    apply_text(alloc, moment, &mut hive, text)?;
-    let after = image(alloc, &hive, moment, next_sequence(sequence_of(old)))?;
-    if have_other_bins(before.as_slice(), after.as_slice()) {
-        Ok(Some(after))
-    } else {
-        Ok(None)
+    let mut bytes = Vec::new(alloc);
+    match input.read_to_end(&mut bytes) {
+        Ok(_) => Ok(bytes),
+        Err(error) if error.kind() == ErrorKind::OutOfMemory => Err(ImportEnd::Memory),
+        Err(error) => Err(ImportEnd::Input(error)),
     }
+}
+
+/// Loads a hive from the image at the front of a file, makes in it the entries of the .reg text on an input, all at one moment, and
+/// answers the hive that they left, with that moment and the next sequence number.
+pub fn import<F: Source, R: Read>(
+    alloc: Global,
+    file: &mut F,
+    moment: u64,
+    input: &mut R,
+) -> Result<Edited, ImportEnd>
+    ensures ok { IfOk result (λ edited. Imports moment edited (F.remaining file.old) (F.remaining file.new)
+        (R.remaining input.old) (R.remaining input.new)) }
+    ensures err { IfErr result (λ fault. ImportEnds fault moment (F.remaining file.old) (F.remaining file.new)
+        (R.remaining input.old) (R.remaining input.new)) }
+    ensures failures { MatchResult result (λ _. Stays (F.failures file.old) (F.failures file.new))
+        (λ fault. IsReadBlamed fault (F.failures file.old) (F.failures file.new)) }
+{
+    let NumberedHive { mut hive, sequence } = load_numbered::<F, NoCallback>(alloc, file)?;
+    let text = read_whole(alloc, input)?;
+    apply_text(alloc, moment, &mut hive, text.as_slice())?;
+    let is_changed = is_changed(&hive);
+    Ok(Edited {
+        hive,
+        moment,
+        sequence: next_sequence(sequence),
+        is_changed,
+        failed: 0,
+    })
 }

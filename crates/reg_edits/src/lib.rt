@@ -1,15 +1,13 @@
-//! What an edit makes of an image: a script run on its hive, and what is to be saved.
+//! What an edit makes of a file's hive: a script run on it, or the entries of a .reg text made in it, and what it is to be saved with.
 //!
-//! Its one contract: [`edit`] tells just the image of the hive that a script leaves, with the next sequence number, where the bins
-//! are others than before, and else nothing; [`import`] the same of the entries of a .reg text; and [`fresh_image`] is the image of a
-//! fresh hive. It stands on reg_script, which runs scripts, on reg_entry_reader and reg_import, and on reg_image. Its types are
-//! [`Input`], a reader that takes bytes back ([`PutBack`]), [`EditFault`], [`ImportEnd`] and [`FreshFault`].
+//! Its one contract: [`edit`] answers just the hive that a script leaves of a file's, with its moment, the next sequence number and
+//! whether it is to be saved; [`import`] the same of the entries of a .reg text; and [`fresh_hive`] makes a hive of one root. It stands
+//! on reg_script, which runs scripts, on reg_dotreg_reader and reg_dotreg_import, and on reg_image, which loads the hive. Its types are
+//! [`Edited`], [`EditFault`], [`ImportEnd`] and [`FreshFault`].
 #![tactic(auto)]
 
 mod edits;
 mod importing;
-mod input;
 
-pub use edits::{EditFault, FreshFault, edit, fresh_image};
+pub use edits::{EditFault, Edited, FreshFault, edit, fresh_hive};
 pub use importing::{ImportEnd, import};
-pub use input::{Input, PutBack};

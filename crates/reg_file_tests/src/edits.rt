@@ -1,6 +1,7 @@
-//! `edit` on files of the system.
-use crate::support::{assert_told, made_at_now, tale, tale_while_held};
-use reg_file_deeds::Deed::{Block, Edit, IsLink, Keep, Link, Mode, Names, Permit, Put, Run, Same};
+//! `edit` on files of the system: what is saved, and when.
+use crate::support::{begins_at_the_clock, edit_after_the_greatest, report};
+use reg_test_support::Action::{Block, Edit, Keep, Names, Put, Run, Same};
+use reg_test_support::assert_report;
 use std::alloc::{AllocError, Global};
 use std::test::Fail;
 
@@ -11,7 +12,7 @@ const B: &str = "root 983103\ncreate 0 =B 983103\n";
 
 #[test]
 fn saves_what_a_script_changed(rt: HostRuntime) -> Result<(), Fail> {
-    let deeds = [
+    let actions = [
         Run("regtool new @/a"),
         Edit("regtool edit @/a --at 7", SCRIPT),
         Block("a"),
@@ -22,33 +23,54 @@ fn saves_what_a_script_changed(rt: HostRuntime) -> Result<(), Fail> {
         key = marks 8 class x security x0100048000000000000000000000000000000000 time 7\n\
         key =A marks 0 class x security x0100048000000000000000000000000000000000 time 7\n\
         value =V type 4 x01000000\nkeys 2 values 1\n|a |";
-    assert_told(&rt, tale(&rt, &rt, &deeds), wanted)
+    assert_report(report(&rt, &rt, &actions), wanted)
 }
 
-/// A script begins at the moment of the file, where none is given, and its own moment is saved.
+/// A script begins at the moment that is given, its `at` lines set others, and the last one is the image's.
 #[test]
-fn begins_at_the_moment_of_the_file(rt: HostRuntime) -> Result<(), Fail> {
-    let deeds = [
+fn begins_at_the_moment_that_is_given(rt: HostRuntime) -> Result<(), Fail> {
+    let actions = [
         Run("regtool new @/a"),
         Edit("regtool edit @/a --at 7", SCRIPT),
-        Edit("regtool edit @/a", B),
         Block("a"),
         Edit(
-            "regtool edit @/a",
+            "regtool edit @/a --at 8",
             "at 9\nroot 983103\ncreate 0 =C 983103\n",
         ),
         Block("a"),
-        Run("regtool check @/a"),
+        Edit(
+            "regtool edit @/a --at 11",
+            "root 983103\ncreate 0 =D 983103\nat 10\n",
+        ),
+        Block("a"),
+        Run("regtool dump @/a"),
     ];
-    let wanted = "0;;|0;;0 handle 0\n0 handle 1 disposition 1\n0\n|\
-        0;;0 handle 0\n0 handle 1 disposition 1\n|3 3 7|\
-        0;;0 handle 0\n0 handle 1 disposition 1\n|4 4 9|0;;ok keys 4 values 1\n|";
-    assert_told(&rt, tale(&rt, &rt, &deeds), wanted)
+    let wanted = "0;;|0;;0 handle 0\n0 handle 1 disposition 1\n0\n|2 2 7|\
+        0;;0 handle 0\n0 handle 1 disposition 1\n|3 3 9|\
+        0;;0 handle 0\n0 handle 1 disposition 1\n|4 4 10|0;;root =ROOT\n\
+        key = marks 8 class x security x0100048000000000000000000000000000000000 time 11\n\
+        key =A marks 0 class x security x0100048000000000000000000000000000000000 time 7\n\
+        value =V type 4 x01000000\n\
+        key =C marks 0 class x security x0100048000000000000000000000000000000000 time 9\n\
+        key =D marks 0 class x security x0100048000000000000000000000000000000000 time 11\n\
+        keys 4 values 1\n|";
+    assert_report(report(&rt, &rt, &actions), wanted)
 }
 
+/// Without a moment that is the clock's, with and without `--now`.
+#[test]
+fn begins_at_the_moment_of_the_clock(rt: HostRuntime) -> Result<(), Fail> {
+    assert_report(begins_at_the_clock(&rt, "regtool edit @/a", B), "true")?;
+    assert_report(
+        begins_at_the_clock(&rt, "regtool edit @/a --now", B),
+        "true",
+    )
+}
+
+/// Nothing is saved of a dry run, nor of questions, nor where an output would be made for them.
 #[test]
 fn saves_nothing_where_nothing_changed(rt: HostRuntime) -> Result<(), Fail> {
-    let deeds = [
+    let actions = [
         Run("regtool new @/a"),
         Keep("a"),
         Edit("regtool edit @/a --dry-run", SCRIPT),
@@ -56,16 +78,101 @@ fn saves_nothing_where_nothing_changed(rt: HostRuntime) -> Result<(), Fail> {
         Edit("regtool edit @/a --at 5", "root 983103\nquery 0 =V 4\n"),
         Same("a"),
         Edit("regtool edit @/a --output @/b", "root 983103\n"),
+        Edit("regtool edit @/a --output @/b --dry-run", SCRIPT),
+        Edit("regtool edit @/a --at 5", "at 9\n# nothing\n\n"),
+        Same("a"),
         Names,
     ];
     let wanted = "0;;|0;;0 handle 0\n0 handle 1 disposition 1\n0\n|same true|\
-        0;;0 handle 0\n2\n|same true|0;;0 handle 0\n|a |";
-    assert_told(&rt, tale(&rt, &rt, &deeds), wanted)
+        0;;0 handle 0\n2\n|same true|0;;0 handle 0\n|0;;0 handle 0\n0 handle 1 disposition 1\n0\n|\
+        0;;|same true|a |";
+    assert_report(report(&rt, &rt, &actions), wanted)
+}
+
+/// Opens keys, watches one, and closes a handle; the key that it creates was there.
+const OPENS: &str = "\
+root 983103
+open 0 =A 983103
+notify 1 4 0
+create 0 =a 983103
+close 1
+notice
+";
+
+/// Its replies.
+const OPENED: &str = "\
+0 handle 0
+0 handle 1
+0 watch 2
+0 handle 3 disposition 2
+0
+notice 2 4 closed
+";
+
+/// Calls that change no key save nothing: the file stays as it is.
+#[test]
+fn saves_nothing_where_keys_were_only_opened(rt: HostRuntime) -> Result<(), Fail> {
+    let actions = [
+        Run("regtool new @/a"),
+        Edit("regtool edit @/a --at 7", SCRIPT),
+        Keep("a"),
+        Edit("regtool edit @/a --at 8", OPENS),
+        Same("a"),
+        Block("a"),
+        Edit("regtool edit @/a --at 8 --keep-going", OPENS),
+        Same("a"),
+    ];
+    let wanted = format!(in rt.alloc();
+        "0;;|0;;0 handle 0\n0 handle 1 disposition 1\n0\n|0;;{OPENED}|same true|2 2 7|0;;{OPENED}|same true|"
+    )?;
+    assert_report(report(&rt, &rt, &actions), wanted.as_str())
+}
+
+/// Each call that may change a key saves, one that leaves the keys as they were too: a value that is set to what it was, a descriptor
+/// that is the key's, a tree of nothing that is deleted.
+#[test]
+fn saves_after_each_call_that_may_change_a_key(rt: HostRuntime) -> Result<(), Fail> {
+    let security = "x0100048000000000000000000000000000000000";
+    let set_security = format!(in rt.alloc(); "root 983103\nsetsec 0 {security}\n")?;
+    let actions = [
+        Run("regtool new @/a"),
+        Edit("regtool edit @/a --at 1", SCRIPT),
+        Edit(
+            "regtool edit @/a --at 2",
+            "root 983103\nopen 0 =A 983103\nset 1 =V 4 x01000000\n",
+        ),
+        Block("a"),
+        Edit("regtool edit @/a --at 3", set_security.as_str()),
+        Block("a"),
+        Edit(
+            "regtool edit @/a --at 4",
+            "root 983103\nopen 0 =A 983103\ndelvalue 1 =V\n",
+        ),
+        Block("a"),
+        Edit(
+            "regtool edit @/a --at 5",
+            "root 983103\nopen 0 =A 983103\ndeltree 1 =\n",
+        ),
+        Block("a"),
+        Edit("regtool edit @/a --at 6", "root 983103\ndelkey 0 =A\n"),
+        Block("a"),
+        Edit("regtool edit @/a --at 7", B),
+        Block("a"),
+        Edit("regtool edit @/a --at 8", "root 983103\ndeltree 0 =B\n"),
+        Block("a"),
+        Run("regtool check @/a"),
+    ];
+    let wanted = "0;;|0;;0 handle 0\n0 handle 1 disposition 1\n0\n|\
+        0;;0 handle 0\n0 handle 1\n0\n|3 3 2|0;;0 handle 0\n0\n|4 4 3|\
+        0;;0 handle 0\n0 handle 1\n0\n|5 5 4|0;;0 handle 0\n0 handle 1\n0\n|6 6 5|\
+        0;;0 handle 0\n0\n|7 7 6|0;;0 handle 0\n0 handle 1 disposition 1\n|8 8 7|\
+        0;;0 handle 0\n0\n|9 9 8|0;;ok keys 1 values 0\n|";
+    assert_report(report(&rt, &rt, &actions), wanted)
 }
 
 #[test]
 fn saves_elsewhere(rt: HostRuntime) -> Result<(), Fail> {
-    let deeds = [
+    let actions = [
         Run("regtool new @/a"),
         Keep("a"),
         Edit("regtool edit @/a --output @/b --at 3", B),
@@ -82,93 +189,20 @@ fn saves_elsewhere(rt: HostRuntime) -> Result<(), Fail> {
         0 handle 0\n0 handle 1 disposition 1\n|\
         1;error create @/b: File exists (os error 17)\n;\
         0 handle 0\n0 handle 1 disposition 1\n|same true|";
-    assert_told(&rt, tale(&rt, &rt, &deeds), wanted)
-}
-
-/// The clock's moment is after 2020 and before 2200.
-#[test]
-fn begins_at_the_moment_of_the_clock(rt: HostRuntime) -> Result<(), Fail> {
-    assert_told(&rt, made_at_now(&rt, B), "true")
+    assert_report(report(&rt, &rt, &actions), wanted)
 }
 
 #[test]
 fn counts_from_the_greatest_sequence_number_to_0(rt: HostRuntime) -> Result<(), Fail> {
-    assert_told(
-        &rt,
-        crate::support::after_the_greatest(&rt, SCRIPT, B),
-        "0;;0 handle 0\n0 handle 1 disposition 1\n|0 0 0|",
+    assert_report(
+        edit_after_the_greatest(&rt, SCRIPT, B),
+        "0;;0 handle 0\n0 handle 1 disposition 1\n|0 0 5|",
     )
-}
-
-/// A link stays, and what it leads to is saved; a name that is taken is no temporary file's, nor another one's to save in; and a device
-/// is no hive's.
-#[test]
-fn edits_the_file_at_the_end_of_a_link(rt: HostRuntime) -> Result<(), Fail> {
-    let deeds = [
-        Run("regtool new @/a"),
-        Link("link", "a"),
-        Put("a.regtool-0", "old"),
-        Keep("a.regtool-0"),
-        Edit("regtool edit @/link", B),
-        IsLink("link"),
-        Block("a"),
-        Same("a.regtool-0"),
-        Edit("regtool edit @/a --output @/link", SCRIPT),
-        IsLink("link"),
-        Block("a"),
-        Edit("regtool edit /dev/null", SCRIPT),
-        Names,
-    ];
-    let wanted = "0;;|0;;0 handle 0\n0 handle 1 disposition 1\n|link true|2 2 0|same true|\
-        1;error create @/link: File exists (os error 17)\n;\
-        0 handle 0\n0 handle 1 disposition 1\n0\n|link true|2 2 0|\
-        1;error file /dev/null: it is no regular file\n;|a a.regtool-0 link |";
-    assert_told(&rt, tale(&rt, &rt, &deeds), wanted)
-}
-
-/// The saved file has the permissions of the one before.
-#[test]
-fn keeps_the_permissions(rt: HostRuntime) -> Result<(), Fail> {
-    let deeds = [
-        Run("regtool new @/a"),
-        Permit("a", 0o640),
-        Edit("regtool edit @/a", B),
-        Mode("a"),
-        Permit("a", 0o600),
-        Edit("regtool edit @/a", SCRIPT),
-        Mode("a"),
-    ];
-    let wanted = "0;;|0;;0 handle 0\n0 handle 1 disposition 1\n|mode 640|\
-        0;;0 handle 0\n0 handle 1 disposition 1\n0\n|mode 600|";
-    assert_told(&rt, tale(&rt, &rt, &deeds), wanted)
-}
-
-/// What another one edits is told as busy, and may be looked at.
-#[test]
-fn refuses_a_file_that_is_locked(rt: HostRuntime) -> Result<(), Fail> {
-    let deeds = [
-        Keep("a"),
-        Edit("regtool edit @/a", B),
-        Edit("regtool edit @/a --output @/b", B),
-        Edit(
-            "regtool import @/a",
-            "Windows Registry Editor Version 5.00\n[ROOT\\A]\n",
-        ),
-        Same("a"),
-        Run("regtool check @/a"),
-        Run("regtool diff @/a @/a"),
-        Names,
-    ];
-    let busy = "1;error busy @/a\n;|";
-    let wanted = format!(in rt.alloc();
-        "{busy}{busy}{busy}same true|0;;ok keys 1 values 0\n|0;;same\n|a |"
-    )?;
-    assert_told(&rt, tale_while_held(&rt, &deeds), wanted.as_str())
 }
 
 #[test]
 fn refuses_a_file_that_is_no_hive(rt: HostRuntime) -> Result<(), Fail> {
-    let deeds = [
+    let actions = [
         Put("bad", "regf"),
         Keep("bad"),
         Edit("regtool edit @/bad", SCRIPT),
@@ -180,7 +214,7 @@ fn refuses_a_file_that_is_no_hive(rt: HostRuntime) -> Result<(), Fail> {
     let wanted = "1;error 1009 load 2 @/bad: the image ends too early\n;|same true|\
         1;error find @/none: No such file or directory (os error 2)\n;|\
         1;error open @: Is a directory (os error 21)\n;|bad |";
-    assert_told(&rt, tale(&rt, &rt, &deeds), wanted)
+    assert_report(report(&rt, &rt, &actions), wanted)
 }
 
 /// A script whose last line is longer than the longest, which has 2,200,000 bytes.
@@ -192,22 +226,30 @@ fn too_long(alloc: Global) -> Result<String, AllocError> {
     Ok(script)
 }
 
-fn told_of_too_long(rt: &HostRuntime) -> Result<String, Fail> {
-    let script = too_long(rt.alloc())?;
-    let deeds = [
+/// What an edit by that script reports, and what is in its folder.
+fn report_of_too_long<'x>(
+    rt: &HostRuntime,
+    line: &'x str,
+    script: &'x str,
+) -> Result<String, Fail> {
+    let actions = [
         Run("regtool new @/a"),
         Keep("a"),
-        Edit("regtool edit @/a", script.as_str()),
+        Edit(line, script),
         Same("a"),
         Names,
     ];
-    tale(rt, rt, &deeds)
+    report(rt, rt, &actions)
 }
 
-/// Nothing is saved where a script ended with a fault, though it changed the hive.
+/// Nothing is saved where a script ended with a fault, though it changed the hive; not with `--keep-going` either.
 #[test]
 fn saves_nothing_after_a_fault(rt: HostRuntime) -> Result<(), Fail> {
     let wanted = "0;;|1;error script 3: a line is too long, or there are too many\n;\
         0 handle 0\n0 handle 1 disposition 1\n0\n|same true|a |";
-    assert_told(&rt, told_of_too_long(&rt), wanted)
+    let script = too_long(rt.alloc())?;
+    let stopped = report_of_too_long(&rt, "regtool edit @/a", script.as_str());
+    assert_report(stopped, wanted)?;
+    let passed_over = report_of_too_long(&rt, "regtool edit @/a --keep-going", script.as_str());
+    assert_report(passed_over, wanted)
 }

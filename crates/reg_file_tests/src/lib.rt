@@ -8,7 +8,13 @@ mod commands;
 #[cfg(test)]
 mod edits;
 #[cfg(test)]
-mod looks;
+mod failures;
+#[cfg(test)]
+mod listings;
+#[cfg(test)]
+mod outputs;
+#[cfg(test)]
+mod replacing;
 #[cfg(test)]
 mod searches;
 #[cfg(test)]

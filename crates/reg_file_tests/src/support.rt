@@ -1,22 +1,15 @@
-//! What the tests share: a comparison, deeds by the tool on files, and what is asked of a folder beyond its deeds.
+//! What the tests share: actions by the tool on files, and what is asked of a folder beyond its actions.
 use reg_command::tool;
-use reg_file_deeds::{Deed, Tool, block_of, new_folder};
-use reg_files::{Input, Lockable, file_tool};
+use reg_files::{Device, Lockable, file_tool};
 use reg_fixtures::wide;
+use reg_test_support::{Action, Tool, block_of, new_folder};
 use std::alloc::Global;
 use std::fs;
 use std::fs::File;
 use std::io::Write;
-use std::process::Abort;
+use std::os::unix::fs::{MetadataExt, chown};
 use std::rt::{Clock, Files};
 use std::test::Fail;
-
-/// Stops where what was told isn't what was wanted.
-pub fn assert_told(rt: &impl Abort, told: Result<String, Fail>, wanted: &str) -> Result<(), Fail> {
-    let text = told?;
-    assert_eq!(rt; text.as_str(), wanted);
-    Ok(())
-}
 
 /// The tool on the files of a host.
 #[derive(Drop)]
@@ -36,64 +29,70 @@ where
         output: &mut W,
         errors: &mut Vec<u8>,
     ) -> u8 {
-        let mut input = Input::new(alloc, input.as_bytes());
-        file_tool(alloc, self.host, words, &mut input, output, errors)
+        let mut input = input.as_bytes();
+        let mut output = Device::new(output);
+        file_tool(alloc, self.host, words, &mut input, &mut output, errors)
     }
 }
 
-/// What deeds in a folder tell, `|` behind each that tells something.
-pub fn tale_in<H: Files + Clock>(
+/// What actions in a folder report, `|` behind each that reports something.
+pub fn report_in<H: Files + Clock>(
     rt: &HostRuntime,
     host: &H,
     folder: &str,
-    deeds: &[Deed<'_>],
+    actions: &[Action<'_>],
 ) -> Result<String, Fail>
 where
     H::File: Lockable,
 {
-    reg_file_deeds::tale_in(rt, &FileTool { host }, folder, deeds)
+    reg_test_support::report_in(rt, &FileTool { host }, folder, actions)
 }
 
-/// What deeds in a new folder tell, which is taken away then.
-pub fn tale<H: Files + Clock>(
+/// What actions in a new folder report, which is taken away then.
+pub fn report<H: Files + Clock>(
     rt: &HostRuntime,
     host: &H,
-    deeds: &[Deed<'_>],
+    actions: &[Action<'_>],
 ) -> Result<String, Fail>
 where
     H::File: Lockable,
 {
-    reg_file_deeds::tale(rt, &FileTool { host }, deeds)
+    reg_test_support::report(rt, &FileTool { host }, actions)
 }
 
-/// What deeds tell in a folder with a new hive `a`, while another one holds the lock of that file.
-pub fn tale_while_held(rt: &HostRuntime, deeds: &[Deed<'_>]) -> Result<String, Fail> {
+/// What actions report in a folder with a new hive `a`, while another one holds the lock of that file.
+pub fn report_while_held(rt: &HostRuntime, actions: &[Action<'_>]) -> Result<String, Fail> {
     let folder = new_folder(rt)?;
     let path = format!(in rt.alloc(); "{}/a", folder.as_str())?;
-    tale_in(rt, rt, folder.as_str(), &[Deed::Run("regtool new @/a")])?;
+    report_in(rt, rt, folder.as_str(), &[Action::Run("regtool new @/a")])?;
     let holder = File::open(rt, path.as_str())?;
     holder.lock()?;
-    let told = tale_in(rt, rt, folder.as_str(), deeds)?;
+    let report = report_in(rt, rt, folder.as_str(), actions)?;
     fs::remove_dir_all(rt, folder.as_str())?;
-    Ok(told)
+    Ok(report)
 }
 
-/// Whether the moment of a file that is edited with `--now` is after 2020 and before 2200.
-pub fn made_at_now(rt: &HostRuntime, script: &str) -> Result<String, Fail> {
+/// Whether the moment of a new hive `a` after an edit or an import by this command line is after 2020 and before 2200.
+pub fn begins_at_the_clock<'x>(
+    rt: &HostRuntime,
+    line: &'x str,
+    input: &'x str,
+) -> Result<String, Fail> {
     let folder = new_folder(rt)?;
-    let deeds = [
-        Deed::Run("regtool new @/a"),
-        Deed::Edit("regtool edit @/a --now", script),
-    ];
-    tale_in(rt, rt, folder.as_str(), &deeds)?;
+    let actions = [Action::Run("regtool new @/a"), Action::Edit(line, input)];
+    report_in(rt, rt, folder.as_str(), &actions)?;
     let (_, _, moment) = block_of(rt, folder.as_str(), "a")?;
     fs::remove_dir_all(rt, folder.as_str())?;
     let is_now = moment > 132_223_104_000_000_000 && moment < 189_000_000_000_000_000;
     Ok(format!(in rt.alloc(); "{is_now}")?)
 }
 
-/// What an edit tells of the image that `tool` makes of a script, with the greatest sequence number, and the block of its image.
-pub fn after_the_greatest(rt: &HostRuntime, first: &str, second: &str) -> Result<String, Fail> {
+/// What an edit reports of the image that `tool` makes of a script, with the greatest sequence number, and the block of its image.
+pub fn edit_after_the_greatest(
+    rt: &HostRuntime,
+    first: &str,
+    second: &str,
+) -> Result<String, Fail> {
     let alloc = rt.alloc();
     let folder = new_folder(rt)?;
     let mut words = Vec::new(alloc);
@@ -104,8 +103,35 @@ pub fn after_the_greatest(rt: &HostRuntime, first: &str, second: &str) -> Result
     tool(alloc, words, &mut input, &mut output, &mut errors);
     let path = format!(in alloc; "{}/a", folder.as_str())?;
     fs::write(rt, path.as_str(), output.taken.as_slice())?;
-    let deeds = [Deed::Edit("regtool edit @/a", second), Deed::Block("a")];
-    let told = tale_in(rt, rt, folder.as_str(), &deeds)?;
+    let actions = [
+        Action::Edit("regtool edit @/a --at 5", second),
+        Action::Block("a"),
+    ];
+    let report = report_in(rt, rt, folder.as_str(), &actions)?;
     fs::remove_dir_all(rt, folder.as_str())?;
-    Ok(told)
+    Ok(report)
+}
+
+/// What an edit reports of a new hive `a` that was given to this owner and this group, and whose the saved file is.
+pub fn report_of_owner(
+    rt: &HostRuntime,
+    owner: u32,
+    group: u32,
+    script: &str,
+) -> Result<String, Fail> {
+    let folder = new_folder(rt)?;
+    let path = format!(in rt.alloc(); "{}/a", folder.as_str())?;
+    let before = [Action::Run("regtool new @/a"), Action::Permit("a", 0o640)];
+    report_in(rt, rt, folder.as_str(), &before)?;
+    chown(rt, path.as_str(), Some(owner), Some(group))?;
+    let actions = [
+        Action::Edit("regtool edit @/a --at 7", script),
+        Action::Block("a"),
+        Action::Mode("a"),
+    ];
+    let mut report = report_in(rt, rt, folder.as_str(), &actions)?;
+    let saved = fs::metadata(rt, path.as_str())?;
+    write!(report, "owner {} group {}", saved.uid(), saved.gid())?;
+    fs::remove_dir_all(rt, folder.as_str())?;
+    Ok(report)
 }

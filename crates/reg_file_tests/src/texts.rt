@@ -1,6 +1,7 @@
 //! `export` and `import` on files of the system.
-use crate::support::{assert_told, tale};
-use reg_file_deeds::Deed::{Block, Edit, Keep, Names, Put, Run, Same};
+use crate::support::{begins_at_the_clock, report};
+use reg_test_support::Action::{Block, Edit, Keep, Names, Put, Run, Same};
+use reg_test_support::assert_report;
 use std::test::Fail;
 
 /// Makes `A` with a number, a default string and bytes, and `A\b`.
@@ -13,7 +14,7 @@ set 1 = 1 x61000000
 set 1 =x\"\\y 3 x0102
 ";
 
-/// Its replies, as they are told of an edit.
+/// What the edit by it reports.
 const MADE: &str =
     "0;;|0;;0 handle 0\n0 handle 1 disposition 1\n0 handle 2 disposition 1\n0\n0\n0\n|";
 
@@ -24,7 +25,7 @@ Windows Registry Editor Version 5.00\r\n\r\n[ROOT]\r\n\r\n[ROOT\\A]\r\n\"V\"=dwo
 
 #[test]
 fn writes_a_text(rt: HostRuntime) -> Result<(), Fail> {
-    let deeds = [
+    let actions = [
         Run("regtool new @/a"),
         Edit("regtool edit @/a", SCRIPT),
         Run("regtool export @/a --as reg --utf8"),
@@ -35,13 +36,13 @@ fn writes_a_text(rt: HostRuntime) -> Result<(), Fail> {
         "{MADE}0;;{TEXT}|0;;Windows Registry Editor Version 5.00\r\n\r\n[ROOT\\A\\b]\r\n\r\n|\
          1;error missing @/a: there is no such key\n;|"
     )?;
-    assert_told(&rt, tale(&rt, &rt, &deeds), wanted.as_str())
+    assert_report(report(&rt, &rt, &actions), wanted.as_str())
 }
 
 /// What was written is read again: the same text comes of it.
 #[test]
 fn reads_what_it_wrote(rt: HostRuntime) -> Result<(), Fail> {
-    let deeds = [
+    let actions = [
         Run("regtool new @/a"),
         Edit("regtool import @/a --at 7", TEXT),
         Block("a"),
@@ -51,12 +52,22 @@ fn reads_what_it_wrote(rt: HostRuntime) -> Result<(), Fail> {
         Same("a"),
     ];
     let wanted = format!(in rt.alloc(); "0;;|0;;|2 2 7|0;;{TEXT}|0;;|same true|")?;
-    assert_told(&rt, tale(&rt, &rt, &deeds), wanted.as_str())
+    assert_report(report(&rt, &rt, &actions), wanted.as_str())
+}
+
+/// Without a moment an import is made at the clock's, with and without `--now`.
+#[test]
+fn imports_at_the_moment_of_the_clock(rt: HostRuntime) -> Result<(), Fail> {
+    assert_report(begins_at_the_clock(&rt, "regtool import @/a", TEXT), "true")?;
+    assert_report(
+        begins_at_the_clock(&rt, "regtool import @/a --now", TEXT),
+        "true",
+    )
 }
 
 #[test]
 fn makes_and_takes_away(rt: HostRuntime) -> Result<(), Fail> {
-    let deeds = [
+    let actions = [
         Run("regtool new @/a"),
         Edit("regtool import @/a", TEXT),
         Edit(
@@ -68,7 +79,7 @@ fn makes_and_takes_away(rt: HostRuntime) -> Result<(), Fail> {
     ];
     let wanted = "0;;|0;;|0;;|\
         0;;key =A\nvalue = type 1 size 4\nvalue =x\"\\y type 3 size 2\nvalue =w type 7 size 4\n|0;;a\0\0\0|";
-    assert_told(&rt, tale(&rt, &rt, &deeds), wanted)
+    assert_report(report(&rt, &rt, &actions), wanted)
 }
 
 /// A text with a value of every type that has a name and of two that have none, in rows, with comments, ended by CR LF.
@@ -79,7 +90,7 @@ Windows Registry Editor Version 5.00\r\n\r\n; every type\r\n[ROOT\\A]\r\n\"0\"=h
 \"8\"=hex(8):08\r\n\"9\"=hex(9):09\r\n\"10\"=hex(a):0a\r\n\"11\"=hex(b):2a,00,00,00,00,00,00,00\r\n\
 \"12\"=hex(c):0c\r\n\"last\"=hex(ffffffff):ff\r\n@=\"\"\r\n";
 
-/// The values of that key, as `ls` tells them.
+/// The values of that key, as `ls` writes them.
 const VALUES: &str = "\
 value =0 type 0 size 0
 value =1 type 1 size 8
@@ -98,12 +109,12 @@ value =last type 4294967295 size 1
 value = type 1 size 2
 ";
 
-/// What `get` tells of some of them, as it is told of a command line.
+/// What `get` of some of them reports.
 const DATA: &str = "0;;a;b\n|0;;%\n|0;;42\n|0;;42\n|0;;a\tb\n|0;;42\n|0;;hex:ff\n|0;;\n|";
 
 #[test]
 fn reads_every_type(rt: HostRuntime) -> Result<(), Fail> {
-    let deeds = [
+    let actions = [
         Run("regtool new @/a"),
         Edit("regtool import @/a", KINDS),
         Run("regtool ls @/a A"),
@@ -117,7 +128,7 @@ fn reads_every_type(rt: HostRuntime) -> Result<(), Fail> {
         Run("regtool get @/a A"),
     ];
     let wanted = format!(in rt.alloc(); "0;;|0;;|0;;{VALUES}|{DATA}")?;
-    assert_told(&rt, tale(&rt, &rt, &deeds), wanted.as_str())
+    assert_report(report(&rt, &rt, &actions), wanted.as_str())
 }
 
 /// A key at the end of 33 names of which none is there, one more than a call makes.
@@ -125,10 +136,10 @@ const DEEP: &str = "\
 Windows Registry Editor Version 5.00\n[ROOT\\A]\n[ROOT\\1\\2\\3\\4\\5\\6\\7\\8\\9\\10\\11\\12\\13\\14\\15\\16\\17\\18\\\
 19\\20\\21\\22\\23\\24\\25\\26\\27\\28\\29\\30\\31\\32\\33]\n";
 
-/// A line that isn't understood, or is refused, is told with its number, and nothing is saved.
+/// A line that isn't understood, or is refused, is reported with its number, and nothing is saved.
 #[test]
 fn saves_nothing_of_a_bad_text(rt: HostRuntime) -> Result<(), Fail> {
-    let deeds = [
+    let actions = [
         Put("bad", "regf"),
         Run("regtool new @/a"),
         Keep("a"),
@@ -143,8 +154,8 @@ fn saves_nothing_of_a_bad_text(rt: HostRuntime) -> Result<(), Fail> {
         Names,
     ];
     let wanted = "0;;|1;error line 4 of standard input: it isn't understood\n;|\
-        1;error line 3 of standard input: refused with status 1450\n;|\
+        1;error line 3 of standard input: refused with status 1450 (no system resources)\n;|\
         1;error line 1 of standard input: it isn't understood\n;|\
         1;error 1009 load 2 @/bad: the image ends too early\n;|same true|a bad |";
-    assert_told(&rt, tale(&rt, &rt, &deeds), wanted)
+    assert_report(report(&rt, &rt, &actions), wanted)
 }

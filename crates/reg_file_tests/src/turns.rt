@@ -1,8 +1,8 @@
 //! `edit` by a pipe, call by call: each line of the script comes once the replies to those before it were passed on.
-use crate::support::{assert_told, tale_in};
-use reg_file_deeds::Deed::{Block, Run};
-use reg_file_deeds::new_folder;
-use reg_files::{Input, file_tool};
+use crate::support::report_in;
+use reg_files::{Device, file_tool};
+use reg_test_support::Action::{Block, Run};
+use reg_test_support::{assert_report, new_folder};
 use std::alloc::Global;
 use std::cell::Cell;
 use std::io::{Read, Write};
@@ -10,8 +10,11 @@ use std::rc::Rc;
 use std::test::Fail;
 use std::{fs, io};
 
-/// Pieces of a script, each with how many bytes of replies must have been passed on before it is given.
-const PIECES: [(&str, usize); 5] = [
+/// A piece of a script, with how many bytes of replies must have been passed on before it is given.
+type Piece = (&'static str, usize);
+
+/// A script of three lines, the last of which comes in two pieces.
+const PIECES: [Piece; 5] = [
     ("root 983103\n", 0),
     ("create 0 =A 983103\n", 11),
     ("set 1 =", 36),
@@ -19,16 +22,24 @@ const PIECES: [(&str, usize); 5] = [
     ("", 38),
 ];
 
+/// A script whose second line fails: none may be asked for behind it.
+const FAILING_PIECES: [Piece; 3] = [
+    ("root 983103\n", 0),
+    ("set 7 =V 4 x01\n", 11),
+    ("create 0 =A 983103\n", usize::MAX),
+];
+
 /// Gives the pieces one by one, and fails where a reply before one of them wasn't passed on.
 #[derive(Drop)]
-struct WaitingReader {
+struct WaitingReader<'a> {
+    pieces: &'a [Piece],
     given: usize,
     passed: Rc<Cell<usize>>,
 }
 
-impl Read for WaitingReader {
+impl Read for WaitingReader<'_> {
     fn read(&mut self, buf: &mut [u8]) -> io::Result<usize> {
-        let Some((piece, wanted)) = PIECES.get(self.given) else {
+        let Some((piece, wanted)) = self.pieces.get(self.given) else {
             return Ok(0);
         };
         if self.passed.get() != *wanted {
@@ -64,14 +75,16 @@ fn edit_words(alloc: Global, folder: &str) -> Result<Vec<String>, Fail> {
     words.push("regtool".to_string(alloc)?)?;
     words.push("edit".to_string(alloc)?)?;
     words.push(format!(in alloc; "{folder}/a")?)?;
+    words.push("--at=7".to_string(alloc)?)?;
     Ok(words)
 }
 
-/// The status of an edit of the hive `a` in a folder, and the replies.
-fn edited_in_turns(rt: &HostRuntime, folder: &str) -> Result<String, Fail> {
+/// The status of an edit of the hive `a` in a folder by these pieces, the errors and the replies.
+fn edited_in_turns(rt: &HostRuntime, folder: &str, pieces: &[Piece]) -> Result<String, Fail> {
     let alloc = rt.alloc();
     let passed = Rc::new(alloc, Cell::new(0))?;
     let reader = WaitingReader {
+        pieces,
         given: 0,
         passed: passed.clone()?,
     };
@@ -79,27 +92,38 @@ fn edited_in_turns(rt: &HostRuntime, folder: &str) -> Result<String, Fail> {
         taken: Vec::new(alloc),
         passed,
     };
+    let mut device = Device::new(&mut output);
     let words = edit_words(alloc, folder)?;
-    let mut input = Input::new(alloc, reader);
+    let mut input = reader;
     let mut errors = Vec::new(alloc);
-    let status = file_tool(alloc, rt, words, &mut input, &mut output, &mut errors);
+    let status = file_tool(alloc, rt, words, &mut input, &mut device, &mut errors);
     let replies = String::from_utf8(output.taken)?;
-    Ok(format!(in alloc; "{status};{}|", replies.as_str())?)
+    let errors = String::from_utf8(errors)?;
+    Ok(format!(in alloc; "{status};{};{}|", errors.as_str(), replies.as_str())?)
 }
 
-/// What that tells, and the file afterwards.
-fn told_in_turns(rt: &HostRuntime) -> Result<String, Fail> {
+/// What that reports, and the file afterwards.
+fn report_in_turns(rt: &HostRuntime, pieces: &[Piece]) -> Result<String, Fail> {
     let folder = new_folder(rt)?;
-    let mut text = tale_in(rt, rt, folder.as_str(), &[Run("regtool new @/a")])?;
-    text.push_str(edited_in_turns(rt, folder.as_str())?.as_str())?;
-    let deeds = [Block("a"), Run("regtool check @/a")];
-    text.push_str(tale_in(rt, rt, folder.as_str(), &deeds)?.as_str())?;
+    let mut text = report_in(rt, rt, folder.as_str(), &[Run("regtool new @/a")])?;
+    text.push_str(edited_in_turns(rt, folder.as_str(), pieces)?.as_str())?;
+    let actions = [Block("a"), Run("regtool check @/a")];
+    text.push_str(report_in(rt, rt, folder.as_str(), &actions)?.as_str())?;
     fs::remove_dir_all(rt, folder.as_str())?;
     Ok(text)
 }
 
 #[test]
 fn edits_call_by_call(rt: HostRuntime) -> Result<(), Fail> {
-    let wanted = "0;;|0;0 handle 0\n0 handle 1 disposition 1\n0\n|2 2 0|0;;ok keys 2 values 1\n|";
-    assert_told(&rt, told_in_turns(&rt), wanted)
+    let wanted = "0;;|0;;0 handle 0\n0 handle 1 disposition 1\n0\n|2 2 7|0;;ok keys 2 values 1\n|";
+    assert_report(report_in_turns(&rt, &PIECES), wanted)
+}
+
+/// A line that fails ends the script at once: no other is waited for.
+#[test]
+fn waits_for_no_line_behind_one_that_fails(rt: HostRuntime) -> Result<(), Fail> {
+    let wanted =
+        "0;;|1;error line 2 of standard input: set 7 =V 4 x01 was refused with status 6 (invalid handle)\n;\
+        0 handle 0\n6\n|1 1 0|0;;ok keys 1 values 0\n|";
+    assert_report(report_in_turns(&rt, &FAILING_PIECES), wanted)
 }

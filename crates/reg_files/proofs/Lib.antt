@@ -1,8 +1,6 @@
-pub mod EnteredTexts
-pub mod CheckedFiles
-pub mod Outcomes
-pub mod Statuses
-pub mod StoppedCommands
-pub mod ToolLines
-pub mod UnderstoodWords
-pub mod WrittenForms
+mod CheckedFiles
+mod EditedFiles
+mod Outcomes
+mod Statuses
+mod StoppedCommands
+mod StreamStops

@@ -1,2 +1,2 @@
--- Words that only private contracts and proofs use: those of the commands of `tool` that are done with files.
-pub mod Tellings
+-- Words that only private contracts and proofs use: what a status says.
+pub mod Outcomes

@@ -1,53 +1,69 @@
-//! A request answered: it is done, or what hinders that is told.
+//! A request answered: it is done, or what hinders that is reported.
 
-ghost use Rattle.std.specs.Prelude.{ℕ, List, Option};
+ghost use Rattle.std.specs.Prelude.{ℕ, Bool, List, Option};
 ghost use Rattle.reg_words.specs.declared.request.Request.{Request};
-ghost use Rattle.reg_files.specs.Internal.Tellings.{Outcome};
+ghost use Rattle.reg_files.specs.Internal.Outcomes.{Outcome};
 
-use crate::commands::{
-    diff_files, edit_file, export_key, find_in, get_value, import_text, list_key, new_file,
-};
+use crate::commands::{edit_file, import_text, new_file};
+use crate::device::Output;
 use crate::locks::Lockable;
+use crate::queries::{diff_files, export_key, find_in, get_value, list_key};
+use crate::reports::{settle, settle_diff, settle_save};
 use crate::streams::{check_files, dump_file};
-use crate::told::{settle, settle_diff, settle_done, settle_saved};
-use reg_edits::PutBack;
+use reg_command::serve_stream;
 use reg_text::Sink;
-use reg_words::{EditRequest, Form, Places, Request};
+use reg_words::{EditRequest, Form, Places, Request, StreamRequest};
 use std::alloc::Global;
-use std::io::Write;
+use std::io::Read;
 use std::rt::{Clock, Files};
 
+/// `run`, and `dump` and `check` without files.
+fn stream_asked<R: Read, W: Output, E: Sink>(
+    alloc: Global,
+    request: StreamRequest,
+    input: &mut R,
+    output: &mut W,
+    errors: &mut E,
+) -> u8
+    ensures { Outcome (Request.Stream request) result (W.closed output.new) (R.remaining input.old) (R.remaining input.new)
+        (W.contents output.old) (W.contents output.new)
+        (E.contents errors.old) (E.contents errors.new) (E.failures errors.old) (E.failures errors.new) }
+{
+    serve_stream(alloc, request, input, output, errors)
+}
+
 /// `dump FILE`.
-fn dump_asked<H: Files, W: Write, E: Sink>(
+fn dump_asked<H: Files, W: Output, E: Sink>(
     alloc: Global,
     host: &H,
     file: &str,
     output: &mut W,
     errors: &mut E,
 ) -> u8
-    ensures { (unread : Option (List ℕ)) → Outcome (Request.Dump file.entry) result unread unread (W.contents output.old) (W.contents output.new) (E.contents errors.old)
-        (E.contents errors.new) (E.failures errors.old) (E.failures errors.new) }
+    ensures { (unread : Option (List ℕ)) → Outcome (Request.Dump file.entry) result (W.closed output.new) unread unread
+        (W.contents output.old) (W.contents output.new)
+        (E.contents errors.old) (E.contents errors.new) (E.failures errors.old) (E.failures errors.new) }
 {
-    let done = dump_file(alloc, host, file, output, errors);
-    settle(alloc, errors, file, done)
+    dump_file(alloc, host, file, output, errors)
 }
 
 /// `check FILE..`.
-fn check_asked<H: Files, W: Write, E: Sink>(
+fn check_asked<H: Files, W: Output, E: Sink>(
     alloc: Global,
     host: &H,
     files: Vec<&str>,
     output: &mut W,
     errors: &mut E,
 ) -> u8
-    ensures { (unread : Option (List ℕ)) → Outcome (Request.Check files.entry) result unread unread (W.contents output.old) (W.contents output.new) (E.contents errors.old)
-        (E.contents errors.new) (E.failures errors.old) (E.failures errors.new) }
+    ensures { (unread : Option (List ℕ)) → Outcome (Request.Check files.entry) result (W.closed output.new) unread unread
+        (W.contents output.old) (W.contents output.new)
+        (E.contents errors.old) (E.contents errors.new) (E.failures errors.old) (E.failures errors.new) }
 {
     check_files(alloc, host, files.as_slice(), output, errors)
 }
 
 /// `ls`.
-fn list_asked<H: Files, W: Write, E: Sink>(
+fn list_asked<H: Files, W: Output, E: Sink>(
     alloc: Global,
     host: &H,
     file: &str,
@@ -56,15 +72,16 @@ fn list_asked<H: Files, W: Write, E: Sink>(
     output: &mut W,
     errors: &mut E,
 ) -> u8
-    ensures { (unread : Option (List ℕ)) → Outcome (Request.Listing file.entry path.entry is_whole) result unread unread (W.contents output.old) (W.contents output.new) (E.contents errors.old)
-        (E.contents errors.new) (E.failures errors.old) (E.failures errors.new) }
+    ensures { (unread : Option (List ℕ)) → Outcome (Request.Listing file.entry path.entry is_whole) result (W.closed output.new) unread unread
+        (W.contents output.old) (W.contents output.new)
+        (E.contents errors.old) (E.contents errors.new) (E.failures errors.old) (E.failures errors.new) }
 {
     let done = list_key(alloc, host, file, path, is_whole, output);
-    settle_done(alloc, errors, file, done)
+    settle(alloc, errors, file, output.is_closed(), done)
 }
 
 /// `get`.
-fn get_asked<H: Files, W: Write, E: Sink>(
+fn get_asked<H: Files, W: Output, E: Sink>(
     alloc: Global,
     host: &H,
     file: &str,
@@ -74,16 +91,16 @@ fn get_asked<H: Files, W: Write, E: Sink>(
     output: &mut W,
     errors: &mut E,
 ) -> u8
-    ensures { (unread : Option (List ℕ)) → Outcome (Request.Get file.entry path.entry name.entry is_raw) result unread unread
-        (W.contents output.old) (W.contents output.new) (E.contents errors.old)
-        (E.contents errors.new) (E.failures errors.old) (E.failures errors.new) }
+    ensures { (unread : Option (List ℕ)) → Outcome (Request.Get file.entry path.entry name.entry is_raw) result (W.closed output.new) unread unread
+        (W.contents output.old) (W.contents output.new)
+        (E.contents errors.old) (E.contents errors.new) (E.failures errors.old) (E.failures errors.new) }
 {
     let done = get_value(alloc, host, file, path, name, is_raw, output);
-    settle_done(alloc, errors, file, done)
+    settle(alloc, errors, file, output.is_closed(), done)
 }
 
 /// `find`.
-fn find_asked<H: Files, W: Write, E: Sink>(
+fn find_asked<H: Files, W: Output, E: Sink>(
     alloc: Global,
     host: &H,
     file: &str,
@@ -92,15 +109,16 @@ fn find_asked<H: Files, W: Write, E: Sink>(
     output: &mut W,
     errors: &mut E,
 ) -> u8
-    ensures { (unread : Option (List ℕ)) → Outcome (Request.Find file.entry pattern.entry places) result unread unread (W.contents output.old) (W.contents output.new) (E.contents errors.old)
-        (E.contents errors.new) (E.failures errors.old) (E.failures errors.new) }
+    ensures { (unread : Option (List ℕ)) → Outcome (Request.Find file.entry pattern.entry places) result (W.closed output.new) unread unread
+        (W.contents output.old) (W.contents output.new)
+        (E.contents errors.old) (E.contents errors.new) (E.failures errors.old) (E.failures errors.new) }
 {
     let done = find_in(alloc, host, file, pattern, places, output);
-    settle_done(alloc, errors, file, done)
+    settle(alloc, errors, file, output.is_closed(), done)
 }
 
 /// `diff`.
-fn diff_asked<H: Files, W: Write, E: Sink>(
+fn diff_asked<H: Files, W: Output, E: Sink>(
     alloc: Global,
     host: &H,
     old: &str,
@@ -108,15 +126,16 @@ fn diff_asked<H: Files, W: Write, E: Sink>(
     output: &mut W,
     errors: &mut E,
 ) -> u8
-    ensures { (unread : Option (List ℕ)) → Outcome (Request.Diff old.entry new.entry) result unread unread (W.contents output.old) (W.contents output.new) (E.contents errors.old)
-        (E.contents errors.new) (E.failures errors.old) (E.failures errors.new) }
+    ensures { (unread : Option (List ℕ)) → Outcome (Request.Diff old.entry new.entry) result (W.closed output.new) unread unread
+        (W.contents output.old) (W.contents output.new)
+        (E.contents errors.old) (E.contents errors.new) (E.failures errors.old) (E.failures errors.new) }
 {
     let done = diff_files(alloc, host, old, new, output);
-    settle_diff(alloc, errors, old, new, done)
+    settle_diff(alloc, errors, old, new, output.is_closed(), done)
 }
 
 /// `export`.
-fn export_asked<H: Files, W: Write, E: Sink>(
+fn export_asked<H: Files, W: Output, E: Sink>(
     alloc: Global,
     host: &H,
     file: &str,
@@ -125,11 +144,12 @@ fn export_asked<H: Files, W: Write, E: Sink>(
     output: &mut W,
     errors: &mut E,
 ) -> u8
-    ensures { (unread : Option (List ℕ)) → Outcome (Request.Export file.entry path.entry form) result unread unread (W.contents output.old) (W.contents output.new) (E.contents errors.old)
-        (E.contents errors.new) (E.failures errors.old) (E.failures errors.new) }
+    ensures { (unread : Option (List ℕ)) → Outcome (Request.Export file.entry path.entry form) result (W.closed output.new) unread unread
+        (W.contents output.old) (W.contents output.new)
+        (E.contents errors.old) (E.contents errors.new) (E.failures errors.old) (E.failures errors.new) }
 {
     let done = export_key(alloc, host, file, path, form, output);
-    settle_done(alloc, errors, file, done)
+    settle(alloc, errors, file, output.is_closed(), done)
 }
 
 /// `new`.
@@ -140,33 +160,35 @@ fn new_asked<H: Files, E: Sink>(
     name: &str,
     errors: &mut E,
 ) -> u8
-    ensures { (unread : Option (List ℕ)) → (before : Option (List ℕ)) → Outcome (Request.New file.entry name.entry) result unread unread
+    ensures { (closed : Bool) → (unread before : Option (List ℕ)) → Outcome (Request.New file.entry name.entry) result closed unread unread
         before before (E.contents errors.old) (E.contents errors.new) (E.failures errors.old) (E.failures errors.new) }
 {
     let done = new_file(alloc, host, file, name);
-    settle_done(alloc, errors, file, done)
+    settle(alloc, errors, file, false, done)
 }
 
 /// `edit`.
-fn edit_asked<H: Files + Clock, R: PutBack, W: Write, E: Sink>(
+fn edit_asked<H: Files + Clock, R: Read, W: Output, E: Sink>(
     alloc: Global,
     host: &H,
     edit: EditRequest<'_>,
+    keeps_going: bool,
     input: &mut R,
     output: &mut W,
     errors: &mut E,
 ) -> u8
 where
     H::File: Lockable,
-    ensures { Outcome (Request.Edit edit.entry) result (R.remaining input.old) (R.remaining input.new) (W.contents output.old)
-        (W.contents output.new) (E.contents errors.old) (E.contents errors.new) (E.failures errors.old) (E.failures errors.new) }
+    ensures { Outcome (Request.Edit edit.entry keeps_going) result (W.closed output.new) (R.remaining input.old) (R.remaining input.new)
+        (W.contents output.old) (W.contents output.new)
+        (E.contents errors.old) (E.contents errors.new) (E.failures errors.old) (E.failures errors.new) }
 {
-    let done = edit_file(alloc, host, edit, input, output);
-    settle_saved(alloc, errors, &edit, done)
+    let done = edit_file(alloc, host, edit, keeps_going, input, output);
+    settle_save(alloc, errors, &edit, output.is_closed(), done)
 }
 
 /// `import`.
-fn import_asked<H: Files + Clock, R: PutBack, E: Sink>(
+fn import_asked<H: Files + Clock, R: Read, E: Sink>(
     alloc: Global,
     host: &H,
     edit: EditRequest<'_>,
@@ -175,15 +197,15 @@ fn import_asked<H: Files + Clock, R: PutBack, E: Sink>(
 ) -> u8
 where
     H::File: Lockable,
-    ensures { (before : Option (List ℕ)) → Outcome (Request.Import edit.entry) result (R.remaining input.old) (R.remaining input.new)
-        before before (E.contents errors.old) (E.contents errors.new) (E.failures errors.old) (E.failures errors.new) }
+    ensures { (closed : Bool) → (before : Option (List ℕ)) → Outcome (Request.Import edit.entry) result closed (R.remaining input.old)
+        (R.remaining input.new) before before (E.contents errors.old) (E.contents errors.new) (E.failures errors.old) (E.failures errors.new) }
 {
     let done = import_text(alloc, host, edit, input);
-    settle_saved(alloc, errors, &edit, done)
+    settle_save(alloc, errors, &edit, false, done)
 }
 
 /// Does what was asked for, and answers the status.
-pub fn answer<H: Files + Clock, R: PutBack, W: Write, E: Sink>(
+pub fn answer<H: Files + Clock, R: Read, W: Output, E: Sink>(
     alloc: Global,
     host: &H,
     request: Request<'_>,
@@ -193,10 +215,12 @@ pub fn answer<H: Files + Clock, R: PutBack, W: Write, E: Sink>(
 ) -> u8
 where
     H::File: Lockable,
-    ensures { Outcome request.entry result (R.remaining input.old) (R.remaining input.new) (W.contents output.old) (W.contents output.new)
+    ensures { Outcome request.entry result (W.closed output.new) (R.remaining input.old) (R.remaining input.new)
+        (W.contents output.old) (W.contents output.new)
         (E.contents errors.old) (E.contents errors.new) (E.failures errors.old) (E.failures errors.new) }
 {
     match request {
+        Request::Stream(stream) => stream_asked(alloc, stream, input, output, errors),
         Request::Dump(file) => dump_asked(alloc, host, file, output, errors),
         Request::Check(files) => check_asked(alloc, host, files, output, errors),
         Request::Listing {
@@ -220,7 +244,9 @@ where
             export_asked(alloc, host, file, path, form, output, errors)
         }
         Request::New { file, name } => new_asked(alloc, host, file, name, errors),
-        Request::Edit(edit) => edit_asked(alloc, host, edit, input, output, errors),
+        Request::Edit { edit, keeps_going } => {
+            edit_asked(alloc, host, edit, keeps_going, input, output, errors)
+        }
         Request::Import(edit) => import_asked(alloc, host, edit, input, errors),
     }
 }

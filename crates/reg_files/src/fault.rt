@@ -1,14 +1,15 @@
 //! What ends a command on a file, and its text.
 
-use reg_dump::DumpFault;
+use crate::device::Device;
+use reg_dotreg_import::ImportFault;
+use reg_dotreg_reader::ReadFault;
+use reg_dotreg_writer::ExportFault;
 use reg_edits::{EditFault, FreshFault, ImportEnd};
-use reg_entries::ExportFault;
-use reg_entry_reader::ReadFault;
 use reg_find::PatternFault;
-use reg_image::LoadFault;
-use reg_import::ImportFault;
-use reg_looks::LookFault;
-use reg_lookups::{DiffFault, ExportEnd, FindFault, LookupFault};
+use reg_queries::{DiffFault, ExportEnd, FindFault, QueryFault};
+use reg_script::{FailedLine, ScriptFault};
+use reg_tree_image::LoadFault;
+use reg_tree_text::{DumpFault, PathFault};
 use std::alloc::AllocError;
 use std::fmt::{Display, Formatter};
 use std::io::ErrorKind;
@@ -81,12 +82,15 @@ pub enum Fault {
     /// Another one holds the file's lock, or took its place since it was opened.
     #[error("the file is locked")]
     Busy,
-    /// The edit ended before there was an image to save.
-    #[error("the edit ended early")]
-    Edit(EditFault),
-    /// The image wasn't looked into to the end.
-    #[error("the lookup ended early")]
-    Lookup(LookupFault),
+    /// The script ended early.
+    #[error("{0}")]
+    Script(ScriptFault),
+    /// A line of the script failed, and ended it.
+    #[error("a line failed")]
+    Line(FailedLine),
+    /// So many lines of the script failed, and were passed over.
+    #[error("{0} lines failed")]
+    Failed(u32),
     /// The pattern is none, or too large.
     #[error("the pattern can't be searched for")]
     Pattern(PatternFault),
@@ -96,6 +100,9 @@ pub enum Fault {
     /// There is no such key.
     #[error("there is no such key")]
     NoKey,
+    /// The key has no such value.
+    #[error("there is no such value")]
+    NoValue,
     /// A name can't be written: of the key to which these names lead, or of one of its values.
     #[error("a name has a line break")]
     LineBreak(Vec<u8>),
@@ -121,18 +128,29 @@ pub enum Fault {
 
 impl From<EditFault> for Fault {
     fn from(fault: EditFault) -> Fault {
-        Fault::Edit(fault)
+        match fault {
+            EditFault::Load(fault) => Fault::Load(fault),
+            EditFault::Script(fault) => Fault::Script(fault),
+            EditFault::Line(line) => Fault::Line(line),
+        }
     }
 }
 
-impl From<LookupFault> for Fault {
-    fn from(fault: LookupFault) -> Fault {
+impl From<PathFault> for Fault {
+    fn from(fault: PathFault) -> Fault {
         match fault {
-            LookupFault::Look(LookFault::Stopped(DumpFault::Write { written })) => {
-                Fault::Cut(written)
-            }
-            LookupFault::Look(LookFault::Stopped(DumpFault::Memory)) => Fault::Memory,
-            fault => Fault::Lookup(fault),
+            PathFault::NoKey => Fault::NoKey,
+            PathFault::NoValue => Fault::NoValue,
+            PathFault::Stopped(fault) => Fault::from(fault),
+        }
+    }
+}
+
+impl From<QueryFault> for Fault {
+    fn from(fault: QueryFault) -> Fault {
+        match fault {
+            QueryFault::Load(fault) => Fault::Load(fault),
+            QueryFault::Query(fault) => Fault::from(fault),
         }
     }
 }
@@ -172,6 +190,7 @@ impl From<ImportEnd> for Fault {
     fn from(fault: ImportEnd) -> Fault {
         match fault {
             ImportEnd::Load(fault) => Fault::Load(fault),
+            ImportEnd::Input(error) => Fault::Input(error),
             ImportEnd::Text(ReadFault::Memory) => Fault::Memory,
             ImportEnd::Text(fault) => Fault::Text(fault),
             ImportEnd::Entry(ImportFault::Refused { line, status }) => {
@@ -220,5 +239,18 @@ pub fn taken<T>(step: Step, answer: io::Result<T>) -> Result<T, Fault> {
         Ok(value) => Ok(value),
         Err(error) if error.kind() == ErrorKind::OutOfMemory => Err(Fault::Memory),
         Err(error) => Err(Fault::Step { step, error }),
+    }
+}
+
+impl Fault {
+    /// The fault of a call that read a file: where a read failed, with the system's error.
+    pub fn of_file<D>(self, file: &mut Device<D>) -> Fault {
+        match self {
+            Fault::Load(LoadFault::Read) => Fault::Step {
+                step: Step::Read,
+                error: file.take_error(),
+            },
+            fault => fault,
+        }
     }
 }

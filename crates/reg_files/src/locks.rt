@@ -1,11 +1,9 @@
 //! A file opened for one edit at a time.
 
 use crate::fault::{Fault, Step, taken};
-use reg_heap::limits::BINS_LIMIT;
 use std::alloc::Global;
 use std::fs;
 use std::fs::{File, Metadata, OpenFile, OpenOptions, TryLockError};
-use std::io::Read;
 use std::os::unix::fs::MetadataExt;
 use std::rt::Files;
 
@@ -20,9 +18,6 @@ impl Lockable for File {
         File::try_lock(self)
     }
 }
-
-/// The longest image: a base block and the most bins.
-const LONGEST_IMAGE: u64 = 4096 + BINS_LIMIT as u64;
 
 /// The path of a file without links, so that a save replaces the file and no link to it.
 pub fn real_path<H: Files>(alloc: Global, host: &H, file: &str) -> Result<String, Fault> {
@@ -67,11 +62,4 @@ where
     let file = taken(Step::Open, opened)?;
     lock(host, path, &file)?;
     Ok(file)
-}
-
-/// Reads a file, as far as an image can reach.
-pub fn read_image<F: Read>(alloc: Global, file: &mut F) -> Result<Vec<u8>, Fault> {
-    let mut bytes = Vec::new(alloc);
-    taken(Step::Read, file.take(LONGEST_IMAGE).read_to_end(&mut bytes))?;
-    Ok(bytes)
 }

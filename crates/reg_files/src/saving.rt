@@ -1,25 +1,50 @@
-//! Files written whole or not at all.
+//! Hives written to files, whole or not at all.
 
+use crate::device::Device;
 use crate::fault::{Fault, Step, taken};
+use reg_callbacks::NoCallback;
+use reg_calls::Hive;
+use reg_image::write_hive;
 use std::alloc::Global;
 use std::fs;
-use std::fs::{File, OpenFile, Permissions};
+use std::fs::{File, Metadata, OpenFile, OpenOptions};
 use std::io::{ErrorKind, Write};
+use std::os::unix::fs::{MetadataExt, OpenOptionsExt, PermissionsExt, lchown};
 use std::path::Path;
 use std::rt::Files;
 
-/// How many names are tried for the temporary file.
-const NAMES_LIMIT: u32 = 100;
+/// The mode of a file that nobody but its owner may open.
+const OWN_MODE: u32 = 0o600;
 
-/// Makes a file beside a path, anew: never one that is there.
+/// The bits of a mode by which a program that is run has its file's owner or group.
+const RUNNER_BITS: u32 = 0o6000;
+
+/// The bits of a mode that are a group's.
+const GROUP_BITS: u32 = 0o070;
+
+/// A hive as it is saved: with its image's moment, in units of 100 ns since 1601, and sequence number.
+#[derive(Clone, Copy)]
+pub struct Saved<'a> {
+    pub hive: &'a Hive<NoCallback>,
+    pub moment: u64,
+    pub sequence: u32,
+}
+
+/// Makes a file beside a path, anew, and answers it with its name: never one that is there, whoever left it. Nobody but its owner may
+/// open it.
 fn create_beside<H: Files>(
     alloc: Global,
     host: &H,
     path: &str,
 ) -> Result<(H::File, String), Fault> {
-    for number in 0..NAMES_LIMIT {
+    for number in 0..u32::MAX {
         let name = format!(in alloc; "{path}.regtool-{number}")?;
-        match File::create_new(host, name.as_str()) {
+        let made = OpenOptions::new()
+            .write(true)
+            .create_new(true)
+            .mode(OWN_MODE)
+            .open(host, name.as_str());
+        match made {
             Ok(file) => return Ok((file, name)),
             Err(error) if error.kind() == ErrorKind::AlreadyExists => {}
             Err(error) => return taken(Step::Create, Err(error)),
@@ -28,17 +53,43 @@ fn create_beside<H: Files>(
     taken(Step::Create, Err(ErrorKind::AlreadyExists.into()))
 }
 
-/// Writes a new file, and has the system keep it.
-fn fill<F: Write + OpenFile>(
-    file: &mut F,
-    permissions: Option<Permissions>,
-    bytes: &[u8],
-) -> Result<(), Fault> {
-    if let Some(permissions) = permissions {
-        taken(Step::Permit, file.set_permissions(permissions))?;
+/// Gives a new file the owner and the group of another one, as far as the system allows it, and answers the bits of that one's mode
+/// which would give rights to somebody else. A link in the file's place is not followed.
+fn give_owner<H: Files>(host: &H, name: &str, own: &Metadata, standing: &Metadata) -> u32 {
+    if own.uid() == standing.uid() && own.gid() == standing.gid() {
+        return 0;
     }
-    taken(Step::Write, file.write_all(bytes))?;
-    taken(Step::Sync, file.sync_all())
+    let group = Some(standing.gid());
+    if lchown(host, name, Some(standing.uid()), group).is_ok() {
+        return 0;
+    }
+    if lchown(host, name, None, group).is_ok() {
+        return RUNNER_BITS;
+    }
+    RUNNER_BITS | GROUP_BITS
+}
+
+/// Gives a new file what another one has: its owner and its group, as far as the system allows it, and its permissions.
+fn permit<H: Files>(
+    host: &H,
+    name: &str,
+    file: &H::File,
+    standing: &Metadata,
+) -> Result<(), Fault> {
+    let own = taken(Step::Permit, file.metadata())?;
+    let others = give_owner(host, name, &own, standing);
+    let mut permissions = standing.permissions();
+    permissions.set_mode(permissions.mode() & !others);
+    taken(Step::Permit, file.set_permissions(permissions))
+}
+
+/// Writes the image of a hive to a new file, and has the system keep it.
+fn fill<F: Write + OpenFile + Drop>(file: F, saved: Saved<'_>) -> Result<(), Fault> {
+    let mut device = Device::new(file);
+    match write_hive(saved.hive, saved.moment, saved.sequence, &mut device) {
+        Ok(()) => taken(Step::Sync, device.inner().sync_all()),
+        Err(_) => taken(Step::Write, Err(device.take_error())),
+    }
 }
 
 /// Has the system keep the names in the folder of a path.
@@ -57,17 +108,30 @@ fn undo<H: Files>(host: &H, path: &str, fault: Fault) -> Fault {
     fault
 }
 
-/// Puts bytes in the place of a file: a temporary file beside it is written, synced and renamed over it. After a fault the file is as
-/// it was, but for `SyncFolder`: then the new one stands there, and may be lost where the machine stops.
+/// Writes a hive to a new file that is to take the place of another one.
+fn fill_like<H: Files>(
+    host: &H,
+    name: &str,
+    file: H::File,
+    standing: &Metadata,
+    saved: Saved<'_>,
+) -> Result<(), Fault> {
+    permit(host, name, &file, standing)?;
+    fill(file, saved)
+}
+
+/// Puts a hive in the place of a file, whose lock is held, with that one's permissions, owner and group: a temporary file beside it is
+/// written, synced and renamed over it. After a fault the file is as it was, but for `SyncFolder`: then the new one stands there, and may
+/// be lost where the machine stops.
 pub fn replace<H: Files>(
     alloc: Global,
     host: &H,
     path: &str,
-    permissions: Permissions,
-    bytes: &[u8],
+    saved: Saved<'_>,
 ) -> Result<(), Fault> {
-    let (mut file, name) = create_beside(alloc, host, path)?;
-    if let Err(fault) = fill(&mut file, Some(permissions), bytes) {
+    let standing = taken(Step::Permit, fs::metadata(host, path))?;
+    let (file, name) = create_beside(alloc, host, path)?;
+    if let Err(fault) = fill_like(host, name.as_str(), file, &standing, saved) {
         return Err(undo(host, name.as_str(), fault));
     }
     if let Err(fault) = taken(Step::Rename, fs::rename(host, name.as_str(), path)) {
@@ -76,10 +140,10 @@ pub fn replace<H: Files>(
     sync_folder(host, path)
 }
 
-/// Makes a file with these bytes, anew: never over one that is there. After a fault there is none, but for `SyncFolder`.
-pub fn create<H: Files>(host: &H, path: &str, bytes: &[u8]) -> Result<(), Fault> {
-    let mut file = taken(Step::Create, File::create_new(host, path))?;
-    if let Err(fault) = fill(&mut file, None, bytes) {
+/// Makes a file with a hive, anew: never over one that is there. After a fault there is none, but for `SyncFolder`.
+pub fn create<H: Files>(host: &H, path: &str, saved: Saved<'_>) -> Result<(), Fault> {
+    let file = taken(Step::Create, File::create_new(host, path))?;
+    if let Err(fault) = fill(file, saved) {
         return Err(undo(host, path, fault));
     }
     sync_folder(host, path)

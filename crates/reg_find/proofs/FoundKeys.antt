@@ -4,12 +4,12 @@ use Rattle.std.specs.Prelude.{flat_map}
 use Rattle.reg_heap.specs.Trees.{IsTree}
 use Rattle.reg_tree.specs.declared.node.Node.{Node}
 use Rattle.reg_tree.specs.TreeKeys.{Keys, IsAt}
-use Rattle.reg_dump.specs.declared.walk.Walk.{Walk}
-use Rattle.reg_dump.specs.DumpTexts.{Told, keys_told}
-use Rattle.reg_dump.specs.Internal.Gathered.{WriterState, IsSoFar}
-use Rattle.reg_dump.specs.Internal.Walking.{Stands}
-use Rattle.reg_dump.proofs.CountedKeys.{amid_start}
-use Rattle.reg_dump.proofs.SentTexts.{opened, swapped}
+use Rattle.reg_tree_text.specs.declared.walk.Walk.{Walk}
+use Rattle.reg_tree_text.specs.DumpTexts.{Told, keys_told}
+use Rattle.reg_tree_text.specs.Internal.Gathered.{WriterState, IsSoFar}
+use Rattle.reg_tree_text.specs.Internal.Walking.{Stands}
+use Rattle.reg_tree_text.proofs.CountedKeys.{amid_start}
+use Rattle.reg_tree_text.proofs.SentTexts.{opened, swapped}
 use Rattle.reg_find.specs.declared.scope.Scope.{Scope}
 use Rattle.reg_find.specs.Findings.{found_lines}
 

@@ -8,11 +8,11 @@ use Rattle.reg_heap.specs.Paths.{Path, Tree, Member}
 use Rattle.reg_heap.specs.Edits.{values_of, values_at}
 use Rattle.reg_text.specs.Texts.{escaped}
 use Rattle.reg_values.specs.ValueLists.{Tells}
-use Rattle.reg_dump.specs.DumpTexts.{Told}
-use Rattle.reg_dump.specs.Internal.Gathered.{WriterState, IsSoFar}
-use Rattle.reg_dump.proofs.SentTexts.{opened, swapped, then_gathered}
-use Rattle.reg_listing.specs.Listings.{after_name, key_line}
-use Rattle.reg_listing.specs.ValueTexts.{value_told}
+use Rattle.reg_tree_text.specs.DumpTexts.{Told}
+use Rattle.reg_tree_text.specs.Internal.Gathered.{WriterState, IsSoFar}
+use Rattle.reg_tree_text.proofs.SentTexts.{opened, swapped, then_gathered}
+use Rattle.reg_tree_text.specs.Listings.{after_name, key_line}
+use Rattle.reg_tree_text.specs.ValueTexts.{value_told}
 use Rattle.reg_find.specs.declared.scope.Scope.{Scope}
 use Rattle.reg_find.specs.Findings.{is_value_found, value_line, value_found, key_found}
 

@@ -9,9 +9,9 @@ use Rattle.hex.proofs.OnLiterals.{hex_on_literals}
 use Rattle.reg_names.specs.declared.TheConstants.{PATH_LIMIT}
 use Rattle.reg_heap.specs.Paths.{Path, Tree, Rec, Member, path_cmp, is_child, children_of}
 use Rattle.reg_text.specs.Texts.{byte_text}
-use Rattle.reg_dump.specs.DumpTexts.{Told, name_of, told_here, told_from, keys_told}
-use Rattle.reg_listing.specs.Listings.{after_name, key_line}
-use Rattle.reg_listing.specs.ValueTexts.{form_text}
+use Rattle.reg_tree_text.specs.DumpTexts.{Told, name_of, told_here, told_from, keys_told}
+use Rattle.reg_tree_text.specs.Listings.{after_name, key_line}
+use Rattle.reg_tree_text.specs.ValueTexts.{form_text}
 use Rattle.reg_find.specs.declared.scope.Scope.{Scope}
 use Rattle.reg_find.specs.Findings.{value_line, found_lines, found_text}
 

@@ -3,9 +3,9 @@ use Rattle.std.specs.Prelude.{ℕ, ◌&&◌, ◌||◌, Bool, if◌then◌else◌
 use Rattle.reg_names.specs.Names.{text_of}
 use Rattle.reg_heap.specs.Paths.{Tree, Member}
 use Rattle.reg_text.specs.Texts.{escaped}
-use Rattle.reg_dump.specs.DumpTexts.{Told, keys_told}
-use Rattle.reg_listing.specs.Listings.{after_name, key_line}
-use Rattle.reg_listing.specs.ValueTexts.{value_told}
+use Rattle.reg_tree_text.specs.DumpTexts.{Told, keys_told}
+use Rattle.reg_tree_text.specs.Listings.{after_name, key_line}
+use Rattle.reg_tree_text.specs.ValueTexts.{value_told}
 use Rattle.reg_find.specs.declared.scope.Scope.{Scope}
 
 -- a value is found by its name, or by its data told as a line, each where it is searched

@@ -7,17 +7,17 @@ ghost use Rattle.reg_text.specs.Failures.{Stays};
 ghost use Rattle.reg_heap.specs.Paths.{Path, Member};
 ghost use Rattle.reg_heap.specs.Edits.{values_at};
 ghost use Rattle.reg_tree.specs.TreeKeys.{IsAt, IsThere};
-ghost use Rattle.reg_dump.specs.DumpTexts.{Told};
-ghost use Rattle.reg_dump.specs.DumpFronts.{IsStopped, IsBlamed};
-ghost use Rattle.reg_dump.specs.Internal.Gathered.{Puts};
+ghost use Rattle.reg_tree_text.specs.DumpTexts.{Told};
+ghost use Rattle.reg_tree_text.specs.DumpFronts.{IsStopped, IsBlamed};
+ghost use Rattle.reg_tree_text.specs.Internal.Gathered.{Puts};
 ghost use Rattle.reg_find.specs.Findings.{key_found, value_found, found_lines, found_text};
 
 use crate::line::{put_key_line, put_value_line};
 use crate::search::{is_match_in, is_value_match};
 use crate::{Pattern, Scope};
-use reg_dump::{DumpFault, Output, Walk};
 use reg_text::Sink;
 use reg_tree::Tree;
+use reg_tree_text::{DumpFault, Output, Walk};
 use std::alloc::Global;
 
 /// Tells the line of the key at which a walk stands, where its name is found.

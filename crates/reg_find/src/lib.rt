@@ -2,7 +2,7 @@
 //!
 //! Its one contract: [`find`] writes just the text that `specs/Findings.antt` says, byte for byte, or a front of it where a write or
 //! memory fails; what a pattern matches is its [`Pattern`]'s own word, which for a regular expression is the regex crate's. It stands
-//! on reg_listing, whose lines and texts of data it takes, on reg_dump's walk and gathered output, and on reg_tree.
+//! on reg_tree_text, whose lines, texts of data, walk and gathered output it takes, and on reg_tree.
 //!
 //! Its types are [`Scope`], where is searched, and [`PatternFault`], why a text is no pattern ([`compile`]).
 #![tactic(auto)]

@@ -1,11 +1,11 @@
 //! The lines of what was found.
 ghost use Rattle.std.specs.Prelude.{◌≡◌, ◌++◌, string_bytes, OnOk};
-ghost use Rattle.reg_dump.specs.Internal.Gathered.{Puts};
-ghost use Rattle.reg_listing.specs.Listings.{after_name, key_line};
+ghost use Rattle.reg_tree_text.specs.Internal.Gathered.{Puts};
+ghost use Rattle.reg_tree_text.specs.Listings.{after_name, key_line};
 ghost use Rattle.reg_find.specs.Findings.{value_line};
 
-use reg_dump::{DumpFault, Output};
 use reg_text::Sink;
+use reg_tree_text::{DumpFault, Output};
 use reg_values::Value;
 use std::alloc::AllocError;
 
@@ -17,7 +17,7 @@ fn write_part(text: &mut String, part: &str) -> Result<(), AllocError>
 }
 
 /// The end of a value's line, behind its name.
-#[tactic(auto, unfolding(reg_listing::specs::Listings::after_name))]
+#[tactic(auto, unfolding(reg_tree_text::specs::Listings::after_name))]
 fn write_kind_and_size(text: &mut String, kind: u32, size: u32) -> Result<(), AllocError>
     ensures { OnOk result (string_bytes text.new ≡ string_bytes text.old ++ after_name kind size) }
 {

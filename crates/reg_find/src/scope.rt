@@ -7,6 +7,6 @@ pub struct Scope {
     pub keys: bool,
     /// The values' names, of which that of a default value is empty.
     pub names: bool,
-    /// The values' data, each told as a line ([`reg_listing::value_text`]).
+    /// The values' data, each told as a line ([`reg_tree_text::value_text`]).
     pub texts: bool,
 }

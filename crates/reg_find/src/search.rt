@@ -4,12 +4,12 @@ ghost use Rattle.reg_heap.specs.Paths.{Path, Member};
 ghost use Rattle.reg_heap.specs.Edits.{values_at};
 ghost use Rattle.reg_tree.specs.TreeKeys.{IsAt};
 ghost use Rattle.reg_values.specs.ValueLists.{Tells};
-ghost use Rattle.reg_listing.specs.ValueTexts.{value_told};
+ghost use Rattle.reg_tree_text.specs.ValueTexts.{value_told};
 ghost use Rattle.reg_find.specs.Findings.{is_value_found};
 
 use crate::{Pattern, Scope};
-use reg_listing::value_text;
 use reg_tree::{Node, Tree};
+use reg_tree_text::value_text;
 use reg_values::Value;
 use std::alloc::{AllocError, Global};
 

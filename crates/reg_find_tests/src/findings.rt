@@ -1,14 +1,11 @@
 //! What patterns find in a hive's tree. The wanted lines come from the rules.
-use crate::support::assert_told;
 use reg_calls::Hive;
 use reg_find::{Pattern, Scope, compile, find};
-use reg_script::run;
+use reg_script::{FRESH_DESCRIPTOR, run};
+use reg_test_support::assert_report;
 use reg_tree::Tree;
 use std::alloc::Global;
 use std::test::Fail;
-
-/// The descriptor of the hives here: 20 bytes.
-const DESCRIPTOR: [u8; 20] = [1, 0, 4, 128, 0, 0, 0, 0, 0, 0, 0, 0, 0, 0, 0, 0, 0, 0, 0, 0];
 
 /// Names of keys alone.
 const KEYS: Scope = Scope {
@@ -82,7 +79,7 @@ fn add(
 }
 
 /// What some patterns find.
-fn told_of(alloc: Global, tree: &Tree) -> Result<String, Fail> {
+fn report_of(alloc: Global, tree: &Tree) -> Result<String, Fail> {
     let mut text = Vec::new(alloc);
     add(alloc, &mut text, tree, "(?i)run", KEYS)?;
     add(alloc, &mut text, tree, "(?i)run", NAMES)?;
@@ -106,12 +103,12 @@ fn fill(alloc: Global, hive: &mut Hive) -> Result<(), Fail> {
 /// Runs the script, and tells what is found then.
 fn filled(alloc: Global, hive: &mut Hive) -> Result<String, Fail> {
     fill(alloc, hive)?;
-    told_of(alloc, hive.tree())
+    report_of(alloc, hive.tree())
 }
 
 /// What is found in a fresh hive after the script.
-fn told(alloc: Global) -> Result<String, Fail> {
-    let mut hive = Hive::new(alloc, b"ROOT", &DESCRIPTOR, 0)?;
+fn report(alloc: Global) -> Result<String, Fail> {
+    let mut hive = Hive::new(alloc, b"ROOT", &FRESH_DESCRIPTOR, 0)?;
     filled(alloc, &mut hive)
 }
 
@@ -138,5 +135,5 @@ key =b
 key =
 --
 ";
-    assert_told(&rt, told(rt.alloc()), wanted)
+    assert_report(report(rt.alloc()), wanted)
 }

@@ -5,5 +5,3 @@
 mod findings;
 #[cfg(test)]
 mod patterns;
-#[cfg(test)]
-mod support;

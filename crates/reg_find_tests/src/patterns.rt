@@ -1,6 +1,6 @@
 //! Texts that are patterns, and some that are none.
-use crate::support::assert_told;
 use reg_find::{Pattern, PatternFault, compile};
+use reg_test_support::assert_report;
 use std::alloc::Global;
 use std::test::Fail;
 
@@ -39,5 +39,5 @@ fn patterns_and_faults(rt: HostRuntime) -> Result<(), Fail> {
 regex parse error at 1..2: unclosed group
 regex parse error at 0..0: repetition operator missing expression
 ";
-    assert_told(&rt, texts(rt.alloc()), wanted)
+    assert_report(texts(rt.alloc()), wanted)
 }

@@ -3,11 +3,11 @@ ghost use Rattle.std.specs.Prelude.{◌≡◌, ◌+◌, ◌≤◌, ◌↔◌, le
 ghost use Rattle.hex.specs.Hex.{encode_lower};
 ghost use Rattle.byteorder.specs.Endian.{little_bytes};
 ghost use Rattle.reg_heap.specs.ByteWords.{splice};
-ghost use Rattle.reg_image.specs.BaseBlock.{checksum_of};
+ghost use Rattle.reg_tree_image.specs.BaseBlock.{checksum_of};
 
 use crate::FixtureFault;
 use hex::FromHexError;
-use reg_image::checksum;
+use reg_tree_image::checksum;
 use std::alloc::{AllocError, Global};
 
 /// Where the checksum of a base block stands.
@@ -87,7 +87,7 @@ pub fn put_line(alloc: Global, image: &mut [u8], line: &str) -> Result<(), Fixtu
     put(image, at, &new)
 }
 
-/// The same for each line of a table, up to the first that has a fault.
+/// Puts the bytes of each line of a table ([`put_line`]), up to the first that has a fault.
 pub fn put_table(alloc: Global, image: &mut [u8], table: &str) -> Result<(), FixtureFault> {
     for line in table.split('\n') {
         put_line(alloc, image, line)?;

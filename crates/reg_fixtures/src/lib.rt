@@ -1,6 +1,6 @@
 //! What tests of images and of the tool share: readers and writers that fail, images written out cell by cell, and changes of bytes.
 //!
-//! Its contracts are those of the changes: which bytes a change leaves. It stands on reg_image for the checksum alone. Its main types
+//! Its contracts are those of the changes: which bytes a change leaves. It stands on reg_tree_image for the checksum alone. Its main types
 //! are [`FakeReader`] and [`FakeWriter`]; `FixtureFault` says what was wrong with a table or a place, or that memory was wanting.
 #![tactic(auto)]
 
@@ -11,6 +11,7 @@ mod fakes;
 mod fault;
 mod lies;
 mod many_keys;
+mod registry;
 
 pub use crate::bins::{SubkeyLists, allocated, is_among, sizes_but, subkeys};
 pub use crate::bytes::{difference, digits, put, put_changes, put_line, put_table, seal, sum_of};
@@ -19,3 +20,4 @@ pub use crate::fakes::{Failure, FakeReader, FakeWriter, narrow, wide};
 pub use crate::fault::FixtureFault;
 pub use crate::lies::LIES;
 pub use crate::many_keys::{deep, script_of_keys, table_of_keys};
+pub use crate::registry::{PlainHive, Registry};

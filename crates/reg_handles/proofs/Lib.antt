@@ -1,6 +1,5 @@
 pub mod RowOrder
 pub mod PathTextKeys
-pub mod LongerTexts
 pub mod KeysMarkedBelow
 pub mod TextsOfPathsBelow
 pub mod TableWithoutKeys

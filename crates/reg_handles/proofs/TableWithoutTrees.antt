@@ -6,7 +6,8 @@ use Rattle.reg_names.specs.Names.{path_of}
 use Rattle.reg_heap.specs.Paths.{Path}
 use Rattle.reg_heap.specs.Edits.{is_within, is_under}
 use Rattle.reg_model.specs.Worlds.{same_path, turned_past}
-use Rattle.reg_handles.specs.Internal.OpenKeySlab.{leads_to, without_key, without_key_past, payload_at, start_below, goes_on, UpdatesPath}
+use Rattle.reg_handles.specs.Internal.OpenKeySlab.{leads_to, without_key, without_key_past, payload_at, start_below, UpdatesPath}
+use Rattle.reg_model.specs.Internal.TextNumbers.{goes_on}
 use Rattle.reg_handles.specs.Internal.HandleRows.{handles_of, IsTable}
 use Rattle.reg_handles.specs.declared.keys.OpenKey.{OpenKey}
 use Rattle.reg_handles.specs.declared.rows.Row.{Row}

@@ -18,9 +18,10 @@ use Rattle.reg_heap.specs.Edits.{is_within, is_under}
 use Rattle.reg_heap.proofs.ChildrenOfPath.{path-is}
 use Rattle.reg_heap.proofs.DeletedTrees.{within-rest, within-self, under-parts, under-rest, under-append}
 use Rattle.reg_model.specs.Worlds.{same_path}
-use Rattle.reg_handles.specs.Internal.OpenKeySlab.{start_below, goes_on}
+use Rattle.reg_handles.specs.Internal.OpenKeySlab.{start_below}
+use Rattle.reg_model.specs.Internal.TextNumbers.{goes_on}
 use Rattle.reg_handles.proofs.PathTextKeys.{path_total}
-use Rattle.reg_handles.proofs.LongerTexts.{goes_on-rest, goes_on-append}
+use Rattle.reg_model.proofs.LongerTexts.{goes_on-rest, goes_on-append}
 
 -- ---- the text of a path below another
 

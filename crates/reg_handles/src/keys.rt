@@ -6,7 +6,8 @@ ghost use Rattle.std.specs.BTreeMap.{btree_map_len};
 ghost use Rattle.slab.specs.Slab.{get, Updates};
 ghost use Rattle.reg_handles.specs.FoundHandles.{destination_shown};
 ghost use Rattle.reg_handles.specs.Internal.OpenKeySlab.{key_at, rows_of, destination_of, is_freed, leads_to, with_one_more, with_one_less};
-ghost use Rattle.reg_handles.specs.Internal.OpenKeySlab.{with_payload, without_key, without_key_past, payload_of, start_below, goes_on};
+ghost use Rattle.reg_handles.specs.Internal.OpenKeySlab.{with_payload, without_key, without_key_past, payload_of, start_below};
+ghost use Rattle.reg_model.specs.Internal.TextNumbers.{goes_on};
 ghost use Rattle.reg_handles.specs.Internal.OpenKeySlab.{UpdatesPath, IsHeld, IsOpenAt};
 
 use slab::Slab;

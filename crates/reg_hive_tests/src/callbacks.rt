@@ -1,11 +1,12 @@
 //! Callbacks of a hive: whose answer it is, which calls they are asked of, and which key they are shown.
 ghost use Rattle.std.specs.Prelude.{◌==◌, length, if◌then◌else◌};
 
-use crate::support::{ALL, assert_told, set};
+use crate::support::{ALL, set};
 use reg_callbacks::{Callback, CallbackFault, Cookie};
 use reg_calls::Hive;
+use reg_fixtures::Registry;
 use reg_model::{AnswerBody, Bytes, Call, Change, Query};
-use reg_registry::Registry;
+use reg_test_support::assert_report;
 use std::alloc::{AllocError, Global};
 use std::cell::Cell;
 use std::rc::Rc;
@@ -91,7 +92,7 @@ fn status_of<H: Registry>(hive: &mut H, call: Call) -> u32 {
 }
 
 /// What it is answered to calls, each with how many the callback was asked of by then; and last how many entries there are.
-fn told_of<H: Registry>(
+fn report_of<H: Registry>(
     alloc: Global,
     hive: &mut H,
     asked: &Cell<u32>,
@@ -284,7 +285,7 @@ fn counted_hive(alloc: Global) -> Result<Hive<Counting>, Fail> {
 fn accepted_in(alloc: Global, hive: &mut Hive<Counting>) -> Result<String, Fail> {
     let asked = Rc::new(alloc, Cell::new(0))?;
     let _cookie = register(hive, 0, 7, &asked)?;
-    told_of(alloc, hive, &asked, accepted_calls(alloc)?)
+    report_of(alloc, hive, &asked, accepted_calls(alloc)?)
 }
 
 fn accepted(alloc: Global) -> Result<String, Fail> {
@@ -294,8 +295,7 @@ fn accepted(alloc: Global) -> Result<String, Fail> {
 
 #[test]
 fn each_call_but_close_is_asked_once(rt: HostRuntime) -> Result<(), Fail> {
-    assert_told(
-        &rt,
+    assert_report(
         accepted(rt.alloc()),
         "0 1; 0 2; 0 3; 0 4; 0 5; 0 6; 0 7; 0 8; 0 9; 0 10; 0 11; 0 12; 0 13; 0 14; 0 14; 10",
     )
@@ -303,9 +303,9 @@ fn each_call_but_close_is_asked_once(rt: HostRuntime) -> Result<(), Fail> {
 
 fn refused_in(alloc: Global, hive: &mut Hive<Counting>) -> Result<String, Fail> {
     let asked = Rc::new(alloc, Cell::new(0))?;
-    let _opened = told_of(alloc, hive, &asked, opening_calls(alloc)?)?;
+    let _opened = report_of(alloc, hive, &asked, opening_calls(alloc)?)?;
     let _cookie = register(hive, 77, 7, &asked)?;
-    told_of(alloc, hive, &asked, refused_calls(alloc)?)
+    report_of(alloc, hive, &asked, refused_calls(alloc)?)
 }
 
 fn refused(alloc: Global) -> Result<String, Fail> {
@@ -315,8 +315,7 @@ fn refused(alloc: Global) -> Result<String, Fail> {
 
 #[test]
 fn callbacks_have_their_place_in_the_order(rt: HostRuntime) -> Result<(), Fail> {
-    assert_told(
-        &rt,
+    assert_report(
         refused(rt.alloc()),
         "6 0; 1018 0; 87 0; 5 0; 5 0; 87 0; 77 1; 77 2; 77 3; 77 4; 77 5; 77 6; 77 7; 77 8; 0 8; 5",
     )
@@ -335,9 +334,9 @@ fn root_calls(alloc: Global, count: u32) -> Result<Vec<Call>, AllocError> {
 fn crowded_in(alloc: Global, hive: &mut Hive<Counting>) -> Result<String, Fail> {
     let asked = Rc::new(alloc, Cell::new(0))?;
     let _cookie = register(hive, 0, 7, &asked)?;
-    let _opened = told_of(alloc, hive, &asked, root_calls(alloc, 16_384)?)?;
+    let _opened = report_of(alloc, hive, &asked, root_calls(alloc, 16_384)?)?;
     let calls = Vec::from_array(alloc, [open_root(ALL), close(5), open_root(ALL)])?;
-    told_of(alloc, hive, &asked, calls)
+    report_of(alloc, hive, &asked, calls)
 }
 
 fn crowded(alloc: Global) -> Result<String, Fail> {
@@ -347,11 +346,7 @@ fn crowded(alloc: Global) -> Result<String, Fail> {
 
 #[test]
 fn nobody_is_asked_where_a_count_refuses(rt: HostRuntime) -> Result<(), Fail> {
-    assert_told(
-        &rt,
-        crowded(rt.alloc()),
-        "1450 16384; 0 16384; 0 16385; 16386",
-    )
+    assert_report(crowded(rt.alloc()), "1450 16384; 0 16384; 0 16385; 16386")
 }
 
 /// Two openings of the root and two calls without a handle, with how often the lower of two callbacks was asked, where the higher one
@@ -361,7 +356,7 @@ fn lower_in(alloc: Global, hive: &mut Hive<Counting>) -> Result<String, Fail> {
     let low = Rc::new(alloc, Cell::new(0))?;
     let _low = register(hive, 87, 100, &low)?;
     let _high = register(hive, 5, 200, &high)?;
-    told_of(alloc, hive, &low, opening_calls(alloc)?)
+    report_of(alloc, hive, &low, opening_calls(alloc)?)
 }
 
 fn lower(alloc: Global) -> Result<String, Fail> {
@@ -371,7 +366,7 @@ fn lower(alloc: Global) -> Result<String, Fail> {
 
 #[test]
 fn nobody_is_asked_below_a_refusal(rt: HostRuntime) -> Result<(), Fail> {
-    assert_told(&rt, lower(rt.alloc()), "5 0; 5 0; 6 0; 6 0; 0")
+    assert_report(lower(rt.alloc()), "5 0; 5 0; 6 0; 6 0; 0")
 }
 
 fn boxed(alloc: Global, status: u32) -> Result<Box<dyn Callback + Send>, AllocError> {
@@ -422,7 +417,7 @@ fn two(alloc: Global) -> Result<String, Fail> {
 
 #[test]
 fn higher_altitude_answers_first(rt: HostRuntime) -> Result<(), Fail> {
-    assert_told(&rt, two(rt.alloc()), "5; true; 87; taken 9; 0; 2")
+    assert_report(two(rt.alloc()), "5; true; 87; taken 9; 0; 2")
 }
 
 /// The replies of two sets, by a handle to the root and one to a key below it, where a callback refuses keys below the root.
@@ -455,5 +450,5 @@ fn below(alloc: Global) -> Result<String, Fail> {
 
 #[test]
 fn callbacks_are_shown_the_handles_key(rt: HostRuntime) -> Result<(), Fail> {
-    assert_told(&rt, below(rt.alloc()), "0; 0; 3")
+    assert_report(below(rt.alloc()), "0; 0; 3")
 }

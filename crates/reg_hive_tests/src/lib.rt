@@ -1,7 +1,7 @@
 //! Tests of whole hives, by their public calls. There is nothing here but tests, and so no contract.
 //!
 //! The wanted bytes come from the format's tables, and the wanted replies from the rules of the calls. What the tests share is in
-//! `support`: its main types are `Deed`, what is done to a hive, and `Question`, what is asked of it.
+//! `support`: its main types are `Action`, what is done to a hive, and `Question`, what is asked of it.
 #![tactic(auto)]
 
 #[cfg(test)]

@@ -1,10 +1,11 @@
 //! What is refused, and that a refusal leaves the hive as it was.
 use crate::support::{
-    ALL, Deed, Question, assert_same, assert_told, do_all, new_hive, set, status_and_told,
+    ALL, Action, Question, assert_same, do_all, new_hive, set, status_and_report,
 };
 use reg_calls::NewFault;
+use reg_fixtures::{PlainHive, Registry};
 use reg_model::{Call, Change, Step};
-use reg_registry::{PlainHive, Registry};
+use reg_test_support::assert_report;
 use std::alloc::Global;
 use std::test::Fail;
 
@@ -15,15 +16,14 @@ fn after_a_set(
     mask: u32,
     question: Question<'_>,
 ) -> Result<String, Fail> {
-    let deeds = [Deed::Open(mask), Deed::Set(b"", &[1])];
-    status_and_told(alloc, descriptor, &deeds, question)
+    let actions = [Action::Open(mask), Action::Set(b"", &[1])];
+    status_and_report(alloc, descriptor, &actions, question)
 }
 
 #[test]
 fn second_bin(rt: HostRuntime) -> Result<(), Fail> {
     // the first bin has no room for the value
-    assert_told(
-        &rt,
+    assert_report(
         after_a_set(rt.alloc(), 3952, ALL, Question::Cells),
         "0; 32 88* 120 3976* 4128 24* 4152 8* 4160 4032 ",
     )
@@ -31,8 +31,7 @@ fn second_bin(rt: HostRuntime) -> Result<(), Fail> {
 
 #[test]
 fn missing_right(rt: HostRuntime) -> Result<(), Fail> {
-    assert_told(
-        &rt,
+    assert_report(
         after_a_set(rt.alloc(), 20, 1, Question::Value(b"", None)),
         "5; 1: 2",
     )
@@ -46,8 +45,8 @@ fn set_in_a_new_hive(alloc: Global) -> Result<u32, Fail> {
 
 /// That status where this hive has opened a handle of the same number.
 fn set_beside<H: Registry>(alloc: Global, hive: &mut H) -> Result<u32, Fail> {
-    let deeds = [Deed::Open(ALL), Deed::Set(b"", &[1])];
-    let _status = do_all(alloc, hive, &deeds)?;
+    let actions = [Action::Open(ALL), Action::Set(b"", &[1])];
+    let _status = do_all(alloc, hive, &actions)?;
     set_in_a_new_hive(alloc)
 }
 
@@ -90,7 +89,7 @@ fn run_one_in(alloc: Global, hive: &mut PlainHive) -> Result<String, Fail> {
     Ok(format!(in alloc; "{} {}", outcomes.len(), hive.len())?)
 }
 
-/// The same in a new hive.
+/// What `run_one_in` tells of a new hive.
 fn run_one(alloc: Global) -> Result<String, Fail> {
     let mut hive: PlainHive = new_hive(alloc, 20)?;
     run_one_in(alloc, &mut hive)
@@ -98,5 +97,5 @@ fn run_one(alloc: Global) -> Result<String, Fail> {
 
 #[test]
 fn run_of_one_step(rt: HostRuntime) -> Result<(), Fail> {
-    assert_told(&rt, run_one(rt.alloc()), "1 1")
+    assert_report(run_one(rt.alloc()), "1 1")
 }

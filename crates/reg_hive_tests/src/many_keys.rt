@@ -1,9 +1,9 @@
 //! The most subkeys that a key may have, the deepest tree, and whole trees deleted with all that their cells held. The limits are
 //! those of the rules, and what is left are the cells of a fresh hive.
-use crate::support::{ALL, Deed, assert_told, do_all, do_one, new_hive};
-use reg_fixtures::{allocated, deep};
+use crate::support::{ALL, Action, do_all, do_one, new_hive};
+use reg_fixtures::{PlainHive, Registry, allocated, deep};
 use reg_model::{AnswerBody, Bytes, Change, Query};
-use reg_registry::{PlainHive, Registry};
+use reg_test_support::assert_report;
 use std::alloc::Global;
 use std::test::Fail;
 
@@ -65,7 +65,7 @@ pub fn name_at<H: Registry>(
 
 /// Opens the root, and makes so many keys below it, named by their numbers.
 fn fill<H: Registry>(alloc: Global, hive: &mut H, keys: u32) -> Result<(), Fail> {
-    let _status = do_one(alloc, hive, &Deed::Open(ALL))?;
+    let _status = do_one(alloc, hive, &Action::Open(ALL))?;
     for number in 0..keys {
         let name = format!(in alloc; "{number}")?;
         if make_closed(alloc, hive, 0, name.as_bytes())? != (0, Some(1)) {
@@ -89,7 +89,7 @@ fn tell_making<H: Registry>(
 
 /// Deletes a tree or what is below the root, and tells the status, how many subkeys the root has then, and the allocated cells.
 fn tell_deleted<H: Registry>(alloc: Global, hive: &mut H, path: &[u8]) -> Result<String, Fail> {
-    let status = do_one(alloc, hive, &Deed::DeleteTree(path))?;
+    let status = do_one(alloc, hive, &Action::DeleteTree(path))?;
     let first = name_at(alloc, hive, 0, 0)?;
     let cells = allocated(alloc, hive.arena())?;
     Ok(format!(in alloc; "{status}, {}, {cells} cells", first.as_str())?)
@@ -109,8 +109,7 @@ fn make_more<H: Registry>(alloc: Global, hive: &mut H) -> Result<String, Fail> {
     Ok(text)
 }
 
-/// The same of a key that is filled; then the subkeys at the first two indexes, at the last, and behind it; and what is told when all
-/// are deleted.
+/// Tells of a key that is filled the subkeys at the first two indexes, at the last, and behind it; and what is told when all are deleted.
 fn full_in<H: Registry>(alloc: Global, hive: &mut H) -> Result<String, Fail> {
     fill(alloc, hive, 60_000)?;
     let mut text = make_more(alloc, hive)?;
@@ -121,7 +120,7 @@ fn full_in<H: Registry>(alloc: Global, hive: &mut H) -> Result<String, Fail> {
     Ok(text)
 }
 
-/// The same of a new hive.
+/// What `full_in` tells of a new hive.
 fn full(alloc: Global) -> Result<String, Fail> {
     let mut hive: PlainHive = new_hive(alloc, 20)?;
     full_in(alloc, &mut hive)
@@ -130,8 +129,7 @@ fn full(alloc: Global) -> Result<String, Fail> {
 // the root was opened, and each key made and closed; 9999 is the last of the numbers as texts
 #[test]
 fn a_key_has_at_most_60000_subkeys(rt: HostRuntime) -> Result<(), Fail> {
-    assert_told(
-        &rt,
+    assert_report(
         full(rt.alloc()),
         "1450 120001 entries 0 0 0 0 1450 0 1 9999 259 0, 259, 2 cells",
     )
@@ -139,10 +137,10 @@ fn a_key_has_at_most_60000_subkeys(rt: HostRuntime) -> Result<(), Fail> {
 
 /// Opens the root and makes a chain of 512 keys below it, 32 in a call.
 fn make_deepest<H: Registry>(alloc: Global, hive: &mut H) -> Result<(), Fail> {
-    let _status = do_one(alloc, hive, &Deed::Open(ALL))?;
+    let _status = do_one(alloc, hive, &Action::Open(ALL))?;
     for step in 0..16 {
         let path = deep(alloc, (step + 1) * 32)?;
-        if do_one(alloc, hive, &Deed::Create(path.as_slice(), None))? != 0 {
+        if do_one(alloc, hive, &Action::Create(path.as_slice(), None))? != 0 {
             return Err("keys were not made".into());
         }
     }
@@ -157,7 +155,7 @@ fn deepest_in<H: Registry>(alloc: Global, hive: &mut H, path: &[u8]) -> Result<S
     Ok(format!(in alloc; "{cells} cells, {}", deleted.as_str())?)
 }
 
-/// The same of a new hive.
+/// What `deepest_in` tells of a new hive.
 fn deepest(alloc: Global, path: &[u8]) -> Result<String, Fail> {
     let mut hive: PlainHive = new_hive(alloc, 20)?;
     deepest_in(alloc, &mut hive, path)
@@ -167,19 +165,19 @@ fn deepest(alloc: Global, path: &[u8]) -> Result<String, Fail> {
 #[test]
 fn the_deepest_tree_is_deleted(rt: HostRuntime) -> Result<(), Fail> {
     let alloc = rt.alloc();
-    assert_told(&rt, deepest(alloc, b"A"), "1026 cells, 0, 259, 2 cells")?;
-    assert_told(&rt, deepest(alloc, b""), "1026 cells, 0, 259, 2 cells")
+    assert_report(deepest(alloc, b"A"), "1026 cells, 0, 259, 2 cells")?;
+    assert_report(deepest(alloc, b""), "1026 cells, 0, 259, 2 cells")
 }
 
 /// A tree with descriptors of its own, and values of each form on the root.
-const FURNISHED: [Deed<'_>; 7] = [
-    Deed::Open(ALL),
-    Deed::Create(b"A\\B\\C", Some(&[1, 2])),
-    Deed::Create(b"A\\D", Some(&[3])),
-    Deed::Create(b"AB", None),
-    Deed::Set(b"", &[1]),
-    Deed::SetLong(b"data", 100),
-    Deed::SetLong(b"segments", 100_000),
+const FURNISHED: [Action<'_>; 7] = [
+    Action::Open(ALL),
+    Action::Create(b"A\\B\\C", Some(&[1, 2])),
+    Action::Create(b"A\\D", Some(&[3])),
+    Action::Create(b"AB", None),
+    Action::Set(b"", &[1]),
+    Action::SetLong(b"data", 100),
+    Action::SetLong(b"segments", 100_000),
 ];
 
 /// What a hive with such a tree tells where one is deleted.
@@ -188,7 +186,7 @@ fn furnished_in<H: Registry>(alloc: Global, hive: &mut H, path: &[u8]) -> Result
     tell_deleted(alloc, hive, path)
 }
 
-/// The same of a new hive.
+/// What `furnished_in` tells of a new hive.
 fn furnished(alloc: Global, path: &[u8]) -> Result<String, Fail> {
     let mut hive: PlainHive = new_hive(alloc, 20)?;
     furnished_in(alloc, &mut hive, path)
@@ -199,6 +197,6 @@ fn furnished(alloc: Global, path: &[u8]) -> Result<String, Fail> {
 #[test]
 fn nothing_is_left_of_deleted_trees(rt: HostRuntime) -> Result<(), Fail> {
     let alloc = rt.alloc();
-    assert_told(&rt, furnished(alloc, b"a"), "0, AB, 18 cells")?;
-    assert_told(&rt, furnished(alloc, b""), "0, 259, 2 cells")
+    assert_report(furnished(alloc, b"a"), "0, AB, 18 cells")?;
+    assert_report(furnished(alloc, b""), "0, 259, 2 cells")
 }

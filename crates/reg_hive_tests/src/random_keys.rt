@@ -1,9 +1,9 @@
 //! Keys below one key made and deleted at random, beside a plain map of their names. After each batch the hive tells the map's names in
 //! the map's order, and the lists that stand in its bins have them.
 use crate::many_keys::{delete, make_closed, name_at};
-use crate::support::{ALL, Deed, assert_told, do_all, new_hive};
-use reg_fixtures::{SubkeyLists, allocated, subkeys};
-use reg_registry::{PlainHive, Registry};
+use crate::support::{ALL, Action, do_all, new_hive};
+use reg_fixtures::{PlainHive, Registry, SubkeyLists, allocated, subkeys};
+use reg_test_support::assert_report;
 use std::alloc::Global;
 use std::collections::BTreeMap;
 use std::test::Fail;
@@ -50,8 +50,8 @@ impl<H: Registry> RandomKeys<H> {
             names: BTreeMap::new(alloc),
             chance: 1,
         };
-        let deeds = [Deed::Open(ALL), Deed::Create(b"Keys", None)];
-        let _status = do_all(alloc, &mut keys.hive, &deeds)?;
+        let actions = [Action::Open(ALL), Action::Create(b"Keys", None)];
+        let _status = do_all(alloc, &mut keys.hive, &actions)?;
         Ok(keys)
     }
 
@@ -133,7 +133,7 @@ impl<H: Registry> RandomKeys<H> {
     }
 
     /// What the hive tells of the key's subkeys one after the other, each with a space behind it, up to the status behind the last.
-    fn told(&self) -> Result<String, Fail> {
+    fn report(&self) -> Result<String, Fail> {
         let mut text = String::new(self.alloc);
         for index in 0..=NAMES {
             let name = name_at(self.alloc, &self.hive, ABOVE, index)?;
@@ -170,7 +170,7 @@ impl<H: Registry> RandomKeys<H> {
         let mut wanted = self.wanted()?;
         self.check_bins(wanted.as_str())?;
         wanted.push_str("259 ")?;
-        if self.told()?.as_str() != wanted.as_str() {
+        if self.report()?.as_str() != wanted.as_str() {
             return Err("the hive tells other names than the map".into());
         }
         Ok(())
@@ -191,7 +191,7 @@ fn random_in<H: Registry>(keys: &mut RandomKeys<H>) -> Result<String, Fail> {
     Ok(format!(in keys.alloc; "{status}, {cells} cells")?)
 }
 
-/// The same of a new hive.
+/// What `random_in` tells of a new hive.
 fn random(alloc: Global) -> Result<String, Fail> {
     let mut keys: RandomKeys<PlainHive> = RandomKeys::new(alloc)?;
     random_in(&mut keys)
@@ -199,5 +199,5 @@ fn random(alloc: Global) -> Result<String, Fail> {
 
 #[test]
 fn random_keys_are_those_of_a_plain_map(rt: HostRuntime) -> Result<(), Fail> {
-    assert_told(&rt, random(rt.alloc()), "0, 2 cells")
+    assert_report(random(rt.alloc()), "0, 2 cells")
 }

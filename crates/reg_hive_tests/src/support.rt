@@ -1,7 +1,7 @@
-//! What the tests share: comparisons, what is done to a new hive, and what is told of it as text. Whoever owns a hive does nothing but
+//! What the tests share: a comparison, what is done to a new hive, and what is told of it as text. Whoever owns a hive does nothing but
 //! hand it on, and who is lent one takes any [`Registry`]: a function is the longer to check the more it does with a hive.
+use reg_fixtures::{PlainHive, Registry};
 use reg_model::{AnswerBody, Bytes, Change, Query};
-use reg_registry::{PlainHive, Registry};
 use std::alloc::Global;
 use std::fmt::Debug;
 use std::process::Abort;
@@ -10,13 +10,6 @@ use std::test::Fail;
 /// Every right.
 pub const ALL: u32 = 983_103;
 
-/// Stops where what was told isn't what was wanted.
-pub fn assert_told(rt: &impl Abort, told: Result<String, Fail>, wanted: &str) -> Result<(), Fail> {
-    let text = told?;
-    assert_eq!(rt; text.as_str(), wanted);
-    Ok(())
-}
-
 /// Stops where a value isn't what was wanted.
 pub fn assert_same<T: PartialEq + Debug>(rt: &impl Abort, value: &T, wanted: &T) {
     assert_eq!(rt; value, wanted);
@@ -24,7 +17,7 @@ pub fn assert_same<T: PartialEq + Debug>(rt: &impl Abort, value: &T, wanted: &T)
 
 /// What session 0 does to a hive, by handle 0 where it needs one.
 #[derive(Clone, Copy)]
-pub enum Deed<'a> {
+pub enum Action<'a> {
     /// Opens the root with these rights.
     Open(u32),
     /// Sets a value to these bytes.
@@ -67,72 +60,76 @@ pub fn new_hive<H: Registry>(alloc: Global, descriptor: usize) -> Result<H, Fail
     Ok(hive)
 }
 
-/// What a new hive tells after these deeds.
-pub fn told(
+/// What a new hive tells after these actions.
+pub fn report(
     alloc: Global,
     descriptor: usize,
-    deeds: &[Deed<'_>],
+    actions: &[Action<'_>],
     question: Question<'_>,
 ) -> Result<String, Fail> {
     let mut hive: PlainHive = new_hive(alloc, descriptor)?;
-    told_after(alloc, &mut hive, deeds, question)
+    report_after(alloc, &mut hive, actions, question)
 }
 
-/// The status of the last of these deeds to a new hive, and what it tells then.
-pub fn status_and_told(
+/// The status of the last of these actions to a new hive, and what it tells then.
+pub fn status_and_report(
     alloc: Global,
     descriptor: usize,
-    deeds: &[Deed<'_>],
+    actions: &[Action<'_>],
     question: Question<'_>,
 ) -> Result<String, Fail> {
     let mut hive: PlainHive = new_hive(alloc, descriptor)?;
-    status_and_told_after(alloc, &mut hive, deeds, question)
+    status_and_report_after(alloc, &mut hive, actions, question)
 }
 
-/// What a hive tells after these deeds.
-fn told_after<H: Registry>(
+/// What a hive tells after these actions.
+fn report_after<H: Registry>(
     alloc: Global,
     hive: &mut H,
-    deeds: &[Deed<'_>],
+    actions: &[Action<'_>],
     question: Question<'_>,
 ) -> Result<String, Fail> {
-    let _status = do_all(alloc, hive, deeds)?;
+    let _status = do_all(alloc, hive, actions)?;
     tell(alloc, hive, question)
 }
 
-/// The status of the last of these deeds, and what a hive tells then.
-fn status_and_told_after<H: Registry>(
+/// The status of the last of these actions, and what a hive tells then.
+fn status_and_report_after<H: Registry>(
     alloc: Global,
     hive: &mut H,
-    deeds: &[Deed<'_>],
+    actions: &[Action<'_>],
     question: Question<'_>,
 ) -> Result<String, Fail> {
-    let status = do_all(alloc, hive, deeds)?;
-    let told = tell(alloc, hive, question)?;
-    Ok(format!(in alloc; "{status}; {}", told.as_str())?)
+    let status = do_all(alloc, hive, actions)?;
+    let report = tell(alloc, hive, question)?;
+    Ok(format!(in alloc; "{status}; {}", report.as_str())?)
 }
 
-/// Does these deeds in their order, and tells the status of the last.
-pub fn do_all<H: Registry>(alloc: Global, hive: &mut H, deeds: &[Deed<'_>]) -> Result<u32, Fail> {
+/// Does these actions in their order, and tells the status of the last.
+pub fn do_all<H: Registry>(
+    alloc: Global,
+    hive: &mut H,
+    actions: &[Action<'_>],
+) -> Result<u32, Fail> {
     let mut status = 0;
-    for deed in deeds {
-        status = do_one(alloc, hive, deed)?;
+    for action in actions {
+        status = do_one(alloc, hive, action)?;
     }
     Ok(status)
 }
 
-/// Does one deed, and tells its status.
-pub fn do_one<H: Registry>(alloc: Global, hive: &mut H, deed: &Deed<'_>) -> Result<u32, Fail> {
-    match *deed {
-        Deed::Open(mask) => Ok(hive.apply(0, 0, Change::OpenRoot { mask }).status),
-        Deed::Set(name, bytes) => set(alloc, hive, name, bytes),
-        Deed::SetLong(name, len) => set_long(alloc, hive, name, len),
-        Deed::Delete(name) => delete(alloc, hive, name),
-        Deed::Create(path, descriptor) => create(alloc, hive, path, descriptor),
-        Deed::Describe(handle, descriptor) => describe(alloc, hive, handle, descriptor),
-        Deed::DescribeLong(len) => describe_long(alloc, hive, len),
-        Deed::CreateLong(path, len) => create_long(alloc, hive, path, len),
-        Deed::DeleteTree(path) => delete_tree(alloc, hive, path),
+/// Does one action, and tells its status.
+pub fn do_one<H: Registry>(alloc: Global, hive: &mut H, action: &Action<'_>) -> Result<u32, Fail> {
+    match *action {
+        Action::Open(mask) => Ok(hive.apply(0, 0, Change::OpenRoot { mask }).status),
+        Action::Set(name, bytes) => set(alloc, hive, name, bytes),
+        Action::SetLong(name, len) => set_long(alloc, hive, name, len),
+        Action::Delete(name) => delete(alloc, hive, name),
+        Action::Create(path, descriptor) => create(alloc, hive, path, descriptor),
+        Action::Describe(handle, descriptor) => describe(alloc, hive, handle, descriptor),
+        Action::DescribeLong(len) => describe_long(alloc, hive, len),
+        Action::CreateLong(path, len) => create_long(alloc, hive, path, len),
+        Action::DeleteTree(path) => delete_tree(alloc, hive, path),
     }
 }
 
@@ -198,7 +195,7 @@ fn create<H: Registry>(
     Ok(hive.apply(0, 256, change).status)
 }
 
-/// The same with a descriptor of so many bytes.
+/// Makes a key with a descriptor of so many bytes.
 fn create_long<H: Registry>(
     alloc: Global,
     hive: &mut H,

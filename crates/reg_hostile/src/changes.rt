@@ -1,9 +1,9 @@
 //! Changes of images and scripts, at random.
 ghost use Rattle.std.specs.Prelude.{◌≡◌, length};
 
-use crate::chance::Chance;
 use crate::sweeps::{put, seal, turn};
 use anyhow::Result;
+use reg_workload::Chance;
 use std::alloc::Global;
 
 /// Numbers that a reader may trip over.

@@ -4,10 +4,10 @@ use crate::hives::{Subject, fresh_hive};
 use crate::tools::write_image_by_tool;
 use crate::verdicts::{Tally, judge};
 use anyhow::{Result, bail};
-use reg_dump::{DumpFault, dump};
-use reg_image::write_image;
-use reg_registry::{PlainHive, Registry};
+use reg_fixtures::{PlainHive, Registry};
 use reg_script::ScriptFault;
+use reg_tree_image::write_image;
+use reg_tree_text::{DumpFault, dump};
 use std::alloc::Global;
 
 /// How much a device does, and where it stops.

@@ -1,10 +1,10 @@
 //! Images and scripts that were changed at random, each by a seed of its own.
-use crate::chance::Chance;
 use crate::changes::{change_image, changed_script};
 use crate::hives::{Subject, fresh_hive, run_on};
 use crate::seeds::{SCRIPTS, images};
 use crate::verdicts::{Tally, Verdict, judge_bytes, verdict_on};
 use anyhow::Result;
+use reg_workload::Chance;
 use std::alloc::Global;
 
 /// Every so many seeds have a script, too.

@@ -7,7 +7,7 @@ use crate::seeds::{RECORDS_END, SCRIPTS, every_record, images};
 use crate::sweeps::{all_bits, fronts, sealed_bits, some_bits};
 use crate::tools::is_told_by_tool;
 use anyhow::Result;
-use reg_registry::PlainHive;
+use reg_fixtures::PlainHive;
 use std::alloc::Global;
 
 /// How many bits of the image with every record are turned over beside those of its records.
@@ -111,7 +111,7 @@ fn fail_writers(
     Ok(())
 }
 
-/// The same of every work: of a fresh hive's image and of replies at each place.
+/// Has the writers of every work fail: of a fresh hive's image and of replies at each place.
 fn fail_all_writers(rt: &impl Print, alloc: Global) -> Result<()> {
     let fresh = scripted(alloc, b"")?;
     fail_writers(rt, alloc, "a fresh hive", Work::Image(&fresh), 1)?;

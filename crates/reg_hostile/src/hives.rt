@@ -3,10 +3,10 @@
 //! Whoever owns a hive hands it on to functions over any [`Subject`], which are checked without all that a hive is made of.
 use anyhow::Result;
 use reg_callbacks::{CallbackFault, Cookie, NoCallback};
-use reg_dump::dump;
+use reg_fixtures::{PlainHive, Registry};
 use reg_image::{LoadFault, image, load};
-use reg_registry::{PlainHive, Registry};
-use reg_script::{ScriptFault, run};
+use reg_script::{FRESH_DESCRIPTOR, ScriptFault, run};
+use reg_tree_text::dump;
 use std::alloc::{AllocError, Global};
 use std::io::{Read, Write};
 
@@ -64,12 +64,9 @@ impl Subject for PlainHive {
     }
 }
 
-/// The descriptor of the root: 20 bytes.
-const DESCRIPTOR: [u8; 20] = [1, 0, 4, 128, 0, 0, 0, 0, 0, 0, 0, 0, 0, 0, 0, 0, 0, 0, 0, 0];
-
 /// A hive of the root `ROOT`, made at moment 0.
 pub fn fresh_hive<H: Subject>(alloc: Global) -> Result<H> {
-    Ok(H::fresh(alloc, b"ROOT", &DESCRIPTOR, 0)?)
+    Ok(H::fresh(alloc, b"ROOT", &FRESH_DESCRIPTOR, 0)?)
 }
 
 /// The replies of a script on a hive.

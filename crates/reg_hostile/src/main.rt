@@ -7,7 +7,6 @@
 //! none of this makes a fault or a wrong tree is what the contracts of the libraries say. `Verdict` is what became of an image.
 #![tactic(auto)]
 
-mod chance;
 mod changes;
 mod devices;
 mod drafts;
@@ -27,7 +26,7 @@ mod words;
 use crate::seeds::every_record;
 use crate::words::{Request, read_words};
 use anyhow::Result;
-use reg_registry::PlainHive;
+use reg_fixtures::PlainHive;
 use std::alloc::Global;
 use std::env;
 use std::process::ExitCode;

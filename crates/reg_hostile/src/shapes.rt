@@ -1,10 +1,8 @@
 //! Images that are made to take long, beside an honest one of any size.
 use crate::drafts::{Draft, Links};
 use anyhow::Result;
+use reg_script::FRESH_DESCRIPTOR;
 use std::alloc::Global;
-
-/// The descriptor of most keys here.
-const DESCRIPTOR: [u8; 20] = [1, 0, 4, 128, 0, 0, 0, 0, 0, 0, 0, 0, 0, 0, 0, 0, 0, 0, 0, 0];
 
 /// How many bytes of an honest image each key takes.
 const HONEST_KEY: usize = 240;
@@ -52,7 +50,7 @@ impl Shape {
     /// The image of this shape.
     pub fn image(self, alloc: Global, count: u32) -> Result<Vec<u8>> {
         let mut draft = Draft::new(alloc)?;
-        let security = draft.security(&DESCRIPTOR)?;
+        let security = draft.security(&FRESH_DESCRIPTOR)?;
         let links = match self {
             Shape::Chains => chains(alloc, &mut draft, security, count)?,
             Shape::Deepest => deepest(alloc, &mut draft, security, count)?,
@@ -198,7 +196,7 @@ fn segments(alloc: Global, draft: &mut Draft, security: u32, count: u32) -> Resu
 /// An image of about so many bytes: keys below the root, each with a value of 100 bytes.
 pub fn honest(alloc: Global, len: usize) -> Result<Vec<u8>> {
     let mut draft = Draft::new(alloc)?;
-    let security = draft.security(&DESCRIPTOR)?;
+    let security = draft.security(&FRESH_DESCRIPTOR)?;
     let count = u32::try_from(len / HONEST_KEY)?;
     let mut keys = Vec::new(alloc);
     for number in 0..count {

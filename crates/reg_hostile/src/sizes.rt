@@ -2,7 +2,7 @@
 use crate::hives::Subject;
 use crate::shapes::{Shape, honest};
 use anyhow::Result;
-use reg_dump::dump;
+use reg_tree_text::dump;
 use reg_workload::Ratio;
 use std::alloc::Global;
 use std::io;

@@ -1,10 +1,10 @@
 //! Every front of an image, and its bits turned over one by one.
 ghost use Rattle.std.specs.Prelude.{◌≡◌, length};
 
-use crate::chance::Chance;
 use crate::verdicts::{Tally, judge_by_tool};
 use anyhow::Result;
-use reg_image::checksum;
+use reg_tree_image::checksum;
+use reg_workload::Chance;
 use std::alloc::Global;
 
 /// Writes bytes over those at an offset; what would stand behind the end is left out.
@@ -71,7 +71,7 @@ pub fn all_bits(alloc: Global, image: &mut [u8], from: usize, to: usize) -> Resu
     Ok(tally)
 }
 
-/// The same of the bits of the base block that its checksum is made of, which is made anew.
+/// Turns over the bits of the base block that its checksum is made of, one after another, and makes the checksum anew.
 pub fn sealed_bits(alloc: Global, image: &mut [u8]) -> Result<Tally> {
     let mut tally = Tally::NONE;
     for bit in 0..508 * 8 {

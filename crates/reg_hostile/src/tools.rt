@@ -3,7 +3,7 @@ use crate::devices::NarrowWriter;
 use crate::hives::{Subject, dumped};
 use anyhow::{Result, bail};
 use reg_command::tool;
-use reg_registry::PlainHive;
+use reg_fixtures::PlainHive;
 use std::alloc::Global;
 
 /// What the tool writes to its output where it reads an image, and its status.

@@ -2,8 +2,8 @@
 use crate::hives::{Subject, dumped, image_of};
 use crate::tools::is_told_by_tool;
 use anyhow::Result;
-use reg_image::LoadFault;
-use reg_registry::PlainHive;
+use reg_fixtures::PlainHive;
+use reg_tree_image::LoadFault;
 use std::alloc::Global;
 use std::fmt;
 use std::io::Read;

@@ -1,6 +1,1 @@
-pub mod Computed
-pub mod NamedCells
-pub mod Readers
-pub mod KeyStacks
-pub mod Devices
-pub mod CleanWalks
+pub mod LoadedHives

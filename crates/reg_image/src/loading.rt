@@ -1,80 +1,35 @@
 //! A hive, loaded from its image.
-//!
-//! Suhanov, Windows registry file format specification, section "Format of primary files".
 
-ghost use Rattle.std.specs.Prelude.{◌≡◌, ◌+◌, ◌≤◌, ◌%◌, ℕ, List, [], Ok, IfOk, IfErr, MatchResult, length};
+ghost use Rattle.std.specs.Prelude.{◌≡◌, ◌+◌, ◌≤◌, ℕ, List, [], IfOk, IfErr, MatchResult, length};
 ghost use Rattle.std.specs.Io.KnownBytes.{Consumes};
+ghost use Rattle.reg_heap.specs.ByteWords.{word};
 ghost use Rattle.reg_heap.specs.declared.limits.TheConstants.{BINS_LIMIT};
 ghost use Rattle.reg_text.specs.Failures.{Stays};
 ghost use Rattle.reg_callbacks.specs.Lists.{rows_of, made_of};
 ghost use Rattle.reg_calls.specs.HiveView.{view_of, callbacks_of};
-ghost use Rattle.reg_image.specs.Images.{nothing, tree_in, bins_walk};
-ghost use Rattle.reg_image.specs.Loads.{fault_number, IsLoaded, IsRefused, IsBlamed};
-ghost use Rattle.reg_image.specs.CrowdedBins.{AreCrowded};
-ghost use Rattle.reg_image.specs.Internal.Stacks.{FailsAs};
+ghost use Rattle.reg_tree_image.specs.Loads.{IsRefused, IsBlamed};
+ghost use Rattle.reg_image.specs.Loads.{IsLoaded};
 
-use crate::LoadFault;
-use crate::block::{BaseBlock, read_block};
-use crate::input::{fill, read_bytes};
-use crate::scan::scan;
-use crate::walk::walk;
 use reg_callbacks::Callback;
 use reg_calls::Hive;
 use reg_text::Source;
-use reg_tree::Tree;
+use reg_tree_image::{LoadFault, NumberedTree};
 use std::alloc::Global;
 
-impl LoadFault {
-    /// The fault's number: 1 Read, 2 Short, 3 Signature, 4 Version, 5 Checksum, 6 Dirty, 7 Bins, 8 Cells, 9 Record, 10 Loop,
-    /// 11 Twice, 12 NotInProfile, 13 Limit, 14 Memory.
-    pub fn number(&self) -> u8
-        ensures { result ≡ fault_number self.now }
-    {
-        match self {
-            LoadFault::Read => 1,
-            LoadFault::Short => 2,
-            LoadFault::Signature => 3,
-            LoadFault::Version => 4,
-            LoadFault::Checksum => 5,
-            LoadFault::Dirty => 6,
-            LoadFault::Bins => 7,
-            LoadFault::Cells => 8,
-            LoadFault::Record => 9,
-            LoadFault::Loop => 10,
-            LoadFault::Twice => 11,
-            LoadFault::NotInProfile => 12,
-            LoadFault::Limit => 13,
-            LoadFault::Memory => 14,
-        }
-    }
+/// A hive that was loaded, with the sequence number of its image.
+#[derive(Drop)]
+pub struct NumberedHive<C> {
+    /// The hive: a new one, of the image's tree.
+    pub hive: Hive<C>,
+    /// The sequence number, which the base block has twice.
+    pub sequence: u32,
 }
 
-/// The tree of the keys in foreign bins, built anew.
-fn build_tree(alloc: Global, bins: &[u8], block: BaseBlock) -> Result<Tree, LoadFault>
-    requires pages { length bins.now % 4096 ≡ 0 }
-    requires small { length bins.now ≤ BINS_LIMIT }
-    ensures ok { IfOk result (λ tree. tree_in (bins_walk bins.now block.minor block.root nothing) ≡ Ok tree.tree) }
-    ensures err { IfErr result (λ fault. FailsAs (AreCrowded bins.now block.minor block.root) fault
-        (bins_walk bins.now block.minor block.root nothing)) }
-{
-    let mut table = scan(alloc, bins)?;
-    walk(alloc, bins, block.minor, &mut table, block.root)
-}
-
-/// Loads a hive from an image: reads its base block, then the bins behind it and no byte more, and builds the hive anew of the keys
-/// that the bins hold.
+/// Loads a hive from an image, read as [`load_tree`](reg_tree_image::load_tree) reads it: its base block, then the bins behind it and
+/// no byte more.
 ///
-/// The hive is a new one, whose journal is empty, and no callback is registered. The first test that fails is the fault. `Short`
-/// where the image ends before its base block or its bins do, `Read` only where a read fails, and then no other is made: one that
-/// is interrupted fails too. Of the base block `Signature`, `Version`, `Checksum`, `Dirty`, `Bins` and `Limit`; of the bins, once
-/// all are read, `Bins` where the header of one is bad, else `Cells` where a cell's size is; of the keys, as they are met from the
-/// root on, `Record`, `Loop`, `Twice`, `NotInProfile` and `Limit`. `Limit` comes else only where new bins have no room for a key
-/// that is met before any fault: bins that came about by building the keys met before it one after the other, each with just the
-/// cells that it takes, and grew only where no free cell had room. They have none for its key node with its descriptor and its
-/// place in a list, or then none for its class, or then none for its values: for as many of them together, from the first on, as
-/// have cells of at most 16,777,216 bytes with a list that has room for all, or then for one of the others behind those before it.
-/// No room is that no free cell has room for all cells of one of these, and that with a bin more for them the bins would pass
-/// 268,435,456 bytes. `Memory` may come as soon as the base block passed.
+/// The hive is a new one, whose journal is empty, and no callback is registered. The faults are those of that call, and `Memory` also
+/// where it lacks for the hive itself.
 pub fn load<R: Source, C: Callback>(alloc: Global, input: &mut R) -> Result<Hive<C>, LoadFault>
     ensures ok { IfOk result (λ hive. (image : List ℕ) × Consumes (R.remaining input.old) (R.remaining input.new) image
         × IsLoaded image (view_of hive)) }
@@ -84,13 +39,29 @@ pub fn load<R: Source, C: Callback>(alloc: Global, input: &mut R) -> Result<Hive
     ensures failures { MatchResult result (λ _. Stays (R.failures input.old) (R.failures input.new))
         (λ fault. IsBlamed fault (R.failures input.old) (R.failures input.new)) }
 {
-    let mut head = [0u8; 4096];
-    fill(input, &mut head)?;
-    let block = read_block(&head)?;
-    let bins = read_bytes(alloc, input, block.size as usize)?;
-    let tree = build_tree(alloc, bins.as_slice(), block)?;
+    match load_numbered(alloc, input) {
+        Ok(numbered) => Ok(numbered.hive),
+        Err(fault) => Err(fault),
+    }
+}
+
+/// Loads a hive as [`load`] does, and hands out the sequence number of its image with it.
+pub fn load_numbered<R: Source, C: Callback>(
+    alloc: Global,
+    input: &mut R,
+) -> Result<NumberedHive<C>, LoadFault>
+    ensures ok { IfOk result (λ numbered. (image : List ℕ) × Consumes (R.remaining input.old) (R.remaining input.new) image
+        × IsLoaded image (view_of numbered.hive) × (numbered.sequence ≡ word image 4)) }
+    ensures callbacks { IfOk result (λ numbered.
+        (rows_of (callbacks_of numbered.hive) ≡ []) × (made_of (callbacks_of numbered.hive) ≡ 0)) }
+    ensures err { IfErr result (λ fault. (image : List ℕ) × Consumes (R.remaining input.old) (R.remaining input.new) image
+        × (length image ≤ 4096 + BINS_LIMIT) × IsRefused fault image (R.remaining input.new)) }
+    ensures failures { MatchResult result (λ _. Stays (R.failures input.old) (R.failures input.new))
+        (λ fault. IsBlamed fault (R.failures input.old) (R.failures input.new)) }
+{
+    let NumberedTree { tree, sequence } = reg_tree_image::load_numbered(alloc, input)?;
     match Hive::from_tree(alloc, tree) {
-        Ok(hive) => Ok(hive),
+        Ok(hive) => Ok(NumberedHive { hive, sequence }),
         Err(_) => Err(LoadFault::Memory),
     }
 }

@@ -2,9 +2,9 @@
 
 use crate::hives::{PlainHive, filled};
 use anyhow::Result;
-use reg_dump::{check_line, count as count_tree};
 use reg_image::{image, load, write_image};
 use reg_model::Bytes;
+use reg_tree_text::{check_line, count as count_tree};
 use reg_workload::{KeyPlan, PerCall};
 use std::alloc::Global;
 use std::rt::Clock;

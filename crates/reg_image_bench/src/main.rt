@@ -4,7 +4,7 @@
 //! write it, to load it, and to walk what was loaded. Without an argument it runs on six keys and prints counts alone, which are the
 //! same on every run.
 //!
-//! Its one contract: a hive is filled by changes that are all accepted, and a walk counts what the hive has (`count`, of reg_dump).
+//! Its one contract: a hive is filled by changes that are all accepted, and a walk counts what the hive has (`count`, of reg_tree_text).
 #![tactic(auto)]
 
 mod hives;

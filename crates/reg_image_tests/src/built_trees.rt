@@ -4,12 +4,13 @@ ghost use Rattle.reg_heap.specs.Trees.{IsSmallKey};
 ghost use Rattle.reg_tree.specs.BuiltKeys.{built_key};
 ghost use Rattle.reg_tree.specs.TreeKeys.{IsThere};
 
-use crate::support::{Imaged, assert_told, dumped_after};
-use reg_dump::dump;
+use crate::support::{Imaged, dumped_after};
+use reg_fixtures::PlainHive;
 use reg_heap::limits::SUBKEYS_LIMIT;
 use reg_names::{PATH_LIMIT, check_key_name};
-use reg_registry::PlainHive;
+use reg_test_support::assert_report;
 use reg_tree::{NewKey, Node, Tree};
+use reg_tree_text::dump;
 use std::alloc::Global;
 use std::test::Fail;
 
@@ -65,7 +66,7 @@ fn built_after<H: Imaged>(alloc: Global, hive: &mut H, script: &str) -> Result<S
     Ok(text)
 }
 
-/// The same of a new one.
+/// What `built_after` tells of a new hive.
 fn built(alloc: Global, script: &str) -> Result<String, Fail> {
     let mut hive = built_hive(alloc)?;
     built_after(alloc, &mut hive, script)
@@ -73,13 +74,11 @@ fn built(alloc: Global, script: &str) -> Result<String, Fail> {
 
 #[test]
 fn trees_are_built(rt: HostRuntime) -> Result<(), Fail> {
-    assert_told(
-        &rt,
+    assert_report(
         built(rt.alloc(), ""),
         "root =Root\nkey = marks 8 class x010203 security xff time 5\nkeys 1 values 0\n010203 0",
     )?;
-    assert_told(
-        &rt,
+    assert_report(
         built(rt.alloc(), "at 9\nroot 983103\ncreate 0 =K 983103\n"),
         "\
 root =Root
@@ -126,7 +125,7 @@ fn build_three(alloc: Global, tree: &mut Tree) -> Result<(), Fail> {
 }
 
 /// The dump of a tree.
-fn tree_told(alloc: Global, tree: &Tree) -> Result<String, Fail> {
+fn tree_report(alloc: Global, tree: &Tree) -> Result<String, Fail> {
     let mut text = Vec::new(alloc);
     dump(alloc, tree, &mut text)?;
     Ok(String::from_utf8(text)?)
@@ -135,11 +134,11 @@ fn tree_told(alloc: Global, tree: &Tree) -> Result<String, Fail> {
 /// The dump of a tree in which these keys were built.
 fn three_told_in(alloc: Global, tree: &mut Tree) -> Result<String, Fail> {
     build_three(alloc, tree)?;
-    tree_told(alloc, tree)
+    tree_report(alloc, tree)
 }
 
-/// The same of a new tree.
-fn three_told(alloc: Global) -> Result<String, Fail> {
+/// What `three_told_in` tells of a new tree.
+fn three_report(alloc: Global) -> Result<String, Fail> {
     let mut tree = built_tree(alloc)?;
     three_told_in(alloc, &mut tree)
 }
@@ -147,9 +146,8 @@ fn three_told(alloc: Global) -> Result<String, Fail> {
 // each key has what it was built with, and those above keep their times
 #[test]
 fn keys_are_built_as_they_are_told(rt: HostRuntime) -> Result<(), Fail> {
-    assert_told(
-        &rt,
-        three_told(rt.alloc()),
+    assert_report(
+        three_report(rt.alloc()),
         "\
 root =Root
 key = marks 8 class x010203 security xff time 5

@@ -1,10 +1,9 @@
 //! Dumps of trees that calls made, and hives that go on from their images. The wanted lines come from the dump's rules.
-use crate::support::{
-    Imaged, assert_told, dumped, dumped_after, fresh_hive, image_of, loaded_bytes, replies,
-};
-use reg_dump::{DumpFault, check_line, count, dump};
+use crate::support::{Imaged, dumped, dumped_after, fresh_hive, image_of, loaded_bytes, replies};
 use reg_fixtures::{Failure, FakeWriter, narrow, put, script_of_keys, wide};
+use reg_test_support::assert_report;
 use reg_tree::Tree;
+use reg_tree_text::{DumpFault, check_line, count, dump};
 use std::alloc::Global;
 use std::test::Fail;
 
@@ -31,21 +30,21 @@ keys 4 values 2
 ";
 
 /// The dump of a fresh hive after a script.
-fn told(alloc: Global, script: &str) -> Result<String, Fail> {
+fn report(alloc: Global, script: &str) -> Result<String, Fail> {
     let mut hive = fresh_hive(alloc)?;
     dumped_after(alloc, &mut hive, script)
 }
 
 /// What the image of a fresh hive after a script loads to.
-fn image_told(alloc: Global, script: &str) -> Result<String, Fail> {
+fn image_report(alloc: Global, script: &str) -> Result<String, Fail> {
     let bytes = image_of(alloc, script)?;
     loaded_bytes(alloc, &bytes)
 }
 
 #[test]
 fn lines_of_keys_and_values(rt: HostRuntime) -> Result<(), Fail> {
-    assert_told(&rt, told(rt.alloc(), SCRIPT), LINES)?;
-    assert_told(&rt, image_told(rt.alloc(), SCRIPT), LINES)
+    assert_report(report(rt.alloc(), SCRIPT), LINES)?;
+    assert_report(image_report(rt.alloc(), SCRIPT), LINES)
 }
 
 /// What `check_line` tells of a tree.
@@ -55,13 +54,13 @@ fn checked_tree(alloc: Global, tree: &Tree) -> Result<String, Fail> {
     Ok(format!(in alloc; "{} {} {}", counts.keys, counts.values, text.as_str())?)
 }
 
-/// The same of a hive after a script.
+/// The counts of a hive's tree after a script.
 fn checked_after<H: Imaged>(alloc: Global, hive: &mut H, script: &str) -> Result<String, Fail> {
     let _text = dumped_after(alloc, hive, script)?;
     checked_tree(alloc, hive.tree())
 }
 
-/// The same of a fresh one.
+/// What `checked_after` tells of a fresh hive.
 fn checked(alloc: Global, script: &str) -> Result<String, Fail> {
     let mut hive = fresh_hive(alloc)?;
     checked_after(alloc, &mut hive, script)
@@ -69,8 +68,8 @@ fn checked(alloc: Global, script: &str) -> Result<String, Fail> {
 
 #[test]
 fn counts_of_keys_and_values(rt: HostRuntime) -> Result<(), Fail> {
-    assert_told(&rt, checked(rt.alloc(), ""), "1 0 ok keys 1 values 0\n")?;
-    assert_told(&rt, checked(rt.alloc(), SCRIPT), "4 2 ok keys 4 values 2\n")
+    assert_report(checked(rt.alloc(), ""), "1 0 ok keys 1 values 0\n")?;
+    assert_report(checked(rt.alloc(), SCRIPT), "4 2 ok keys 4 values 2\n")
 }
 
 /// The replies of a script on the image of those keys.
@@ -93,8 +92,7 @@ create 0 =A\\d 983103
 
 #[test]
 fn calls_go_on_from_an_image(rt: HostRuntime) -> Result<(), Fail> {
-    assert_told(
-        &rt,
+    assert_report(
         replies_on(rt.alloc(), CALLS),
         "6\n0 handle 0\n0 =A time 7\n5\n0\n2\n0 handle 2 disposition 2\n0 handle 3 disposition 1\n",
     )
@@ -131,7 +129,7 @@ deltree 0 =A
 ";
 
 /// Their replies, and what such an image loads to.
-fn marked_told(alloc: Global) -> Result<String, Fail> {
+fn marked_report(alloc: Global) -> Result<String, Fail> {
     let bytes = image_with_a_mark(alloc)?;
     let mut text = replies(alloc, &bytes, DELETIONS)?;
     let lines = loaded_bytes(alloc, &bytes)?;
@@ -141,9 +139,8 @@ fn marked_told(alloc: Global) -> Result<String, Fail> {
 
 #[test]
 fn a_marked_key_is_not_deleted(rt: HostRuntime) -> Result<(), Fail> {
-    assert_told(
-        &rt,
-        marked_told(rt.alloc()),
+    assert_report(
+        marked_report(rt.alloc()),
         "\
 0 handle 0
 5
@@ -180,8 +177,7 @@ fn replies_of_501(alloc: Global) -> Result<String, Fail> {
 
 #[test]
 fn five_hundred_and_one_subkeys_are_loaded(rt: HostRuntime) -> Result<(), Fail> {
-    assert_told(
-        &rt,
+    assert_report(
         replies_of_501(rt.alloc()),
         "0 handle 0\n0 =k000 time 0\n0 =k500 time 0\n259\n",
     )
@@ -197,9 +193,8 @@ set 1 =%5c%25%20= 4294967295 x0102030405
 
 #[test]
 fn names_are_escaped(rt: HostRuntime) -> Result<(), Fail> {
-    assert_told(
-        &rt,
-        told(rt.alloc(), ESCAPED),
+    assert_report(
+        report(rt.alloc(), ESCAPED),
         "\
 root =ROOT
 key = marks 8 class x security x0100048000000000000000000000000000000000 time 18446744073709551615
@@ -228,20 +223,20 @@ fn sent<H: Imaged>(
     Ok(format!(in alloc; "{} {is_front} {}; ", answer.as_str(), writer.taken.len())?)
 }
 
-/// The same of writers that fail, or answer 0, after so many bytes.
+/// How a dump ends at writers that fail, or answer 0, after so many bytes.
 fn sent_within<H: Imaged>(alloc: Global, hive: &H, rooms: &[usize]) -> Result<String, Fail> {
     let whole = dumped(alloc, hive)?;
     let mut text = String::new(alloc);
     for room in rooms {
         for failure in [Failure::Write, Failure::Zero] {
-            let told = sent(alloc, hive, whole.as_str(), narrow(alloc, *room, failure))?;
-            text.push_str(told.as_str())?;
+            let report = sent(alloc, hive, whole.as_str(), narrow(alloc, *room, failure))?;
+            text.push_str(report.as_str())?;
         }
     }
     Ok(text)
 }
 
-/// The same of a fresh hive, whose dump has 107 bytes.
+/// What `sent_within` tells of a fresh hive, whose dump has 107 bytes.
 fn fresh_within(alloc: Global, rooms: &[usize]) -> Result<String, Fail> {
     let hive = fresh_hive(alloc)?;
     sent_within(alloc, &hive, rooms)
@@ -249,14 +244,13 @@ fn fresh_within(alloc: Global, rooms: &[usize]) -> Result<String, Fail> {
 
 #[test]
 fn writers_of_dumps_that_fail(rt: HostRuntime) -> Result<(), Fail> {
-    assert_told(
-        &rt,
+    assert_report(
         fresh_within(rt.alloc(), &[0, 1, 11, 106]),
         "0 true 0; 0 true 0; 1 true 1; 1 true 1; 11 true 11; 11 true 11; 106 true 106; 106 true 106; ",
     )
 }
 
-/// The same of a writer that takes one byte a call, and of one whose flush fails.
+/// How a dump ends at a writer that takes one byte a call, and at one whose flush fails.
 fn sent_in_pieces<H: Imaged>(alloc: Global, hive: &H) -> Result<String, Fail> {
     let whole = dumped(alloc, hive)?;
     let mut slow = wide(alloc);
@@ -271,7 +265,7 @@ fn sent_in_pieces<H: Imaged>(alloc: Global, hive: &H) -> Result<String, Fail> {
     Ok(format!(in alloc; "{}{}", slow.as_str(), stuck.as_str())?)
 }
 
-/// The same of a fresh hive.
+/// What `sent_in_pieces` tells of a fresh hive.
 fn fresh_in_pieces(alloc: Global) -> Result<String, Fail> {
     let hive = fresh_hive(alloc)?;
     sent_in_pieces(alloc, &hive)
@@ -279,11 +273,7 @@ fn fresh_in_pieces(alloc: Global) -> Result<String, Fail> {
 
 #[test]
 fn writers_of_dumps_in_pieces(rt: HostRuntime) -> Result<(), Fail> {
-    assert_told(
-        &rt,
-        fresh_in_pieces(rt.alloc()),
-        "all true 107; 107 true 107; ",
-    )
+    assert_report(fresh_in_pieces(rt.alloc()), "all true 107; 107 true 107; ")
 }
 
 /// A script that sets a value of 100,000 bytes.
@@ -303,7 +293,7 @@ fn long_within_after<H: Imaged>(
     sent_within(alloc, hive, rooms)
 }
 
-/// The same of a fresh hive with it.
+/// What `long_within_after` tells of a fresh hive.
 fn long_within(alloc: Global, rooms: &[usize]) -> Result<String, Fail> {
     let mut hive = fresh_hive(alloc)?;
     long_within_after(alloc, &mut hive, rooms)
@@ -312,13 +302,11 @@ fn long_within(alloc: Global, rooms: &[usize]) -> Result<String, Fail> {
 // the dump of a fresh hive, and a line of 200,018 bytes
 #[test]
 fn writers_of_long_dumps_that_fail(rt: HostRuntime) -> Result<(), Fail> {
-    assert_told(
-        &rt,
+    assert_report(
         long_within(rt.alloc(), &[65_535, 65_537, 200_124]),
         "65535 true 65535; 65535 true 65535; 65537 true 65537; 65537 true 65537; 200124 true 200124; 200124 true 200124; ",
     )?;
-    assert_told(
-        &rt,
+    assert_report(
         long_within(rt.alloc(), &[200_125]),
         "all true 200125; all true 200125; ",
     )

@@ -1,16 +1,17 @@
 //! Images as other programs write them, in every form that is read, and what they load to. The forms come from the format's tables.
-use crate::support::{assert_same, assert_told, image_of, loaded_bytes, loaded_twice};
+use crate::support::{assert_same, image_of, loaded_bytes, loaded_twice};
 use reg_fixtures::{drafted, script_of_keys, table_of_keys};
+use reg_test_support::assert_report;
 use std::alloc::Global;
 use std::test::Fail;
 
 /// What the image of a table loads to, and whether the new hive's own image loads to the same.
-fn told(alloc: Global, minor: u32, table: &str) -> Result<String, Fail> {
+fn report(alloc: Global, minor: u32, table: &str) -> Result<String, Fail> {
     let bytes = drafted(alloc, minor, table)?;
     loaded_twice(alloc, &bytes)
 }
 
-/// The same, or the fault's number.
+/// What the image of a table loads to, or the fault's number.
 fn fault(alloc: Global, table: &str) -> Result<String, Fail> {
     let bytes = drafted(alloc, 5, table)?;
     loaded_bytes(alloc, &bytes)
@@ -32,9 +33,8 @@ nk 44 9 1 @10 0 - @1 - 0 =ROOT";
 
 #[test]
 fn lists_of_every_kind(rt: HostRuntime) -> Result<(), Fail> {
-    assert_told(
-        &rt,
-        told(rt.alloc(), 5, LISTS),
+    assert_report(
+        report(rt.alloc(), 5, LISTS),
         "\
 root =ROOT
 key = marks 8 class x security x0102 time 9
@@ -61,9 +61,8 @@ nk 32 9 4294967295 @8 0 - @1 - 0 =R";
 
 #[test]
 fn lists_of_one_level(rt: HostRuntime) -> Result<(), Fail> {
-    assert_told(
-        &rt,
-        told(rt.alloc(), 5, LEVELS),
+    assert_report(
+        report(rt.alloc(), 5, LEVELS),
         "\
 root =R
 key = marks 0 class x security x0102 time 9
@@ -90,9 +89,8 @@ nk 65471 9 1 @8 0 - @1 @7 4 =R";
 
 #[test]
 fn names_of_two_bytes_classes_and_marks(rt: HostRuntime) -> Result<(), Fail> {
-    assert_told(
-        &rt,
-        told(rt.alloc(), 4, NAMES),
+    assert_report(
+        report(rt.alloc(), 4, NAMES),
         "\
 root =R
 key = marks 65432 class x526f6f74 security x0102 time 9
@@ -120,9 +118,8 @@ nk 44 9 4 @9 0 - @2 - 0 =ROOT";
 
 #[test]
 fn rings_with_wrong_links_and_counts(rt: HostRuntime) -> Result<(), Fail> {
-    assert_told(
-        &rt,
-        told(rt.alloc(), 5, RING),
+    assert_report(
+        report(rt.alloc(), 5, RING),
         "\
 root =ROOT
 key = marks 8 class x security x010203 time 9
@@ -149,9 +146,8 @@ nk 44 9 0 - 4 @8 @1 - 0 =ROOT";
 
 #[test]
 fn data_in_records_and_cells(rt: HostRuntime) -> Result<(), Fail> {
-    assert_told(
-        &rt,
-        told(rt.alloc(), 3, DATA),
+    assert_report(
+        report(rt.alloc(), 3, DATA),
         "\
 root =ROOT
 key = marks 8 class x security x0102 time 9
@@ -202,15 +198,15 @@ nk 44 9 0 - 1 @8 @1 - 0 =ROOT";
 fn large_data_in_one_cell(rt: HostRuntime) -> Result<(), Fail> {
     let alloc = rt.alloc();
     let wanted = with_value(alloc, ["ab07", "", ""], [10_000, 0, 0])?;
-    assert_told(&rt, told(alloc, 3, ONE_CELL), wanted.as_str())
+    assert_report(report(alloc, 3, ONE_CELL), wanted.as_str())
 }
 
 #[test]
 fn large_data_in_segments(rt: HostRuntime) -> Result<(), Fail> {
     let alloc = rt.alloc();
     let wanted = with_value(alloc, ["01", "02", "03"], [16_344, 16_344, 7_312])?;
-    assert_told(&rt, told(alloc, 4, SEGMENTS), wanted.as_str())?;
-    assert_told(&rt, told(alloc, 5, SEGMENTS), wanted.as_str())
+    assert_report(report(alloc, 4, SEGMENTS), wanted.as_str())?;
+    assert_report(report(alloc, 5, SEGMENTS), wanted.as_str())
 }
 
 /// A key that two lists name.
@@ -287,17 +283,17 @@ fn faults(alloc: Global) -> Result<String, Fail> {
 
 #[test]
 fn tables_that_lie(rt: HostRuntime) -> Result<(), Fail> {
-    assert_told(&rt, faults(rt.alloc()), "11 10 9 11 11 9 9 ")
+    assert_report(faults(rt.alloc()), "11 10 9 11 11 9 9 ")
 }
 
 /// What a table of 501 keys that one list names loads to.
-fn one_list_told(alloc: Global) -> Result<String, Fail> {
+fn one_list_report(alloc: Global) -> Result<String, Fail> {
     let table = table_of_keys(alloc, 501)?;
     fault(alloc, table.as_str())
 }
 
 /// What the image of a hive with these keys loads to.
-fn two_lists_told(alloc: Global) -> Result<String, Fail> {
+fn two_lists_report(alloc: Global) -> Result<String, Fail> {
     let script = script_of_keys(alloc, 501)?;
     let bytes = image_of(alloc, script.as_str())?;
     loaded_bytes(alloc, &bytes)
@@ -306,8 +302,8 @@ fn two_lists_told(alloc: Global) -> Result<String, Fail> {
 #[test]
 fn five_hundred_and_one_keys_of_one_list(rt: HostRuntime) -> Result<(), Fail> {
     let alloc = rt.alloc();
-    let wanted = two_lists_told(alloc)?;
-    assert_told(&rt, one_list_told(alloc), wanted.as_str())?;
+    let wanted = two_lists_report(alloc)?;
+    assert_report(one_list_report(alloc), wanted.as_str())?;
     assert_same(&rt, &wanted.as_str().lines().count(), &504);
     Ok(())
 }

@@ -1,7 +1,8 @@
 //! Images as they are made and written. The wanted bytes come from the format's tables.
-use crate::support::{Imaged, assert_told, fresh_hive, image_of};
+use crate::support::{Imaged, fresh_hive, image_of};
 use reg_fixtures::{Failure, FakeWriter, difference, digits, narrow, put_table, sum_of, wide};
-use reg_image::{WriteFault, write_image};
+use reg_test_support::assert_report;
+use reg_tree_image::{WriteFault, write_image};
 use std::alloc::Global;
 use std::test::Fail;
 
@@ -28,7 +29,7 @@ fn fresh(alloc: Global) -> Result<String, Fail> {
 
 #[test]
 fn images_of_fresh_hives(rt: HostRuntime) -> Result<(), Fail> {
-    assert_told(&rt, fresh(rt.alloc()), "8192 8192")
+    assert_report(fresh(rt.alloc()), "8192 8192")
 }
 
 /// The image of a fresh hive with a moment and a sequence number.
@@ -47,8 +48,7 @@ fn block_with(alloc: Global, moment: u64, sequence: u32) -> Result<String, Fail>
 
 #[test]
 fn moments_and_sequence_numbers(rt: HostRuntime) -> Result<(), Fail> {
-    assert_told(
-        &rt,
+    assert_report(
         block_with(rt.alloc(), 0x0102_0304_0506_0708, 0x1122_3344),
         "7265676644332211443322110807060504030201 5a716362",
     )
@@ -74,7 +74,7 @@ fn checksums(rt: HostRuntime) -> Result<(), Fail> {
         ("8 78563412\n504 87a9cbed", "fffffffe"),
         ("504 02000000\n508 ffffffff\n4092 ffffffff", "2"),
     ] {
-        assert_told(&rt, sum_with(alloc, table), wanted)?;
+        assert_report(sum_with(alloc, table), wanted)?;
     }
     Ok(())
 }
@@ -95,25 +95,25 @@ fn outcome(
     Ok(format!(in alloc; "{} {is_front} {}; ", written.as_str(), taken.len())?)
 }
 
-/// The same of an image's bytes.
+/// How the writing of an image's bytes ends at a writer.
 fn written(alloc: Global, bytes: &[u8], mut writer: FakeWriter) -> Result<String, Fail> {
     let answer = write_image(bytes, &mut writer);
     outcome(alloc, bytes, answer, &writer.taken)
 }
 
-/// The same of writers that fail, or answer 0, after so many bytes.
+/// How the writing of an image ends at writers that fail, or answer 0, after so many bytes.
 fn written_within(alloc: Global, bytes: &[u8], rooms: &[usize]) -> Result<String, Fail> {
     let mut text = String::new(alloc);
     for room in rooms {
         for failure in [Failure::Write, Failure::Zero] {
-            let told = written(alloc, bytes, narrow(alloc, *room, failure))?;
-            text.push_str(told.as_str())?;
+            let report = written(alloc, bytes, narrow(alloc, *room, failure))?;
+            text.push_str(report.as_str())?;
         }
     }
     Ok(text)
 }
 
-/// The same of a fresh hive's image.
+/// What `written_within` tells of a fresh hive's image.
 fn fresh_within(alloc: Global, rooms: &[usize]) -> Result<String, Fail> {
     let bytes = image_of(alloc, "")?;
     written_within(alloc, &bytes, rooms)
@@ -121,14 +121,13 @@ fn fresh_within(alloc: Global, rooms: &[usize]) -> Result<String, Fail> {
 
 #[test]
 fn writers_of_images_that_fail(rt: HostRuntime) -> Result<(), Fail> {
-    assert_told(
-        &rt,
+    assert_report(
         fresh_within(rt.alloc(), &[0, 1, 4096, 8191]),
         "0 true 0; 0 true 0; 1 true 1; 1 true 1; 4096 true 4096; 4096 true 4096; 8191 true 8191; 8191 true 8191; ",
     )
 }
 
-/// The same of a writer that takes one byte a call, and of one whose flush fails.
+/// How the writing of a fresh hive's image ends at a writer that takes one byte a call, and at one whose flush fails.
 fn fresh_written(alloc: Global) -> Result<String, Fail> {
     let bytes = image_of(alloc, "")?;
     let mut slow = wide(alloc);
@@ -140,15 +139,11 @@ fn fresh_written(alloc: Global) -> Result<String, Fail> {
 
 #[test]
 fn writers_of_images_in_pieces(rt: HostRuntime) -> Result<(), Fail> {
-    assert_told(
-        &rt,
-        fresh_written(rt.alloc()),
-        "all true 8192; 8192 true 8192; ",
-    )
+    assert_report(fresh_written(rt.alloc()), "all true 8192; 8192 true 8192; ")
 }
 
-/// The same of a hive that is written bin by bin to writers that fail, or answer 0, after so many bytes, and to one that takes one byte
-/// a call, and one whose flush fails, beside its image.
+/// How the writing of a hive bin by bin ends, beside its image: at writers that fail, or answer 0, after so many bytes, at one that takes
+/// one byte a call, and at one whose flush fails.
 fn hive_within<H: Imaged>(alloc: Global, hive: &H, rooms: &[usize]) -> Result<String, Fail> {
     let bytes = hive.imaged(alloc, 0, 1)?;
     let mut text = String::new(alloc);
@@ -156,21 +151,21 @@ fn hive_within<H: Imaged>(alloc: Global, hive: &H, rooms: &[usize]) -> Result<St
         for failure in [Failure::Write, Failure::Zero] {
             let mut writer = narrow(alloc, *room, failure);
             let answer = hive.written_to(&mut writer);
-            let told = outcome(alloc, &bytes, answer, &writer.taken)?;
-            text.push_str(told.as_str())?;
+            let report = outcome(alloc, &bytes, answer, &writer.taken)?;
+            text.push_str(report.as_str())?;
         }
     }
     let mut slow = wide(alloc);
     slow.step = 1;
     for mut writer in [slow, narrow(alloc, 30_000, Failure::Flush)] {
         let answer = hive.written_to(&mut writer);
-        let told = outcome(alloc, &bytes, answer, &writer.taken)?;
-        text.push_str(told.as_str())?;
+        let report = outcome(alloc, &bytes, answer, &writer.taken)?;
+        text.push_str(report.as_str())?;
     }
     Ok(text)
 }
 
-/// The same of a fresh hive after a script.
+/// What `hive_within` tells of a fresh hive after a script.
 fn hive_within_after<H: Imaged>(
     alloc: Global,
     hive: &mut H,
@@ -181,7 +176,7 @@ fn hive_within_after<H: Imaged>(
     hive_within(alloc, hive, rooms)
 }
 
-/// The same of a fresh hive with a value of 10,000 bytes, for which there is a bin of three pages, or without it.
+/// What `hive_within_after` tells of a fresh hive with a value of 10,000 bytes, for which there is a bin of three pages, or without it.
 fn binned_within(alloc: Global, has_value: bool, rooms: &[usize]) -> Result<String, Fail> {
     let mut hive = fresh_hive(alloc)?;
     let mut script = String::new(alloc);
@@ -195,13 +190,11 @@ fn binned_within(alloc: Global, has_value: bool, rooms: &[usize]) -> Result<Stri
 #[test]
 fn hives_written_bin_by_bin(rt: HostRuntime) -> Result<(), Fail> {
     let alloc = rt.alloc();
-    assert_told(
-        &rt,
+    assert_report(
         binned_within(alloc, false, &[0, 100, 4096, 8191]),
         "0 true 0; 0 true 0; 100 true 100; 100 true 100; 4096 true 4096; 4096 true 4096; 8191 true 8191; 8191 true 8191; all true 8192; 8192 true 8192; ",
     )?;
-    assert_told(
-        &rt,
+    assert_report(
         binned_within(alloc, true, &[5000, 8192, 15_000, 20_480]),
         "5000 true 5000; 5000 true 5000; 8192 true 8192; 8192 true 8192; 15000 true 15000; 15000 true 15000; all true 20480; all true 20480; all true 20480; 20480 true 20480; ",
     )

@@ -1,6 +1,7 @@
 //! What images load to: those that lie, those that end too early, and what reads them. The wanted faults come from the format's rules.
-use crate::support::{assert_told, dumped, fresh_hive, image_of, loaded, loaded_bytes};
+use crate::support::{dumped, fresh_hive, image_of, loaded, loaded_bytes};
 use reg_fixtures::{FakeReader, LIES, put_changes, put_line, put_table, seal};
+use reg_test_support::assert_report;
 use std::alloc::Global;
 use std::test::Fail;
 
@@ -17,7 +18,7 @@ fn dump_fresh(alloc: Global) -> Result<String, Fail> {
     dumped(alloc, &hive)
 }
 
-/// The same, and what its image loads to.
+/// The dump of a fresh hive, and what its image loads to.
 fn dump_and_load(alloc: Global) -> Result<String, Fail> {
     let text = dump_fresh(alloc)?;
     let bytes = image_of(alloc, "")?;
@@ -28,7 +29,7 @@ fn dump_and_load(alloc: Global) -> Result<String, Fail> {
 #[test]
 fn a_fresh_hive_is_loaded(rt: HostRuntime) -> Result<(), Fail> {
     let wanted = FRESH.repeat(rt.alloc(), 2)?;
-    assert_told(&rt, dump_and_load(rt.alloc()), wanted.as_str())
+    assert_report(dump_and_load(rt.alloc()), wanted.as_str())
 }
 
 /// The image of a fresh hive with the changes of a line, and its checksum made anew.
@@ -61,7 +62,7 @@ fn lies(alloc: Global, table: &str) -> Result<String, Fail> {
 
 #[test]
 fn images_that_lie(rt: HostRuntime) -> Result<(), Fail> {
-    assert_told(&rt, lies(rt.alloc(), LIES), LIES)
+    assert_report(lies(rt.alloc(), LIES), LIES)
 }
 
 /// What a fresh hive's image with some changes loads to.
@@ -72,8 +73,7 @@ fn changed_loads(alloc: Global, changes: &str) -> Result<String, Fail> {
 
 #[test]
 fn a_descriptor_of_24_bytes(rt: HostRuntime) -> Result<(), Fail> {
-    assert_told(
-        &rt,
+    assert_report(
         changed_loads(rt.alloc(), "4236 18000000"),
         "root =ROOT\nkey = marks 8 class x security x010004800000000000000000000000000000000000000000 time 0\nkeys 1 values 0\n",
     )
@@ -88,7 +88,7 @@ fn wrong_sum(alloc: Global) -> Result<String, Fail> {
 
 #[test]
 fn a_wrong_checksum(rt: HostRuntime) -> Result<(), Fail> {
-    assert_told(&rt, wrong_sum(rt.alloc()), "5")
+    assert_report(wrong_sum(rt.alloc()), "5")
 }
 
 /// What is ignored: the moment, the clustering factor, the file name, the rest of the block; of the bin's header all but letters, place
@@ -122,7 +122,7 @@ fn ignoring(alloc: Global) -> Result<String, Fail> {
 
 #[test]
 fn what_is_ignored(rt: HostRuntime) -> Result<(), Fail> {
-    assert_told(&rt, ignoring(rt.alloc()), FRESH)
+    assert_report(ignoring(rt.alloc()), FRESH)
 }
 
 /// What a front of an image loads to, from a reader that gives at most so many bytes a call, and how many bytes are left.
@@ -139,19 +139,19 @@ fn front_loads(
     Ok(format!(in alloc; "{} {}; ", found.as_str(), reader.rest.len())?)
 }
 
-/// The same of fronts of so many bytes.
+/// What fronts of an image, of so many bytes, load to.
 fn fronts_load(alloc: Global, bytes: &[u8], lens: &[usize], fails: bool) -> Result<String, Fail> {
     let mut text = String::new(alloc);
     for len in lens {
         for step in [1, usize::MAX] {
-            let told = front_loads(alloc, bytes, *len, step, fails)?;
-            text.push_str(told.as_str())?;
+            let report = front_loads(alloc, bytes, *len, step, fails)?;
+            text.push_str(report.as_str())?;
         }
     }
     Ok(text)
 }
 
-/// The same of a fresh hive's image.
+/// What `fronts_load` tells of a fresh hive's image.
 fn fresh_fronts(alloc: Global, fails: bool) -> Result<String, Fail> {
     let bytes = image_of(alloc, "")?;
     fronts_load(alloc, &bytes, &[0, 1, 4095, 4096, 8191], fails)
@@ -160,13 +160,11 @@ fn fresh_fronts(alloc: Global, fails: bool) -> Result<String, Fail> {
 #[test]
 fn images_that_are_cut(rt: HostRuntime) -> Result<(), Fail> {
     let alloc = rt.alloc();
-    assert_told(
-        &rt,
+    assert_report(
         fresh_fronts(alloc, false),
         "2 0; 2 0; 2 0; 2 0; 2 0; 2 0; 2 0; 2 0; 2 0; 2 0; ",
     )?;
-    assert_told(
-        &rt,
+    assert_report(
         fresh_fronts(alloc, true),
         "1 0; 1 0; 1 0; 1 0; 1 0; 1 0; 1 0; 1 0; 1 0; 1 0; ",
     )
@@ -183,6 +181,6 @@ fn with_a_tail(alloc: Global, step: usize) -> Result<String, Fail> {
 fn what_follows_is_left_unread(rt: HostRuntime) -> Result<(), Fail> {
     let alloc = rt.alloc();
     let wanted = format!(in alloc; "{FRESH} 5; ")?;
-    assert_told(&rt, with_a_tail(alloc, 1), wanted.as_str())?;
-    assert_told(&rt, with_a_tail(alloc, 8197), wanted.as_str())
+    assert_report(with_a_tail(alloc, 1), wanted.as_str())?;
+    assert_report(with_a_tail(alloc, 8197), wanted.as_str())
 }

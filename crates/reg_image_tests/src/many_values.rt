@@ -1,9 +1,9 @@
 //! A key of 16,384 values whose cells have more bytes than one carve may take, and the bins of what it loads to. The wanted sizes come
 //! from the format's tables.
-use crate::support::{Imaged, assert_told};
-use reg_fixtures::{drafted, sizes_but};
+use crate::support::Imaged;
+use reg_fixtures::{PlainHive, drafted, sizes_but};
 use reg_image::load;
-use reg_registry::PlainHive;
+use reg_test_support::assert_report;
 use std::alloc::{AllocError, Global};
 use std::test::Fail;
 
@@ -41,14 +41,14 @@ fn sizes<H: Imaged>(alloc: Global, hive: &H) -> Result<String, Fail> {
     Ok(format!(in alloc; "{cells} {bins}")?)
 }
 
-/// The same of what an image loads to.
+/// The sizes of cells of the hive that an image loads to.
 fn loaded_sizes(alloc: Global, bytes: &[u8]) -> Result<String, Fail> {
     let mut input = bytes;
     let hive: PlainHive = load(alloc, &mut input)?;
     sizes(alloc, &hive)
 }
 
-/// The same of the image of that table.
+/// What `loaded_sizes` tells of the image of the table of values.
 fn sizes_of_values(alloc: Global) -> Result<String, Fail> {
     let table = table_of_values(alloc)?;
     let bytes = drafted(alloc, 5, table.as_str())?;
@@ -59,5 +59,5 @@ fn sizes_of_values(alloc: Global) -> Result<String, Fail> {
 // root's key node 88 and its security 48: 16,384 * 1,136 + 65,544 + 88 + 48.
 #[test]
 fn values_of_more_than_one_carve(rt: HostRuntime) -> Result<(), Fail> {
-    assert_told(&rt, sizes_of_values(rt.alloc()), "18677904 close")
+    assert_report(sizes_of_values(rt.alloc()), "18677904 close")
 }

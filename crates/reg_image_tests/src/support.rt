@@ -1,36 +1,25 @@
-//! What the tests of images share: comparisons, the image of a hive on which a script was run, and what an image loads to, as text.
+//! What the tests of images share: a comparison, the image of a hive on which a script was run, and what an image loads to, as text.
 //! Whoever owns a hive does nothing but hand it on, and who is lent one takes any that is [`Imaged`]: a function is the longer to check
 //! the more it does with a hive.
 use reg_callbacks::NoCallback;
-use reg_dump::dump;
-use reg_fixtures::FakeWriter;
+use reg_fixtures::{FakeWriter, PlainHive, Registry};
 use reg_image::{WriteFault, image, load, write_hive};
-use reg_registry::{PlainHive, Registry};
-use reg_script::run;
+use reg_script::{FRESH_DESCRIPTOR, run};
+use reg_tree_text::dump;
 use std::alloc::Global;
 use std::fmt::Debug;
 use std::io::Read;
 use std::process::Abort;
 use std::test::Fail;
 
-/// Stops where what was told isn't what was wanted.
-pub fn assert_told(rt: &impl Abort, told: Result<String, Fail>, wanted: &str) -> Result<(), Fail> {
-    let text = told?;
-    assert_eq!(rt; text.as_str(), wanted);
-    Ok(())
-}
-
 /// Stops where a value isn't what was wanted.
 pub fn assert_same<T: PartialEq + Debug>(rt: &impl Abort, value: &T, wanted: &T) {
     assert_eq!(rt; value, wanted);
 }
 
-/// The descriptor of the hives here: 20 bytes.
-const DESCRIPTOR: [u8; 20] = [1, 0, 4, 128, 0, 0, 0, 0, 0, 0, 0, 0, 0, 0, 0, 0, 0, 0, 0, 0];
-
 /// A hive of the root `ROOT` with that descriptor, made at moment 0.
 pub fn fresh_hive(alloc: Global) -> Result<PlainHive, Fail> {
-    let hive = PlainHive::new(alloc, b"ROOT", &DESCRIPTOR, 0)?;
+    let hive = PlainHive::new(alloc, b"ROOT", &FRESH_DESCRIPTOR, 0)?;
     Ok(hive)
 }
 

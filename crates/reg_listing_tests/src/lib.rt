@@ -4,6 +4,4 @@
 #[cfg(test)]
 mod listings;
 #[cfg(test)]
-mod support;
-#[cfg(test)]
 mod values;

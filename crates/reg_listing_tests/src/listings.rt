@@ -1,16 +1,13 @@
 //! Listings of a hive's tree. The wanted lines come from the rules of a listing.
 ghost use Rattle.reg_tree.specs.TreeKeys.{IsThere};
 
-use crate::support::assert_told;
 use reg_calls::Hive;
-use reg_listing::{list, list_tree};
-use reg_script::run;
+use reg_script::{FRESH_DESCRIPTOR, run};
+use reg_test_support::assert_report;
 use reg_tree::{Node, Tree};
+use reg_tree_text::{list, list_tree};
 use std::alloc::Global;
 use std::test::Fail;
-
-/// The descriptor of the hives here: 20 bytes.
-const DESCRIPTOR: [u8; 20] = [1, 0, 4, 128, 0, 0, 0, 0, 0, 0, 0, 0, 0, 0, 0, 0, 0, 0, 0, 0];
 
 /// Makes `b` and `A\c\d`, two values of `A` and one of `A\c`.
 const SCRIPT: &str = "\
@@ -58,14 +55,14 @@ fn fill(alloc: Global, hive: &mut Hive) -> Result<(), Fail> {
 }
 
 /// A fresh hive after the script, of which the root's listing is told, and then that of the first key.
-fn told(alloc: Global) -> Result<String, Fail> {
-    let mut hive = Hive::new(alloc, b"ROOT", &DESCRIPTOR, 0)?;
+fn report(alloc: Global) -> Result<String, Fail> {
+    let mut hive = Hive::new(alloc, b"ROOT", &FRESH_DESCRIPTOR, 0)?;
     fill(alloc, &mut hive)?;
-    told_of(alloc, &hive)
+    report_of(alloc, &hive)
 }
 
 /// Both listings.
-fn told_of(alloc: Global, hive: &Hive) -> Result<String, Fail> {
+fn report_of(alloc: Global, hive: &Hive) -> Result<String, Fail> {
     let mut text = root_listed(alloc, hive.tree())?;
     text.push_str("====\n")?;
     text.push_str(&first_listed(alloc, hive.tree())?)?;
@@ -96,5 +93,5 @@ key =c
 value =a%20name type 3 size 2
 key =c\\d
 ";
-    assert_told(&rt, told(rt.alloc()), wanted)
+    assert_report(report(rt.alloc()), wanted)
 }

@@ -1,6 +1,6 @@
 //! The texts of values' data, of each form and of bytes in none.
-use crate::support::assert_told;
-use reg_listing::value_text;
+use reg_test_support::assert_report;
+use reg_tree_text::value_text;
 use std::alloc::Global;
 use std::test::Fail;
 
@@ -28,5 +28,5 @@ fn texts(alloc: Global) -> Result<String, Fail> {
 #[test]
 fn texts_of_values(rt: HostRuntime) -> Result<(), Fail> {
     let wanted = "Hi\né😀\na\tb\n513\n16908288\n18446744073709551615\nhex:01ab\nhex:61000a00\n";
-    assert_told(&rt, texts(rt.alloc()), wanted)
+    assert_report(texts(rt.alloc()), wanted)
 }

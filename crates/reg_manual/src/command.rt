@@ -21,22 +21,26 @@ enum Role {
     Output,
 }
 
-/// The parts of a line between blanks, without quotes; blanks between single quotes are letters.
+/// The parts of a line between blanks, without quotes; blanks between single quotes are letters, and `''` is an empty part.
 fn parts_of(alloc: Global, line: &str) -> Result<Vec<String>, AllocError> {
     let mut parts = Vec::new(alloc);
     let mut part = String::new(alloc);
+    let mut is_begun = false;
     let mut is_quoted = false;
     for letter in line.chars() {
         if letter == '\'' {
+            is_begun = true;
             is_quoted = !is_quoted;
         } else if letter != ' ' || is_quoted {
+            is_begun = true;
             part.push(letter)?;
-        } else if !part.is_empty() {
+        } else if is_begun {
             parts.push(part)?;
             part = String::new(alloc);
+            is_begun = false;
         }
     }
-    if !part.is_empty() {
+    if is_begun {
         parts.push(part)?;
     }
     Ok(parts)

@@ -12,7 +12,7 @@ mod example;
 use crate::command::{CommandLine, read_line};
 use crate::example::{Example, example_in, is_as_shown};
 use anyhow::{Context, Result, bail};
-use reg_files::{Input, file_tool};
+use reg_files::{Device, file_tool};
 use std::alloc::Global;
 use std::fs;
 
@@ -23,14 +23,15 @@ fn outcome(rt: &HostRuntime, command: CommandLine) -> Result<(u8, Vec<u8>)> {
         Some(file) => fs::read(rt, file.as_str())?,
         None => Vec::new(alloc),
     };
-    let mut input = Input::new(alloc, script.as_slice());
+    let mut input = script.as_slice();
     let (mut output, mut errors) = (Vec::new(alloc), Vec::new(alloc));
+    let mut device = Device::new(&mut output);
     let status = file_tool(
         alloc,
         rt,
         command.words,
         &mut input,
-        &mut output,
+        &mut device,
         &mut errors,
     );
     if let Some(file) = &command.output {

@@ -18,3 +18,4 @@ pub mod FewEvents
 pub mod PendingWatches
 pub mod ToldOnce
 pub mod RowsNotify
+pub mod LongerTexts

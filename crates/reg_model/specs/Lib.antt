@@ -5,3 +5,4 @@ pub mod Replies
 pub mod Callbacks
 pub mod Histories
 pub mod Calls
+pub mod Internal

@@ -14,6 +14,7 @@
 mod answer;
 mod bytes;
 mod call;
+pub mod dispositions;
 pub mod filters;
 pub mod laws;
 pub mod limits;

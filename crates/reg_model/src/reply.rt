@@ -1,6 +1,8 @@
 ghost use Rattle.std.specs.Prelude.{◌≡◌, IfOk};
+ghost use Rattle.reg_model.specs.Calls.{changes_keys, was_there as was_there_of};
 
 use crate::Change;
+use crate::dispositions::THERE;
 use std::alloc::{AllocError, Global};
 
 /// The reply to a change. A refused one has no number, no handle and no disposition.
@@ -41,5 +43,35 @@ impl Entry {
             change: self.change.try_clone(alloc)?,
             reply: self.reply,
         })
+    }
+
+    /// Whether the change may have changed keys. One that opens, watches or closes hasn't, nor has a CreateKey that made no key: the
+    /// hive's bins are as they were before it.
+    #[tactic(auto, unfolding(crate::specs::Calls::changes_keys))]
+    pub fn changes_keys(&self) -> bool
+        ensures { result ≡ changes_keys self.now.change self.now.reply }
+    {
+        match &self.change {
+            Change::OpenRoot { .. }
+            | Change::OpenKey { .. }
+            | Change::Notify { .. }
+            | Change::Close { .. } => false,
+            Change::CreateKey { .. } => !was_there(self.reply.disposition),
+            Change::SetValue { .. }
+            | Change::DeleteValue { .. }
+            | Change::DeleteKey { .. }
+            | Change::DeleteTree { .. }
+            | Change::SetSecurity { .. } => true,
+        }
+    }
+}
+
+/// Whether a CreateKey told that its key was there already.
+fn was_there(disposition: Option<u32>) -> bool
+    ensures { result ≡ was_there_of disposition }
+{
+    match disposition {
+        Some(disposition) => disposition == THERE,
+        None => false,
     }
 }

@@ -8,7 +8,8 @@ use Rattle.reg_notify.specs.Asked.{watch_in, Adds}
 use Rattle.reg_notify.specs.declared.asked.Registration.{Registration}
 use Rattle.reg_notify.specs.declared.table.Row.{Row}
 use Rattle.reg_notify.specs.declared.table.Table.{Table}
-use Rattle.reg_notify.specs.Internal.Indexes.{number_at, UpdatesText}
+use Rattle.reg_notify.specs.Internal.Indexes.{UpdatesText}
+use Rattle.reg_model.specs.Internal.TextNumbers.{number_at}
 use Rattle.reg_notify.specs.Internal.Keys.{handle_text, key_text, class_of, lead_of}
 use Rattle.reg_notify.specs.Internal.Marks.{is_marked}
 use Rattle.reg_notify.specs.Internal.Queues.{told_at, taken_at, room_at, pending_at}

@@ -9,13 +9,13 @@ use Rattle.reg_model.specs.Worlds.{same_path}
 use Rattle.reg_model.specs.declared.notice.Reason.TheVariants.{Matched}
 use Rattle.reg_notify.specs.declared.table.Row.{Row}
 use Rattle.reg_notify.specs.declared.table.Table.{Table}
-use Rattle.reg_notify.specs.Internal.Indexes.{goes_on, number_at}
+use Rattle.reg_model.specs.Internal.TextNumbers.{goes_on, number_at}
 use Rattle.reg_notify.specs.Internal.Keys.{lead_of, IsClean, class_of, is_met}
 use Rattle.reg_notify.specs.Internal.Rows.{row_at, IsRow, place_of}
 use Rattle.reg_notify.specs.Internal.Hits.{of_class, any_class}
 use Rattle.reg_notify.specs.Internal.Firing.{if_passes}
 use Rattle.reg_notify.specs.Internal.States.{IsReady, Ends}
-use Rattle.reg_notify.proofs.LongerTexts.{goes_on-rest, goes_on-append}
+use Rattle.reg_model.proofs.LongerTexts.{goes_on-rest, goes_on-append}
 use Rattle.reg_notify.proofs.KeyTexts.{at-class}
 use Rattle.reg_notify.proofs.TableSteps.{all-at}
 use Rattle.reg_notify.proofs.EndsSteps.{each, ends-or, ends-test, ends-never}

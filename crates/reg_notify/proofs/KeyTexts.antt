@@ -14,9 +14,9 @@ use Rattle.reg_heap.proofs.ChildrenOfPath.{path-is}
 use Rattle.reg_heap.proofs.DeletedTrees.{under-rest, under-append}
 use Rattle.reg_model.specs.Worlds.{same_path}
 use Rattle.reg_model.proofs.HandleInvariant.{same-self}
-use Rattle.reg_notify.specs.Internal.Indexes.{goes_on}
+use Rattle.reg_model.specs.Internal.TextNumbers.{goes_on}
 use Rattle.reg_notify.specs.Internal.Keys.{lead_of, IsClean, key_text, handle_text}
-use Rattle.reg_notify.proofs.LongerTexts.{goes_on-rest, goes_on-append}
+use Rattle.reg_model.proofs.LongerTexts.{goes_on-rest, goes_on-append}
 
 -- ---- a path as text
 

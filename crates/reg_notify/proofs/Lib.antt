@@ -1,5 +1,4 @@
 pub mod MarkedTexts
-pub mod LongerTexts
 pub mod TextKeys
 pub mod KeyTexts
 pub mod PlaceTexts

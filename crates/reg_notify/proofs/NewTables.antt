@@ -5,7 +5,7 @@ use Rattle.std.specs.List.Sorted.{IsStrictlySortedBy}
 use Rattle.reg_model.specs.declared.limits.TheConstants.{SESSIONS_LIMIT}
 use Rattle.reg_notify.specs.declared.table.Row.{Row}
 use Rattle.reg_notify.specs.declared.table.Table.{Table}
-use Rattle.reg_notify.specs.Internal.Indexes.{number_at}
+use Rattle.reg_model.specs.Internal.TextNumbers.{number_at}
 use Rattle.reg_notify.specs.Internal.Marks.{AreMarked}
 use Rattle.reg_notify.specs.Internal.Queues.{told_at, room_at, pending_at}
 use Rattle.reg_notify.specs.Internal.Rows.{rows_of, IsIndex, IsTable}

@@ -18,7 +18,7 @@ use Rattle.reg_notify.specs.declared.asked.Removed.{Removed}
 use Rattle.reg_notify.specs.declared.table.Row.{Row}
 use Rattle.reg_notify.specs.Internal.Firing.{if_passes, then_why, first_of}
 use Rattle.reg_notify.specs.Internal.Hits.{is_event_hit, any_event, is_gone}
-use Rattle.reg_notify.specs.Internal.Indexes.{goes_on}
+use Rattle.reg_model.specs.Internal.TextNumbers.{goes_on}
 use Rattle.reg_notify.specs.Internal.Keys.{class_of, is_met}
 use Rattle.reg_notify.specs.Internal.Rows.{watch_at, holder_of, IsRow}
 use Rattle.reg_notify.proofs.KeyTexts.{of-handle}

@@ -16,7 +16,7 @@ use Rattle.reg_model.proofs.HandleInvariant.{same-self}
 use Rattle.reg_notify.specs.declared.table.Row.{Row}
 use Rattle.reg_notify.specs.declared.table.Table.{Table}
 use Rattle.reg_notify.specs.declared.asked.Event.{Event}
-use Rattle.reg_notify.specs.Internal.Indexes.{goes_on}
+use Rattle.reg_model.specs.Internal.TextNumbers.{goes_on}
 use Rattle.reg_notify.specs.Internal.Keys.{lead_of, IsClean, class_of}
 use Rattle.reg_notify.specs.Internal.Rows.{IsRow, place_of}
 use Rattle.reg_notify.specs.Internal.Hits.{is_event_hit, any_event}

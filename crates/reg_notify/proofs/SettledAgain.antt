@@ -9,7 +9,7 @@ use Rattle.reg_notify.specs.declared.queues.Queue.{Queue}
 use Rattle.reg_notify.specs.declared.queues.Sent.{Sent}
 use Rattle.reg_notify.specs.declared.table.Table.{Table}
 use Rattle.reg_notify.specs.Internal.Firing.{sent_to, notices_to, AreInOrder}
-use Rattle.reg_notify.specs.Internal.Indexes.{number_at}
+use Rattle.reg_model.specs.Internal.TextNumbers.{number_at}
 use Rattle.reg_notify.specs.Internal.Marks.{AreMarked}
 use Rattle.reg_notify.specs.Internal.Queues.{told_at, room_at, pending_at}
 use Rattle.reg_notify.specs.Internal.Rows.{IsTable, rows_of}

@@ -12,7 +12,7 @@ use Rattle.reg_model.specs.declared.notice.Reason.{Reason}
 use Rattle.reg_notify.specs.declared.table.Row.{Row}
 use Rattle.reg_notify.specs.declared.table.Table.{Table}
 use Rattle.reg_notify.specs.declared.queues.Sent.{Sent}
-use Rattle.reg_notify.specs.Internal.Indexes.{goes_on}
+use Rattle.reg_model.specs.Internal.TextNumbers.{goes_on}
 use Rattle.reg_notify.specs.Internal.Rows.{row_at, IsIndex}
 use Rattle.reg_notify.specs.Internal.Firing.{if_passes, AreEnded}
 use Rattle.reg_notify.specs.Internal.States.{IsGone}

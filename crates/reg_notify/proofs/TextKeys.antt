@@ -14,7 +14,8 @@ use Rattle.reg_names.specs.Names.{path_of, text_of}
 use Rattle.reg_heap.specs.Paths.{path_cmp}
 use Rattle.reg_heap.proofs.ChildrenOfPath.{path-is}
 use Rattle.reg_model.specs.Worlds.{same_path}
-use Rattle.reg_notify.specs.Internal.Indexes.{number_at, UpdatesText}
+use Rattle.reg_notify.specs.Internal.Indexes.{UpdatesText}
+use Rattle.reg_model.specs.Internal.TextNumbers.{number_at}
 
 -- ---- keys
 

@@ -3,7 +3,8 @@ ghost use Rattle.std.specs.Prelude.{◌≡◌, ◌+◌, ◌<◌, ◌≤◌, ◌+
 ghost use Rattle.reg_model.specs.declared.limits.TheConstants.{SESSIONS_LIMIT, WATCHES_LIMIT};
 ghost use Rattle.reg_model.specs.Causes.{watches_of};
 ghost use Rattle.reg_notify.specs.Asked.{watch_in, Adds};
-ghost use Rattle.reg_notify.specs.Internal.Indexes.{number_at, UpdatesText};
+ghost use Rattle.reg_notify.specs.Internal.Indexes.{UpdatesText};
+ghost use Rattle.reg_model.specs.Internal.TextNumbers.{number_at};
 ghost use Rattle.reg_notify.specs.Internal.Keys.{class_of, handle_text, key_text, IsClean};
 ghost use Rattle.reg_notify.specs.Internal.Marks.{is_marked};
 ghost use Rattle.reg_notify.specs.Internal.Queues.{told_at, taken_at, room_at, pending_at};

@@ -3,7 +3,8 @@ ghost use Rattle.std.specs.Prelude.{◌≡◌, ◌<◌, ℕ, List, None, Some, O
 ghost use Rattle.std.specs.BTreeMap.{btree_map_len};
 ghost use Rattle.std.specs.List.{starts_with};
 ghost use Rattle.std.specs.Prelude.{nat_eq};
-ghost use Rattle.reg_notify.specs.Internal.Indexes.{number_at, goes_on, UpdatesText};
+ghost use Rattle.reg_notify.specs.Internal.Indexes.{UpdatesText};
+ghost use Rattle.reg_model.specs.Internal.TextNumbers.{number_at, goes_on};
 
 use std::alloc::{AllocError, Global};
 use std::collections::BTreeMap;

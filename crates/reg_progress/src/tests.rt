@@ -46,7 +46,7 @@ fn told(alloc: Global, work: &Work, is_mixed: bool) -> Vec<u8> {
     errors
 }
 
-/// The same of one that wrote some bytes.
+/// What is told of a piece of work that wrote some bytes.
 fn told_behind(alloc: Global, written: &[u8], is_mixed: bool) -> Vec<u8> {
     let work = Work::new();
     let mut output = Vec::new(alloc);

@@ -6,7 +6,6 @@ pub mod KeyValueCodec
 pub mod BigDataCodec
 pub mod KeyNodeCodec
 pub mod KeyNodeFieldWrites
-pub mod KeyNodeSubkeyWrites
 pub mod OffsetRowCodec
 pub mod PlainRecords
 pub mod SubkeyListReading

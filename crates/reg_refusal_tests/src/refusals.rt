@@ -1,13 +1,14 @@
 //! A host that refuses a step: whatever that is, the file is as it was, and nothing is left beside it.
 ghost use Rattle.std.specs.Prelude.{◌≤◌, IfOk};
 
-use crate::support::{assert_told, tale, tale_in};
-use reg_file_deeds::Deed::{Block, Edit, Keep, Names, Run, Same};
-use reg_file_deeds::new_folder;
+use crate::support::{report, report_in};
 use reg_files::Lockable;
+use reg_test_support::Action::{Block, Edit, Keep, Mode, Names, Permit, Run, Same};
+use reg_test_support::{assert_report, is_root, new_folder};
 use std::alloc::{AllocError, Allocator, Global};
 use std::fs::{File, Metadata, OpenFile, OpenOptions, Permissions, TryLockError};
 use std::io::{ErrorKind, Read, Seek, SeekFrom, Write};
+use std::os::unix::fs::{MetadataExt, chown};
 use std::path::PathBuf;
 use std::rt::{Clock, Files};
 use std::test::Fail;
@@ -21,6 +22,10 @@ enum Refused {
     Clock,
     Create,
     Permit,
+    /// To give a file to another owner.
+    Owner,
+    /// To give a file to another owner or to another group.
+    Group,
     /// Writes past so many bytes.
     Write(usize),
     Sync,
@@ -190,6 +195,18 @@ impl Files for Refusing<'_> {
         self.rt.copy(from, to)
     }
 
+    fn lchown(&self, path: &str, uid: Option<u32>, gid: Option<u32>) -> io::Result<()> {
+        let is_refused = match self.refused {
+            Refused::Owner => uid.is_some(),
+            Refused::Group => true,
+            _ => false,
+        };
+        if is_refused {
+            return Err(ErrorKind::PermissionDenied.into());
+        }
+        self.rt.lchown(path, uid, gid)
+    }
+
     fn rename(&self, from: &str, to: &str) -> io::Result<()> {
         if self.refused == Refused::Rename {
             return Err(refusal());
@@ -225,22 +242,22 @@ const SCRIPT: &str = "root 983103\ncreate 0 =A 983103\n";
 
 const TEXT: &str = "Windows Registry Editor Version 5.00\n[ROOT\\A]\n";
 
-/// What an edit with `--now` under a refusal tells, whether the file is as it was, and what is in its folder.
+/// What an edit at the clock's moment under a refusal reports, whether the file is as it was, and what is in its folder.
 fn edited(rt: &HostRuntime, refused: Refused) -> Result<String, Fail> {
     let folder = new_folder(rt)?;
-    tale_in(rt, rt, folder.as_str(), &[Run("regtool new @/a")])?;
-    let deeds = [
+    report_in(rt, rt, folder.as_str(), &[Run("regtool new @/a")])?;
+    let actions = [
         Keep("a"),
-        Edit("regtool edit @/a --now", SCRIPT),
+        Edit("regtool edit @/a", SCRIPT),
         Same("a"),
         Names,
     ];
-    let told = tale_in(rt, &Refusing { rt, refused }, folder.as_str(), &deeds)?;
+    let report = report_in(rt, &Refusing { rt, refused }, folder.as_str(), &actions)?;
     fs::remove_dir_all(rt, folder.as_str())?;
-    Ok(told)
+    Ok(report)
 }
 
-/// Before the script nothing is told of it.
+/// What is refused before the script leaves it unread: there is no reply.
 #[test]
 fn leaves_the_file_before_the_script(rt: HostRuntime) -> Result<(), Fail> {
     let rows = [
@@ -259,12 +276,12 @@ fn leaves_the_file_before_the_script(rt: HostRuntime) -> Result<(), Fail> {
         ),
     ];
     for (refused, wanted) in rows {
-        assert_told(&rt, edited(&rt, refused), wanted)?;
+        assert_report(edited(&rt, refused), wanted)?;
     }
     Ok(())
 }
 
-/// What an edit tells whose file is not saved, since this step was refused.
+/// What an edit reports whose file is not saved, since this step was refused.
 fn unsaved(alloc: Global, step: &str) -> Result<String, AllocError> {
     format!(in alloc;
         "1;error {step} @/a: no storage space\n;0 handle 0\n0 handle 1 disposition 1\n|same true|a |"
@@ -281,29 +298,33 @@ fn leaves_the_file_whatever_is_refused(rt: HostRuntime) -> Result<(), Fail> {
     ];
     for (refused, step) in rows {
         let wanted = unsaved(rt.alloc(), step)?;
-        assert_told(&rt, edited(&rt, refused), wanted.as_str())?;
+        assert_report(edited(&rt, refused), wanted.as_str())?;
     }
     Ok(())
 }
 
-/// What an import under a refusal tells, whether the file is as it was, and what is in its folder.
+/// What an import under a refusal reports, whether the file is as it was, and what is in its folder.
 fn imported(rt: &HostRuntime, refused: Refused) -> Result<String, Fail> {
     let folder = new_folder(rt)?;
-    tale_in(rt, rt, folder.as_str(), &[Run("regtool new @/a")])?;
-    let deeds = [
+    report_in(rt, rt, folder.as_str(), &[Run("regtool new @/a")])?;
+    let actions = [
         Keep("a"),
         Edit("regtool import @/a", TEXT),
         Same("a"),
         Names,
     ];
-    let told = tale_in(rt, &Refusing { rt, refused }, folder.as_str(), &deeds)?;
+    let report = report_in(rt, &Refusing { rt, refused }, folder.as_str(), &actions)?;
     fs::remove_dir_all(rt, folder.as_str())?;
-    Ok(told)
+    Ok(report)
 }
 
 #[test]
 fn leaves_the_file_of_an_import(rt: HostRuntime) -> Result<(), Fail> {
     let rows = [
+        (Refused::Clock, "clock"),
+        (Refused::Read(0), "read"),
+        (Refused::Create, "create"),
+        (Refused::Permit, "permit"),
         (Refused::Write(0), "write"),
         (Refused::Write(8191), "write"),
         (Refused::Sync, "sync"),
@@ -313,7 +334,7 @@ fn leaves_the_file_of_an_import(rt: HostRuntime) -> Result<(), Fail> {
         let wanted = format!(in rt.alloc();
             "1;error {step} @/a: no storage space\n;|same true|a |"
         )?;
-        assert_told(&rt, imported(&rt, refused), wanted.as_str())?;
+        assert_report(imported(&rt, refused), wanted.as_str())?;
     }
     Ok(())
 }
@@ -324,24 +345,24 @@ fn leaves_the_file_after_each_write(rt: HostRuntime) -> Result<(), Fail> {
     let wanted = unsaved(rt.alloc(), "write")?;
     for piece in 0..16 {
         let refused = Refused::Write(512 * piece);
-        assert_told(&rt, edited(&rt, refused), wanted.as_str())?;
+        assert_report(edited(&rt, refused), wanted.as_str())?;
     }
-    assert_told(&rt, edited(&rt, Refused::Write(8191)), wanted.as_str())
+    assert_report(edited(&rt, Refused::Write(8191)), wanted.as_str())
 }
 
 /// Where the new file takes its place, the old one's lock is still held.
 #[test]
 fn holds_the_lock_until_the_rename(rt: HostRuntime) -> Result<(), Fail> {
     let wanted = "0;;0 handle 0\n0 handle 1 disposition 1\n|same false|a |";
-    assert_told(&rt, edited(&rt, Refused::Unlocked), wanted)
+    assert_report(edited(&rt, Refused::Unlocked), wanted)
 }
 
 /// The new file took its place, and may be lost where the machine stops.
 #[test]
-fn tells_a_folder_that_is_not_synced(rt: HostRuntime) -> Result<(), Fail> {
+fn reports_a_folder_that_is_not_synced(rt: HostRuntime) -> Result<(), Fail> {
     let wanted = "1;error sync folder of @/a: no storage space\n;\
         0 handle 0\n0 handle 1 disposition 1\n|same false|a |";
-    assert_told(&rt, edited(&rt, Refused::Folder), wanted)
+    assert_report(edited(&rt, Refused::Folder), wanted)
 }
 
 /// A new file that can't be written is taken away.
@@ -358,11 +379,7 @@ fn leaves_no_part_of_a_new_file(rt: HostRuntime) -> Result<(), Fail> {
     ];
     for (refused, wanted) in rows {
         let host = Refusing { rt: &rt, refused };
-        assert_told(
-            &rt,
-            tale(&rt, &host, &[Run("regtool new @/a"), Names]),
-            wanted,
-        )?;
+        assert_report(report(&rt, &host, &[Run("regtool new @/a"), Names]), wanted)?;
     }
     Ok(())
 }
@@ -374,11 +391,88 @@ fn takes_the_moment_of_the_clock(rt: HostRuntime) -> Result<(), Fail> {
         rt: &rt,
         refused: Refused::Nothing,
     };
-    let deeds = [
+    let actions = [
         Run("regtool new @/a"),
-        Edit("regtool edit @/a --now", SCRIPT),
+        Edit("regtool edit @/a", SCRIPT),
+        Block("a"),
+        Edit("regtool import @/a", TEXT),
+        Block("a"),
+        Edit(
+            "regtool edit @/a --at 7",
+            "root 983103\ncreate 0 =B 983103\n",
+        ),
+        Block("a"),
+        Edit(
+            "regtool edit @/a --now",
+            "root 983103\ncreate 0 =C 983103\n",
+        ),
         Block("a"),
     ];
-    let wanted = "0;;|0;;0 handle 0\n0 handle 1 disposition 1\n|2 2 116444736000000000|";
-    assert_told(&rt, tale(&rt, &host, &deeds), wanted)
+    let replies = "0;;0 handle 0\n0 handle 1 disposition 1\n|";
+    let wanted = format!(in rt.alloc();
+        "0;;|{replies}2 2 116444736000000000|0;;|2 2 116444736000000000|\
+         {replies}3 3 7|{replies}4 4 116444736000000000|"
+    )?;
+    assert_report(report(&rt, &host, &actions), wanted.as_str())
+}
+
+/// Where the moment is given, the clock isn't asked.
+#[test]
+fn asks_no_clock_where_a_moment_is_given(rt: HostRuntime) -> Result<(), Fail> {
+    let host = Refusing {
+        rt: &rt,
+        refused: Refused::Clock,
+    };
+    let actions = [
+        Run("regtool new @/a"),
+        Edit("regtool edit @/a --at 7", SCRIPT),
+        Block("a"),
+        Edit(
+            "regtool import @/a --at 8",
+            "Windows Registry Editor Version 5.00\n[ROOT\\B]\n",
+        ),
+        Block("a"),
+    ];
+    let wanted = "0;;|0;;0 handle 0\n0 handle 1 disposition 1\n|2 2 7|0;;|3 3 8|";
+    assert_report(report(&rt, &host, &actions), wanted)
+}
+
+/// What an edit reports of a new hive `a` of another owner under a refusal, and whose the saved file is.
+fn edited_of_another(rt: &HostRuntime, refused: Refused) -> Result<String, Fail> {
+    let folder = new_folder(rt)?;
+    let path = format!(in rt.alloc(); "{}/a", folder.as_str())?;
+    let before = [Run("regtool new @/a"), Permit("a", 0o640)];
+    report_in(rt, rt, folder.as_str(), &before)?;
+    chown(rt, path.as_str(), Some(1234), Some(2345))?;
+    let actions = [
+        Edit("regtool edit @/a --at 7", SCRIPT),
+        Block("a"),
+        Mode("a"),
+        Names,
+    ];
+    let mut report = report_in(rt, &Refusing { rt, refused }, folder.as_str(), &actions)?;
+    let saved = fs::metadata(rt, path.as_str())?;
+    write!(report, "owner {} group {}", saved.uid(), saved.gid())?;
+    fs::remove_dir_all(rt, folder.as_str())?;
+    Ok(report)
+}
+
+/// Where the system refuses to give a file away, it is saved all the same, and its group is kept if that alone is let; if it isn't, no
+/// other group gets its rights. Only root has files of others to begin with.
+#[test]
+fn saves_where_no_owner_is_given(rt: HostRuntime) -> Result<(), Fail> {
+    if !is_root(&rt)? {
+        return Ok(());
+    }
+    let saved = "0;;0 handle 0\n0 handle 1 disposition 1\n|2 2 7|mode";
+    let rows = [
+        (Refused::Nothing, "640|a |owner 1234 group 2345"),
+        (Refused::Owner, "640|a |owner 0 group 2345"),
+        (Refused::Group, "600|a |owner 0 group 0"),
+    ];
+    for (refused, owner) in rows {
+        let wanted = format!(in rt.alloc(); "{saved} {owner}")?;
+        assert_report(edited_of_another(&rt, refused), wanted.as_str())?;
+    }
+    Ok(())
 }

@@ -1,18 +1,10 @@
-//! What the tests share: a comparison, and deeds by the tool on files.
-use reg_file_deeds::{Deed, Tool};
-use reg_files::{Input, Lockable, file_tool};
+//! What the tests share: actions by the tool on files.
+use reg_files::{Device, Lockable, file_tool};
+use reg_test_support::{Action, Tool};
 use std::alloc::Global;
 use std::io::Write;
-use std::process::Abort;
 use std::rt::{Clock, Files};
 use std::test::Fail;
-
-/// Stops where what was told isn't what was wanted.
-pub fn assert_told(rt: &impl Abort, told: Result<String, Fail>, wanted: &str) -> Result<(), Fail> {
-    let text = told?;
-    assert_eq!(rt; text.as_str(), wanted);
-    Ok(())
-}
 
 /// The tool on the files of a host.
 #[derive(Drop)]
@@ -32,32 +24,33 @@ where
         output: &mut W,
         errors: &mut Vec<u8>,
     ) -> u8 {
-        let mut input = Input::new(alloc, input.as_bytes());
-        file_tool(alloc, self.host, words, &mut input, output, errors)
+        let mut input = input.as_bytes();
+        let mut output = Device::new(output);
+        file_tool(alloc, self.host, words, &mut input, &mut output, errors)
     }
 }
 
-/// What deeds in a folder tell, `|` behind each that tells something.
-pub fn tale_in<H: Files + Clock>(
+/// What actions in a folder report, `|` behind each that reports something.
+pub fn report_in<H: Files + Clock>(
     rt: &HostRuntime,
     host: &H,
     folder: &str,
-    deeds: &[Deed<'_>],
+    actions: &[Action<'_>],
 ) -> Result<String, Fail>
 where
     H::File: Lockable,
 {
-    reg_file_deeds::tale_in(rt, &FileTool { host }, folder, deeds)
+    reg_test_support::report_in(rt, &FileTool { host }, folder, actions)
 }
 
-/// What deeds in a new folder tell, which is taken away then.
-pub fn tale<H: Files + Clock>(
+/// What actions in a new folder report, which is taken away then.
+pub fn report<H: Files + Clock>(
     rt: &HostRuntime,
     host: &H,
-    deeds: &[Deed<'_>],
+    actions: &[Action<'_>],
 ) -> Result<String, Fail>
 where
     H::File: Lockable,
 {
-    reg_file_deeds::tale(rt, &FileTool { host }, deeds)
+    reg_test_support::report(rt, &FileTool { host }, actions)
 }

@@ -6,7 +6,7 @@ use crate::hives::{Subject, dumped, fresh_hive, grow};
 use crate::names::Characters;
 use crate::plan::{PlannedKey, plan_of_seed};
 use anyhow::Result;
-use reg_entries::{ExportFault, export};
+use reg_dotreg_writer::{ExportFault, export};
 use reg_text::write_escaped;
 use std::alloc::{AllocError, Global};
 use std::fmt;

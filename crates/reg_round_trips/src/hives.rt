@@ -3,12 +3,13 @@
 //! Whoever owns a hive hands it on to functions over any [`Subject`], which are checked without all that a hive is made of.
 use crate::plan::{PlannedKey, PlannedValue};
 use anyhow::{Result, bail};
-use reg_dump::dump;
-use reg_entries::export;
-use reg_entry_reader::{Numbered, read_entries, units_in};
-use reg_import::{ImportFault, import};
+use reg_dotreg_import::{ImportFault, import};
+use reg_dotreg_reader::{Numbered, read_entries, units_in};
+use reg_dotreg_writer::export;
+use reg_fixtures::{PlainHive, Registry};
 use reg_model::{Bytes, Change};
-use reg_registry::{PlainHive, Registry};
+use reg_script::FRESH_DESCRIPTOR;
+use reg_tree_text::dump;
 use std::alloc::Global;
 
 /// The one moment, so that the times of two hives are the same where their keys are.
@@ -16,9 +17,6 @@ const MOMENT: u64 = 7;
 
 /// Every right.
 const ALL_RIGHTS: u32 = 983_103;
-
-/// The descriptor of each root: 20 bytes.
-const DESCRIPTOR: [u8; 20] = [1, 0, 4, 128, 0, 0, 0, 0, 0, 0, 0, 0, 0, 0, 0, 0, 0, 0, 0, 0];
 
 /// What is changed, imported into and exported here: a hive.
 pub trait Subject: Registry {
@@ -34,7 +32,7 @@ impl Subject for PlainHive {
 
 /// A hive of one root with that name.
 pub fn fresh_hive<H: Subject>(alloc: Global, root: &[u8]) -> Result<H> {
-    Ok(H::fresh(alloc, root, &DESCRIPTOR, MOMENT)?)
+    Ok(H::fresh(alloc, root, &FRESH_DESCRIPTOR, MOMENT)?)
 }
 
 /// Makes a change, and answers the handle that it opened, or 0. A refusal is an error.

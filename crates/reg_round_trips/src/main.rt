@@ -1,12 +1,11 @@
 //! Random trees, exported as .reg texts in both encodings and imported again.
 //!
 //! It prints counts, which are the same on each run, and the seed of each tree that didn't come through. That an import of an export
-//! makes the tree again is a law that reg_entry_law proves of the definitions; here the program is run, on names and data of every
+//! makes the tree again is a law that reg_dotreg_law proves of the definitions; here the program is run, on names and data of every
 //! kind. It has no contract of its own.
 #![tactic(auto)]
 
 mod breaks;
-mod chance;
 mod hives;
 mod names;
 mod plan;
@@ -17,7 +16,7 @@ use crate::breaks::{Refusal, Refusals, refusal_of_seed};
 use crate::hives::Subject;
 use crate::trips::{Tally, trip_of_seed};
 use anyhow::Result;
-use reg_registry::PlainHive;
+use reg_fixtures::PlainHive;
 use std::alloc::Global;
 
 /// How many trees are tried of each sort.

@@ -1,5 +1,5 @@
 //! Names of keys and of values, of all characters that these may have.
-use crate::chance::Chance;
+use reg_workload::Chance;
 use std::alloc::{AllocError, Global};
 
 /// Characters that mean something in a .reg text, or stand at an end of what a name may have.

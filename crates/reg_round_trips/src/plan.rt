@@ -1,7 +1,7 @@
 //! Trees to be made: which keys, with which values.
-use crate::chance::Chance;
 use crate::names::{Characters, key_name, value_name};
 use crate::values::{data, kind};
+use reg_workload::Chance;
 use std::alloc::{AllocError, Global};
 
 /// How many keys below the root a tree has at most.

@@ -6,14 +6,14 @@ use crate::hives::{Subject, dumped, exported, fresh_hive, grow, read_into};
 use crate::names::Characters;
 use crate::plan::{Plan, PlannedKey, plan_of_seed};
 use anyhow::Result;
-use reg_dump::{Counts, count};
 use reg_tables::{export_csv, export_json};
+use reg_tree_text::{Counts, count};
 use std::alloc::Global;
 use std::fmt;
 
-/// What is told of a hive that was made by calls.
+/// A hive that was made by calls, as it is written.
 #[derive(Drop)]
-struct Told {
+struct Exports {
     counts: Counts,
     dump: Vec<u8>,
     /// Its files, in UTF-8 and in UTF-16.
@@ -35,14 +35,14 @@ fn is_in_tables<H: Subject>(alloc: Global, hive: &H) -> bool {
     is_json && is_csv && !json.is_empty() && !csv.is_empty()
 }
 
-/// Makes the keys of a plan in a hive, and tells of it.
-fn tell<H: Subject>(
+/// Makes the keys of a plan in a hive, and writes it in each form.
+fn export_all<H: Subject>(
     alloc: Global,
     hive: &mut H,
     root: &[u8],
     branch: &[u8],
     keys: Vec<PlannedKey>,
-) -> Result<Told> {
+) -> Result<Exports> {
     grow(hive, keys)?;
     let dump = dumped(alloc, hive)?;
     let narrow = exported(alloc, hive, b"", true)?;
@@ -52,7 +52,7 @@ fn tell<H: Subject>(
     let counts = count(alloc, hive.tree())?;
     read_into(alloc, hive, root, &narrow)?;
     let is_kept = dumped(alloc, hive)?.as_slice() == dump.as_slice();
-    Ok(Told {
+    Ok(Exports {
         counts,
         dump,
         narrow,
@@ -63,19 +63,19 @@ fn tell<H: Subject>(
     })
 }
 
-/// What is told of the hive of a plan.
-fn told_of<H: Subject>(
+/// The hive of a plan, as it is written.
+fn exports_of<H: Subject>(
     alloc: Global,
     root: &[u8],
     branch: &[u8],
     keys: Vec<PlannedKey>,
-) -> Result<Told> {
+) -> Result<Exports> {
     let mut hive: H = fresh_hive(alloc, root)?;
-    tell(alloc, &mut hive, root, branch, keys)
+    export_all(alloc, &mut hive, root, branch, keys)
 }
 
-/// Reads a file into a hive, and tells its dump and the file of a key of it, in UTF-16.
-fn tell_again<H: Subject>(
+/// Reads a file into a hive, and writes its dump and the file of a key of it, in UTF-16.
+fn export_again<H: Subject>(
     alloc: Global,
     hive: &mut H,
     root: &[u8],
@@ -86,32 +86,37 @@ fn tell_again<H: Subject>(
     Ok((dumped(alloc, hive)?, exported(alloc, hive, branch, false)?))
 }
 
-/// What is told of a hive into which a file was read.
-fn told_again<H: Subject>(
+/// A hive into which a file was read: its dump and the file of a key of it, in UTF-16.
+fn exported_again<H: Subject>(
     alloc: Global,
     root: &[u8],
     file: &[u8],
     branch: &[u8],
 ) -> Result<(Vec<u8>, Vec<u8>)> {
     let mut hive: H = fresh_hive(alloc, root)?;
-    tell_again(alloc, &mut hive, root, file, branch)
+    export_again(alloc, &mut hive, root, file, branch)
 }
 
 /// Whether a file makes a hive again, by its dump and its second file.
-fn is_made_again<H: Subject>(alloc: Global, root: &[u8], told: &Told, file: &[u8]) -> Result<bool> {
-    let (dump, wide) = told_again::<H>(alloc, root, file, b"")?;
-    Ok(dump.as_slice() == told.dump.as_slice() && wide.as_slice() == told.wide.as_slice())
+fn is_made_again<H: Subject>(
+    alloc: Global,
+    root: &[u8],
+    exports: &Exports,
+    file: &[u8],
+) -> Result<bool> {
+    let (dump, wide) = exported_again::<H>(alloc, root, file, b"")?;
+    Ok(dump.as_slice() == exports.dump.as_slice() && wide.as_slice() == exports.wide.as_slice())
 }
 
 /// Whether the file of a key makes that key again, by its second file.
 fn is_branch_made_again<H: Subject>(
     alloc: Global,
     root: &[u8],
-    told: &Told,
+    exports: &Exports,
     branch: &[u8],
 ) -> Result<bool> {
-    let (_, file) = told_again::<H>(alloc, root, &told.branch, branch)?;
-    Ok(file.as_slice() == told.branch.as_slice())
+    let (_, file) = exported_again::<H>(alloc, root, &exports.branch, branch)?;
+    Ok(file.as_slice() == exports.branch.as_slice())
 }
 
 /// What became of a tree.
@@ -140,14 +145,14 @@ impl Trip {
 /// What becomes of the tree of a seed.
 pub fn trip_of_seed<H: Subject>(alloc: Global, seed: u64) -> Result<Trip> {
     let Plan { root, keys, branch } = plan_of_seed(alloc, seed, Characters::Writable)?;
-    let told = told_of::<H>(alloc, &root, &branch, keys)?;
+    let exports = exports_of::<H>(alloc, &root, &branch, keys)?;
     Ok(Trip {
-        counts: told.counts,
-        is_of_narrow: is_made_again::<H>(alloc, &root, &told, &told.narrow)?,
-        is_of_wide: is_made_again::<H>(alloc, &root, &told, &told.wide)?,
-        is_of_branch: is_branch_made_again::<H>(alloc, &root, &told, &branch)?,
-        is_kept: told.is_kept,
-        is_in_tables: told.is_in_tables,
+        counts: exports.counts,
+        is_of_narrow: is_made_again::<H>(alloc, &root, &exports, &exports.narrow)?,
+        is_of_wide: is_made_again::<H>(alloc, &root, &exports, &exports.wide)?,
+        is_of_branch: is_branch_made_again::<H>(alloc, &root, &exports, &branch)?,
+        is_kept: exports.is_kept,
+        is_in_tables: exports.is_in_tables,
     })
 }
 

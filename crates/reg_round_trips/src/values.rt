@@ -1,5 +1,5 @@
 //! Types and data of values.
-use crate::chance::Chance;
+use reg_workload::Chance;
 use std::alloc::{AllocError, Global};
 
 /// Units that mean something in a .reg text or at the end of a string: a zero, CR, LF, a quote, a backslash, both halves of a pair, a

@@ -5,8 +5,10 @@ pub mod WordReadingLemmas
 pub mod LineMeaningLemmas
 pub mod FailedCalls
 pub mod ProgressLemmas
+pub mod LinesThatFail
 pub mod ScriptHalts
 pub mod ScriptEnds
+pub mod KeptKeys
 pub mod OneText
 mod RowsOfLines
 mod RowsOfScripts

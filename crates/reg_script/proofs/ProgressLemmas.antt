@@ -16,7 +16,8 @@ use Rattle.reg_script.specs.Internal.Outputs.{IsSettled}
 use Rattle.reg_model.specs.declared.reply.ChangeReply.{ChangeReply}
 use Rattle.reg_script.specs.ReplyTexts.{changed_text}
 use Rattle.reg_script.specs.Stops.{longest_line, most_lines, HasNoFeed}
-use Rattle.reg_script.specs.Internal.Progress.{Position, IsSteady, with_feeds, IsLine, Passes, Takes, Ends}
+use Rattle.reg_script.specs.FailedLines.{wants_entry, one_if, wanting}
+use Rattle.reg_script.specs.Internal.Progress.{Position, IsSteady, with_feeds, IsLine, Passes, Takes, Ends, EndsLine, EndsLast}
 
 -- ---- lines
 
@@ -70,6 +71,11 @@ said_then [] ms a b c r s h k =
 said_then (l ∷ ls) ms a b c r s h k =
     (h.0, h.1, h.2 ++ s, h.3, said_then ls ms h.0 b c h.2 s h.4 k, ap (λ (w : List ℕ). w ++ s) h.5 ∙ append_assoc h.1 h.2 s)
 
+-- how many of them want an entry
+wanting_then : (ls ms : List (List ℕ)) → wanting (ls ++ ms) ≡ wanting ls + wanting ms
+wanting_then [] ms = omega arith
+wanting_then (l ∷ ls) ms = let rest = wanting_then ls ms in omega (arith, rest)
+
 -- ---- what is gathered and sent
 
 pub appends_none : (known : Option (List ℕ)) → Appends known known []
@@ -113,6 +119,9 @@ takes_none position steady = record {
     counts = omega
         (arith, steady.count);
   };
+  fails = omega arith;
+  strict = refl;
+  spares = λ strict. refl;
 }
 
 pub takes_then : (a b c : Position) (xs ys : List ℕ) → Takes a xs b → Takes b ys c → Takes a (xs ++ ys) c
@@ -126,6 +135,9 @@ takes_then a b c xs ys h k = record {
   replies = h.replies ++ k.replies;
   said = said_then h.ended k.ended a.stand b.stand c.stand h.replies k.replies h.said k.said;
   passes = passes_then a b c h.replies k.replies h.passes k.passes;
+  fails = let more = wanting_then h.ended k.ended in omega (arith, h.fails, k.fails, more);
+  strict = k.strict ∙ h.strict;
+  spares = λ strict. k.spares (h.strict ∙ strict) ∙ h.spares strict;
 }
 
 -- a byte that is no LF joins the line that was begun
@@ -140,6 +152,7 @@ takes_byte old b line steady fewer shorter plain e =
         few = steady.few;
         one_more = λ _. fewer;
         count = steady.count;
+        few_failed = steady.few_failed;
       };
       ended = [];
       splits = refl;
@@ -154,33 +167,43 @@ takes_byte old b line steady fewer shorter plain e =
         counts = omega
             (arith, steady.count);
       };
+      fails = omega arith;
+      strict = refl;
+      spares = λ strict. refl;
     })
 
--- where a script stands once an LF has ended the line that was begun, and its reply is gathered
-abbrev pub after_line : Position → Stand → List ℕ → Position
-after_line old stand text =
-    record { stand = stand; lines = old.lines + 1; begun = []; gathered = text; sent = old.sent; written = old.written }
-
-pub takes_feed : (old : Position) (stand : Stand) (b : ℕ) (reply text : List ℕ) → b ≡ 10 → IsSteady old → old.lines < most_lines →
-    IsSaid (meaning_of old.begun) old.stand reply stand → text ≡ old.gathered ++ reply
-    → Takes old (b ∷ []) (after_line old stand text)
-takes_feed old stand b reply text is steady fewer said adds =
-    subst (λ (w : ℕ). Takes old (w ∷ []) (after_line old stand text)) (sym is) (record {
+-- an LF ends the line that was begun
+pub takes_ended : (old new : Position) (b : ℕ) → b ≡ 10 → IsSteady old → old.lines < most_lines → EndsLine old new → Takes old (b ∷ []) new
+takes_ended old new b is steady fewer h =
+    let less : old.failed < most_lines = omega (arith, steady.few_failed, fewer) in
+    let empty : length new.begun ≡ 0 = ap (λ (w : List ℕ). length w) h.begun in
+    let lines = h.lines fewer in
+    let most = h.few_failed less in
+    let fails = h.fails less in
+    subst (λ (w : ℕ). Takes old (w ∷ []) new) (sym is) (record {
       steady = record {
-        no_feed = tt;
-        short = omega arith;
-        few = omega (arith, fewer);
-        one_more = λ (some : 0 < 0). absurd
-            (omega (arith, some));
-        count = steady.count;
+        no_feed = subst (λ (w : List ℕ). HasNoFeed w) (sym h.begun) tt;
+        short = omega (arith, empty);
+        few = omega (arith, lines, fewer);
+        one_more = λ (some : 0 < length new.begun). absurd (omega (arith, some, empty));
+        count = omega (arith, h.written, steady.count);
+        few_failed = omega (arith, most, lines, steady.few_failed);
       };
       ended = old.begun ∷ [];
-      splits = sym (append-nil (old.begun ++ 10 ∷ []));
+      splits = sym (append-nil (old.begun ++ 10 ∷ [])) ∙ ap (λ (w : List ℕ). (old.begun ++ 10 ∷ []) ++ w) (sym h.begun);
       are_lines = (record { no_feed = steady.no_feed; short = steady.short }, tt);
-      counts = omega arith;
-      replies = reply;
-      said = (stand, reply, [], said, (refl, refl), sym (append-nil reply));
-      passes = record { passed = []; appends = appends_none old.sent; gathers = sym adds; counts = omega (arith, steady.count) };
+      counts = omega (arith, lines);
+      replies = h.reply;
+      said = (new.stand, h.reply, [], h.said, (refl, refl), sym (append-nil h.reply));
+      passes = record {
+        passed = [];
+        appends = subst (λ (o : Option (List ℕ)). Appends old.sent o []) (sym h.sent) (appends_none old.sent);
+        gathers = sym h.gathered;
+        counts = omega (arith, h.written, steady.count);
+      };
+      fails = omega (arith, fails);
+      strict = h.strict;
+      spares = h.spares;
     })
 
 settled : (mid new : Position) → mid.written ≤ 18446744073709551615 →
@@ -198,34 +221,6 @@ settled mid new below (inr h) = record {
   counts = h.2;
 }
 
--- then what was gathered may be sent
-pub takes_line : (old new : Position) (b : ℕ) (reply text : List ℕ) (before : ℕ) → b ≡ 10 → IsSteady old → old.lines < most_lines →
-    IsSaid (meaning_of old.begun) old.stand reply new.stand → text ≡ old.gathered ++ reply
-    → new.begun ≡ [] → new.lines ≡ old.lines + 1 → before ≡ old.written →
-    IsSettled old.sent new.sent text new.gathered before new.written → Takes old (b ∷ []) new
-takes_line old new b reply text before is steady fewer said adds cleared counts same settles =
-    let mid = after_line old new.stand text in
-    let h = takes_feed old new.stand b reply text is steady fewer said adds in
-    let p : Passes mid [] new = settled mid new steady.count
-    (subst (λ (n : ℕ). IsSettled old.sent new.sent text new.gathered n new.written) same settles) in
-    let empty : length new.begun ≡ 0 = ap (λ (w : List ℕ). length w) cleared in
-    record {
-      steady = record {
-        no_feed = subst (λ (w : List ℕ). HasNoFeed w) (sym cleared) tt;
-        short = omega (arith, empty);
-        few = omega (arith, counts, fewer);
-        one_more = λ (some : 0 < length new.begun). absurd (omega (arith, some, empty));
-        count = omega (arith, p.counts);
-      };
-      ended = h.ended;
-      splits = h.splits ∙ ap (λ (w : List ℕ). with_feeds h.ended ++ w) (sym cleared);
-      are_lines = h.are_lines;
-      counts = omega (arith, counts, h.counts);
-      replies = h.replies ++ [];
-      said = subst (λ (w : List ℕ). AreSaid h.ended old.stand w new.stand) (sym (append-nil h.replies)) h.said;
-      passes = passes_then old mid new h.replies [] h.passes p;
-    }
-
 -- what was gathered may be sent behind the bytes that were taken
 pub takes_settled : (a b : Position) (bytes gathered : List ℕ) (sent : Option (List ℕ)) (written : ℕ) → Takes a bytes b →
     IsSettled b.sent sent b.gathered gathered b.written written →
@@ -240,6 +235,7 @@ takes_settled a b bytes gathered sent written h settles =
         few = h.steady.few;
         one_more = h.steady.one_more;
         count = omega (arith, p.counts);
+        few_failed = h.steady.few_failed;
       };
       ended = h.ended;
       splits = h.splits;
@@ -248,6 +244,9 @@ takes_settled a b bytes gathered sent written h settles =
       replies = h.replies ++ [];
       said = subst (λ (w : List ℕ). AreSaid h.ended a.stand w b.stand) (sym (append-nil h.replies)) h.said;
       passes = passes_then a b c h.replies [] h.passes p;
+      fails = h.fails;
+      strict = h.strict;
+      spares = h.spares;
     }
 
 -- one more byte of some bytes
@@ -289,7 +288,7 @@ consumes_no_more a b c xs buffer n h k none =
 -- ---- the end
 
 -- the line that was begun ends with the script
-pub begun_said : (line : List ℕ) (old new : Stand) (reply : List ℕ) → 0 < length line → HasNoFeed line →
+begun_said : (line : List ℕ) (old new : Stand) (reply : List ℕ) → 0 < length line → HasNoFeed line →
     IsSaid (meaning_of line) old reply new → AreSaid (lines_of line) old reply new
 begun_said [] old new reply some no_feed said = absurd (omega arith)
 begun_said (b ∷ bs) old new reply some no_feed said =
@@ -311,30 +310,59 @@ begun_few (b ∷ bs) n no_feed few one_more =
     let one : length (lines_of (b ∷ bs)) ≡ 1 = ap (λ (ls : List (List ℕ)). length ls) (line_last b bs no_feed) in
     omega (arith, fewer, one)
 
-pub ends_at : (old mid new : Position) (script reply : List ℕ) → Takes old script mid →
-    AreSaid (lines_of mid.begun) mid.stand reply new.stand
-    → new.gathered ≡ mid.gathered ++ reply → new.sent ≡ mid.sent → new.written ≡ mid.written → Ends old script new
-ends_at old mid new script reply h said adds same counts =
+pub ends_line : (old new : Position) → 0 < length old.begun → HasNoFeed old.begun → EndsLine old new → EndsLast old new
+ends_line old new some no_feed h = record {
+  reply = h.reply;
+  said = begun_said old.begun old.stand new.stand h.reply some no_feed h.said;
+  gathered = h.gathered;
+  sent = h.sent;
+  written = h.written;
+  fails = λ few.
+      let fails = h.fails (few some) in
+      let one : wanting (lines_of old.begun) ≡ one_if (wants_entry (meaning_of old.begun)) + 0 = ap wanting (line_alone old.begun some no_feed) in
+      omega (arith, fails, one);
+  spares = h.spares;
+}
+
+-- none was begun
+pub ends_none : (old : Position) → old.begun ≡ [] → EndsLast old old
+ends_none old none = record {
+  reply = [];
+  said = subst (λ (w : List ℕ). AreSaid (lines_of w) old.stand [] old.stand) (sym none) (refl, refl);
+  gathered = sym (append-nil old.gathered);
+  sent = refl;
+  written = refl;
+  fails = λ few. let zero : wanting (lines_of old.begun) ≡ 0 = ap (λ (w : List ℕ). wanting (lines_of w)) none in omega (arith, zero);
+  spares = λ strict. refl;
+}
+
+pub ends_at : (old mid new : Position) (script : List ℕ) → Takes old script mid → EndsLast mid new → Ends old script new
+ends_at old mid new script h l =
     let lines : lines_of (old.begun ++ script) ≡ h.ended ++ lines_of mid.begun = ap lines_of h.splits ∙
     lines_fed h.ended mid.begun h.are_lines in
-    let p : Passes mid reply new = record {
+    let p : Passes mid l.reply new = record {
       passed = [];
-      appends = subst (λ (o : Option (List ℕ)). Appends mid.sent o []) (sym same) (appends_none mid.sent);
-      gathers = sym adds;
-      counts = omega (arith, counts, h.steady.count);
+      appends = subst (λ (o : Option (List ℕ)). Appends mid.sent o []) (sym l.sent) (appends_none mid.sent);
+      gathers = sym l.gathered;
+      counts = omega (arith, l.written, h.steady.count);
     } in
     let few = begun_few mid.begun mid.lines h.steady.no_feed h.steady.few h.steady.one_more in
     let many : length (lines_of (old.begun ++ script)) ≡ length h.ended + length (lines_of mid.begun) = ap
     (λ (ls : List (List ℕ)). length ls) lines ∙ length-append h.ended (lines_of mid.begun) in
+    let want : wanting (lines_of (old.begun ++ script)) ≡ wanting h.ended + wanting (lines_of mid.begun) = ap wanting lines ∙
+    wanting_then h.ended (lines_of mid.begun) in
+    let last = l.fails (λ some. let fewer = h.steady.one_more some in omega (arith, h.steady.few_failed, fewer)) in
     record {
       few = omega (arith, few, many, h.counts);
       short = subst (λ (ls : List (List ℕ)). AllByRecursion (λ (l : List ℕ). length l ≤ longest_line) ls) (sym lines)
           (short_then h.ended (lines_of mid.begun) (lines_short h.ended h.are_lines)
           (begun_lines mid.begun h.steady.no_feed h.steady.short));
-      replies = h.replies ++ reply;
-      said = subst (λ (ls : List (List ℕ)). AreSaid ls old.stand (h.replies ++ reply) new.stand) (sym lines)
-          (said_then h.ended (lines_of mid.begun) old.stand mid.stand new.stand h.replies reply h.said said);
-      passes = passes_then old mid new h.replies reply h.passes p;
+      replies = h.replies ++ l.reply;
+      said = subst (λ (ls : List (List ℕ)). AreSaid ls old.stand (h.replies ++ l.reply) new.stand) (sym lines)
+          (said_then h.ended (lines_of mid.begun) old.stand mid.stand new.stand h.replies l.reply h.said l.said);
+      passes = passes_then old mid new h.replies l.reply h.passes p;
+      fails = omega (arith, h.fails, last, want);
+      spares = λ strict. l.spares (h.strict ∙ strict) ∙ h.spares strict;
     }
 
 -- ---- a call

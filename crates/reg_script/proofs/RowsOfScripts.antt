@@ -6,6 +6,7 @@ use Rattle.std.proofs.lemmas.Bool.Decides.{nat_tests}
 use Rattle.std.specs.Fmt.{digits}
 use Rattle.std.specs.FinMap.{insert, empty}
 use Rattle.hex.proofs.OnLiterals.{hex_on_literals}
+use Rattle.reg_model.specs.Calls.{changes_keys}
 use Rattle.reg_model.specs.Worlds.{after}
 use Rattle.reg_model.specs.Callbacks.{Callbacks, no_callbacks}
 use Rattle.reg_model.specs.Causes.{early_cause, late_cause, change_cause, early_query_cause, late_query_cause}
@@ -22,6 +23,9 @@ use Rattle.reg_model.specs.declared.step.Outcome.TheVariants.{Changed, Answered}
 use Rattle.reg_calls.specs.Views.{View, IsHive, state, entry_of}
 use Rattle.reg_script.specs.Lines.{Stand, begins, Lines, fresh_descriptor}
 use Rattle.reg_script.proofs.RowsOfLines.{on_lines}
+
+true-false : true ≡ false → ⊥
+true-false e = cc
 
 -- a hive with no entries, and with the first one
 abbrev begun : View → View
@@ -48,7 +52,7 @@ refused_script hive is =
         codes "5\n87\n6\nbad\n",
         (
           Changed (record { status = 0; number = Some 0; handle = Some 0; disposition = None }),
-          inl (record { says = refl; journal = refl; origin = refl; taken = refl; kept = omega arith; grows = omega arith; hive = is }),
+          inl (record { says = refl; journal = refl; origin = refl; taken = refl; kept_keys = λ e. refl; kept = omega arith; grows = omega arith; hive = is }),
           refl,
           refl,
         ),
@@ -137,7 +141,7 @@ refused_securities hive is =
         codes "5\n87\n5\n87\nbad\nbad\n",
         (
           Changed (record { status = 0; number = Some 0; handle = Some 0; disposition = None }),
-          inl (record { says = refl; journal = refl; origin = refl; taken = refl; kept = omega arith; grows = omega arith; hive = is }),
+          inl (record { says = refl; journal = refl; origin = refl; taken = refl; kept_keys = λ e. refl; kept = omega arith; grows = omega arith; hive = is }),
           refl,
           refl,
         ),
@@ -197,7 +201,7 @@ set_and_told : (hive : View) (keys : Keys) → IsHive (allowed hive) → IsHive 
     length keys.bins.bytes ≡ length hive.keys.bins.bytes →
     Lines no_callbacks (fresh hive) (codes "root 393216\ngetsec 0 19\nsetsec 0 x0102\ngetsec 0 1\ngetsec 0 2\n")
     (codes "0 handle 0\n122 size 20\n0\n122 size 2\n0 x0102\n") (described hive keys)
-unfolding on_lines digits hex_on_literals after early_cause late_cause early_query_cause late_query_cause reply_to body_of
+unfolding on_lines digits hex_on_literals after early_cause late_cause early_query_cause late_query_cause reply_to body_of changes_keys
 set_and_told hive keys is_allowed is_described same =
     let here = at_allowed hive in
     let there = at_described hive keys in (
@@ -208,7 +212,7 @@ set_and_told hive keys is_allowed is_described same =
         codes "122 size 20\n0\n122 size 2\n0 x0102\n",
         (
           Changed (record { status = 0; number = Some 0; handle = Some 0; disposition = None }),
-          inl (record { says = refl; journal = refl; origin = refl; taken = refl; kept = omega arith; grows = omega arith; hive = is_allowed }),
+          inl (record { says = refl; journal = refl; origin = refl; taken = refl; kept_keys = λ e. refl; kept = omega arith; grows = omega arith; hive = is_allowed }),
           refl,
           refl,
         ),
@@ -228,6 +232,7 @@ set_and_told hive keys is_allowed is_described same =
                 journal = refl;
                 origin = refl;
                 taken = refl;
+                kept_keys = λ e. absurd (true-false e);
                 kept = omega (arith, same);
                 grows = omega
                     (arith, same);
@@ -274,7 +279,7 @@ refused_trees hive is =
         codes "6\n6\nbad\nbad\nbad\n",
         (
           Changed (record { status = 0; number = Some 0; handle = Some 0; disposition = None }),
-          inl (record { says = refl; journal = refl; origin = refl; taken = refl; kept = omega arith; grows = omega arith; hive = is }),
+          inl (record { says = refl; journal = refl; origin = refl; taken = refl; kept_keys = λ e. refl; kept = omega arith; grows = omega arith; hive = is }),
           refl,
           refl,
         ),
@@ -332,7 +337,7 @@ trees_deleted : (hive : View) (left root : Keys) →
     IsHive (past_tree hive left) → IsHive (past_both hive left root) →
     length left.bins.bytes ≡ length hive.keys.bins.bytes → length root.bins.bytes ≡ length left.bins.bytes →
     Lines no_callbacks hive (codes "deltree 0 =A\ndeltree 0 =") (codes "0\n0\n") (past_both hive left root)
-unfolding on_lines digits reply_to
+unfolding on_lines digits reply_to changes_keys
 trees_deleted hive left root free-tree free-contents is_left is_root same-left same-root =
     let there = unset (past_tree hive left) in
     let last = unset (past_both hive left root) in (
@@ -349,6 +354,7 @@ trees_deleted hive left root free-tree free-contents is_left is_root same-left s
                 journal = refl;
                 origin = refl;
                 taken = refl;
+                kept_keys = λ e. absurd (true-false e);
                 kept = omega (arith, same-left);
                 grows = omega
                     (arith, same-left);
@@ -369,6 +375,7 @@ trees_deleted hive left root free-tree free-contents is_left is_root same-left s
                   journal = refl;
                   origin = refl;
                   taken = refl;
+                  kept_keys = λ e. absurd (true-false e);
                   kept = omega (arith, same-root);
                   grows = omega
                       (arith, same-root);

@@ -1,7 +1,7 @@
 -- A script that can't go on.
-use Rattle.std.proofs.Common.{◌≡◌, ◌≢◌, ℕ, ◌+◌, ◌*◌, ◌<◌, ◌≤◌, List, [], ◌∷◌, ◌++◌, length, get_or, take, drop, Option, refl, sym, subst, ap, ◌∙◌, arith, append_assoc, append-nil, inl, inr, min}
+use Rattle.std.proofs.Common.{◌≡◌, ◌≢◌, ℕ, ◌+◌, ◌*◌, ◌<◌, ◌≤◌, List, [], ◌∷◌, ◌++◌, length, get_or, take, drop, Option, refl, sym, subst, ap, ◌∙◌, arith, append_assoc, append-nil, inl, inr, min, true}
 use Rattle.std.specs.List.{AllByRecursion}
-use Rattle.std.specs.Io.KnownBytes.{Appends, Consumes}
+use Rattle.std.specs.Io.KnownBytes.{Appends, Consumes, IsAtEnd}
 use Rattle.std.proofs.Math.Seq.{take-append-add}
 use Rattle.std.proofs.lemmas.List.{take_more, take-append-drop, length-append, length-take}
 use Rattle.reg_script.specs.declared.engine.TheConstants.{LINES_LIMIT, LINE_LIMIT, READS_LIMIT}
@@ -9,14 +9,17 @@ use Rattle.reg_model.specs.Callbacks.{Callbacks}
 use Rattle.reg_calls.specs.Views.{View}
 use Rattle.reg_script.specs.declared.engine.ScriptFault.{ScriptFault}
 use Rattle.reg_script.specs.declared.engine.ScriptFault.TheVariants.{Read, Write, TooLong, Memory}
+use Rattle.reg_script.specs.declared.failed.StrictFault.{StrictFault}
+use Rattle.reg_script.specs.declared.failed.StrictFault.TheVariants.{Script as Of, Line}
 use Rattle.reg_script.specs.LineWords.{lines_of}
-use Rattle.reg_script.specs.LineMeanings.{meaning_of}
-use Rattle.reg_script.specs.Lines.{Stand, begins, IsSaid, AreSaid}
+use Rattle.reg_script.specs.Lines.{Stand, begins_at, AreSaid}
+use Rattle.reg_script.specs.FailedLines.{wanting, HaveFailed}
+use Rattle.reg_script.specs.Internal.StrictEnds.{StopsIn}
 use Rattle.reg_script.specs.Internal.Outputs.{IsCut}
 use Rattle.reg_script.specs.Stops.{longest_line, most_lines, HasNoFeed, AreWithin, IsTooLong, PassesBound, IsTaken, EndsWithFeed, IsLeft}
-use Rattle.reg_script.specs.Stops.{AreWritten, Stops}
-use Rattle.reg_script.specs.Internal.Progress.{Position, IsSteady, with_feeds, IsLine, Passes, Takes, IsIdle, Place, among, past, IsFault, Halts}
-use Rattle.reg_script.proofs.ProgressLemmas.{lines_fed, lines_short, no_feed_push, takes_none, takes_then, after_line, takes_feed}
+use Rattle.reg_script.specs.Stops.{AreWritten}
+use Rattle.reg_script.specs.Internal.Progress.{Position, IsSteady, with_feeds, IsLine, Passes, Takes, IsIdle, Place, among, past, IsEnded, IsLineFault, IsFault, Halts, HaltsAtEnd}
+use Rattle.reg_script.proofs.ProgressLemmas.{lines_fed, lines_short, no_feed_push, takes_none, takes_then}
 use Rattle.reg_script.proofs.ProgressLemmas.{appends_then}
 
 -- ---- more bytes behind those that were not taken
@@ -34,33 +37,39 @@ passes_more : (lines : ℕ) (rest more : List ℕ) → PassesBound lines rest �
 passes_more lines rest more (inl h) = inl (h.0, omega (arith, h.1, length-append rest more))
 passes_more lines rest more (inr h) = inr (long_more rest more h)
 
-fault_more : (fault : ScriptFault) (mid new : Position) (back more : List ℕ) → IsFault among fault mid back new →
+fault_more : (fault : StrictFault) (mid new : Position) (back more : List ℕ) → IsFault among fault mid back new →
     IsFault among fault mid (back ++ more) new
-fault_more Read mid new back more h = absurd h.1
-fault_more (Write written) mid new back more h = h
-fault_more TooLong mid new back more h = (
+fault_more (Of Read) mid new back more h = absurd h.1
+fault_more (Of (Write written)) mid new back more h = h
+fault_more (Of TooLong) mid new back more h = (
   h.0,
   subst (λ (w : List ℕ). PassesBound mid.lines w) (append_assoc mid.begun back more)
       (passes_more mid.lines (mid.begun ++ back) more h.1),
 )
-fault_more Memory mid new back more h = h
+fault_more (Of Memory) mid new back more h = h
+fault_more (Line failed) mid new back more h = (h.0, (h.1.0 ++ more, ap (λ (w : List ℕ). w ++ more) h.1.1), h.2)
+
+ended_anywhere : (place : Place) (back : List ℕ) → IsEnded among back → IsEnded place back
+ended_anywhere among back h = h
+ended_anywhere past back h = inl h
 
 -- a fault among the bytes
-fault_anywhere : (place : Place) (fault : ScriptFault) (mid new : Position) (back : List ℕ) → IsFault among fault mid back new →
+fault_anywhere : (place : Place) (fault : StrictFault) (mid new : Position) (back : List ℕ) → IsFault among fault mid back new →
     IsFault place fault mid back new
-fault_anywhere place Read mid new back h = absurd h.1
-fault_anywhere place (Write written) mid new back h = h
-fault_anywhere place TooLong mid new back h = h
-fault_anywhere place Memory mid new back h = h
+fault_anywhere place (Of Read) mid new back h = absurd h.1
+fault_anywhere place (Of (Write written)) mid new back h = h
+fault_anywhere place (Of TooLong) mid new back h = h
+fault_anywhere place (Of Memory) mid new back h = h
+fault_anywhere place (Line failed) mid new back h = (h.0, ended_anywhere place back h.1, h.2)
 
 -- ---- where it halts
 
-pub halts_here : (old new : Position) (bytes : List ℕ) (fault : ScriptFault) → IsSteady old → new.stand.hive ≡ old.stand.hive →
+pub halts_here : (old new : Position) (bytes : List ℕ) (fault : StrictFault) → IsSteady old → new.stand.hive ≡ old.stand.hive →
     IsFault among fault old bytes new → Halts among old bytes new fault
 halts_here old new bytes fault steady same faults =
     record { mid = old; front = []; back = bytes; splits = refl; takes = takes_none old steady; hive = same; faults = faults }
 
-pub halts_after : (place : Place) (a b new : Position) (xs ys : List ℕ) (fault : ScriptFault) → Takes a xs b →
+pub halts_after : (place : Place) (a b new : Position) (xs ys : List ℕ) (fault : StrictFault) → Takes a xs b →
     Halts among b ys new fault → Halts place a (xs ++ ys) new fault
 halts_after place a b new xs ys fault h k = record {
   mid = k.mid;
@@ -72,7 +81,7 @@ halts_after place a b new xs ys fault h k = record {
   faults = fault_anywhere place fault k.mid new k.back k.faults;
 }
 
-pub halts_before : (a new : Position) (xs ys : List ℕ) (fault : ScriptFault) → Halts among a xs new fault →
+pub halts_before : (a new : Position) (xs ys : List ℕ) (fault : StrictFault) → Halts among a xs new fault →
     Halts among a (xs ++ ys) new fault
 halts_before a new xs ys fault h = record {
   mid = h.mid;
@@ -85,14 +94,14 @@ halts_before a new xs ys fault h = record {
 }
 
 -- after the bytes taken so far, nothing was done
-pub halts_at : (place : Place) (old new : Position) (bytes : List ℕ) (fault : ScriptFault) (now : Position) → Takes old bytes now →
+pub halts_at : (place : Place) (old new : Position) (bytes : List ℕ) (fault : StrictFault) (now : Position) → Takes old bytes now →
     new.stand.hive ≡ now.stand.hive → IsFault place fault now [] new
     → Halts place old bytes new fault
 halts_at place old new bytes fault now h same faults =
     record { mid = now; front = bytes; back = []; splits = sym (append-nil bytes); takes = h; hive = same; faults = faults }
 
 -- at one of some bytes
-pub halts_in : (a b new : Position) (bytes : List ℕ) (i : ℕ) (fault : ScriptFault) → i < length bytes → Takes a (take i bytes) b →
+pub halts_in : (a b new : Position) (bytes : List ℕ) (i : ℕ) (fault : StrictFault) → i < length bytes → Takes a (take i bytes) b →
     Halts among b (get_or bytes i 0 ∷ []) new fault → Halts among a bytes new fault
 halts_in a b new bytes i fault below h k =
     let front = halts_after among a b new (take i bytes) (get_or bytes i 0 ∷ []) fault h k in
@@ -176,32 +185,64 @@ pub passing : (lines : List (List ℕ)) (n : ℕ) (rest : List ℕ) → AllByRec
 passing lines n rest are counts h =
     subst (λ (m : ℕ). PassesBound m rest) (counts ∙ ap (λ (ls : List (List ℕ)). length ls) (sym (lines_are lines are))) h
 
-pub stops_with : (place : Place) (old new : Position) (callbacks : Callbacks) (hive new_hive : View) (script : List ℕ) (fault result : ScriptFault)
+-- ---- the lines before a fault, as those of their bytes
+
+module _ (place : Place) (old new : Position) (script : List ℕ) (fault : StrictFault) (k : Halts place old script new fault) where
+  abbrev fed : List ℕ
+  fed = with_feeds k.takes.ended
+
+  pub script_fed : old.begun ≡ [] → script ≡ fed ++ (k.mid.begun ++ k.back)
+  script_fed empty =
+      let front_is : k.front ≡ fed ++ k.mid.begun = ap (λ (w : List ℕ). w ++ k.front) (sym empty) ∙ k.takes.splits in
+      k.splits ∙ (ap (λ (w : List ℕ). w ++ k.back) front_is ∙ append_assoc fed k.mid.begun k.back)
+
+  pub within_fed : old.lines ≡ 0 → AreWithin (lines_of fed)
+  within_fed none = subst (λ (w : List (List ℕ)). AreWithin w) (sym (lines_are k.takes.ended k.takes.are_lines))
+      (record { few = omega (arith, k.takes.steady.few, k.takes.counts, none); short = lines_short k.takes.ended k.takes.are_lines })
+
+  pub count_fed : old.lines ≡ 0 → k.mid.lines ≡ length (lines_of fed)
+  count_fed none =
+      let count = ap (λ (w : List (List ℕ)). length w) (lines_are k.takes.ended k.takes.are_lines) in
+      omega (arith, k.takes.counts, none, count)
+
+  module _ (begin : ℕ) (callbacks : Callbacks) (hive : View) (is : old.stand ≡ begins_at begin callbacks hive) where
+    pub said_fed : AreSaid (lines_of fed) (begins_at begin callbacks hive) k.takes.replies k.mid.stand
+    said_fed = subst (λ (s : Stand). AreSaid (lines_of fed) s k.takes.replies k.mid.stand) is
+        (subst (λ (w : List (List ℕ)). AreSaid w old.stand k.takes.replies k.mid.stand) (sym (lines_are k.takes.ended k.takes.are_lines)) k.takes.said)
+
+    -- a script that stops at a line that failed met none before
+    pub none_fed : old.failed ≡ 0 → old.strict ≡ true → HaveFailed 0 (lines_of fed) hive k.mid.stand.hive
+    none_fed well strict =
+        let want = ap wanting (lines_are k.takes.ended k.takes.are_lines) in
+        let spared = k.takes.spares strict in
+        let fails = k.takes.fails in
+        let journal = ap (λ (s : Stand). length s.hive.journal) is in
+        omega (arith, want, spared, fails, journal, well)
+
+pub stops_with : (place : Place) (old new : Position) (begin : ℕ) (callbacks : Callbacks) (hive new_hive : View) (script : List ℕ) (fault : StrictFault) (result : ScriptFault)
     (unread left final : Option (List ℕ)) → (k : Halts place old script new fault) → Consumes unread left script
-    → old.lines ≡ 0 → old.begun ≡ [] → old.stand ≡ begins callbacks hive →
+    → old.lines ≡ 0 → old.begun ≡ [] → old.failed ≡ 0 → old.stand ≡ begins_at begin callbacks hive →
     new_hive ≡ k.mid.stand.hive → IsLeft result (with_feeds k.takes.ended) (k.mid.begun ++ k.back) left →
     AreWritten result k.takes.replies old.sent final →
-    Stops result unread left callbacks hive new_hive old.sent final
-stops_with place old new callbacks hive new_hive script fault result unread left final k consumes none empty is same stands written =
-    let t = k.takes in
-    let front_is : k.front ≡ with_feeds t.ended ++ k.mid.begun = ap (λ (w : List ℕ). w ++ k.front) (sym empty) ∙ t.splits in
-    let script_is : script ≡ with_feeds t.ended ++ (k.mid.begun ++ k.back) =
-    k.splits ∙ (ap (λ (w : List ℕ). w ++ k.back) front_is ∙ append_assoc (with_feeds t.ended) k.mid.begun k.back) in
-    let whole = sym (lines_are t.ended t.are_lines) in
-    record {
-      lines = with_feeds t.ended;
-      rest = k.mid.begun ++ k.back;
-      read = subst (λ (w : List ℕ). Consumes unread left w) script_is consumes;
-      within = subst (λ (w : List (List ℕ)). AreWithin w) whole
-          (record { few = omega (arith, t.steady.few, t.counts, none); short = lines_short t.ended t.are_lines });
-      text = t.replies;
-      last = k.mid.stand;
-      said = subst (λ (s : Stand). AreSaid (lines_of (with_feeds t.ended)) s t.replies k.mid.stand) is
-          (subst (λ (w : List (List ℕ)). AreSaid w old.stand t.replies k.mid.stand) whole t.said);
-      stands = stands;
-      hive = same;
-      written = written;
-    }
+    StopsIn begin old.strict result unread left callbacks hive new_hive old.sent final
+stops_with place old new begin callbacks hive new_hive script fault result unread left final k consumes none empty well is same stands written = (
+  record {
+    lines = with_feeds t.ended;
+    rest = k.mid.begun ++ k.back;
+    read = subst (λ (w : List ℕ). Consumes unread left w) (script_fed place old new script fault k empty) consumes;
+    within = within_fed place old new script fault k none;
+    text = t.replies;
+    last = k.mid.stand;
+    said = said_fed place old new script fault k begin callbacks hive is;
+    stands = stands;
+    hive = same;
+    written = written;
+  },
+  λ strict. subst (λ (v : View). HaveFailed 0 (lines_of (with_feeds t.ended)) hive v) (sym same) (none_fed place old new script fault k begin callbacks hive is well strict),
+)
+  where
+    t : Takes old k.front k.mid
+    t = k.takes
 
 -- all replies were sent
 pub all_sent : (old mid new : Position) (replies : List ℕ) (final : Option (List ℕ)) → Passes old replies mid → old.gathered ≡ [] →
@@ -251,44 +292,50 @@ pub short_line : (line : List ℕ) → length line < LINE_LIMIT → length line 
 unfolding longest_line
 short_line line h = h
 
--- no memory for what the line that was begun says
-pub halts_unchanged : (old new : Position) (b : ℕ) (fault : ScriptFault) → IsSteady old → fault ≡ Memory →
-    new.gathered ≡ old.gathered → new.sent ≡ old.sent → new.written ≡ old.written → new.stand.hive ≡ old.stand.hive →
+-- no memory for what the line that was begun says, or it failed
+pub halts_line : (old new : Position) (b : ℕ) (fault : StrictFault) → b ≡ 10 → IsSteady old → old.lines < most_lines → IsLineFault old fault new →
     Halts among old (b ∷ []) new fault
-halts_unchanged old new b fault steady is gathered sent written same =
-    subst (λ (f : ScriptFault). Halts among old (b ∷ []) new f) (sym is)
-    (halts_here old new (b ∷ []) Memory steady same (record { gathered = gathered; sent = sent; written = written }))
-
--- the replies were gathered, and the writer took a front of them
-pub halts_cut : (old new : Position) (b : ℕ) (reply text : List ℕ) (before : ℕ) (fault : ScriptFault) → b ≡ 10 → IsSteady old →
-    old.lines < most_lines →
-    IsSaid (meaning_of old.begun) old.stand reply new.stand → text ≡ old.gathered ++ reply → before ≡ old.written
-    → IsCut old.sent new.sent text before fault → Halts among old (b ∷ []) new fault
-halts_cut old new b reply text before fault is steady fewer said adds same cut =
-    let here = subst (λ (n : ℕ). IsCut old.sent new.sent text n fault) same cut in
-    subst (λ (f : ScriptFault). Halts among old (b ∷ []) new f) (sym here.says)
-    (halts_at among old new (b ∷ []) _ (after_line old new.stand text) (takes_feed old new.stand b reply text is steady fewer said adds)
-    refl (subst (λ (f : ScriptFault). IsCut old.sent new.sent text old.written f) here.says here))
+halts_line old new b (Of fault) is steady fewer h =
+    subst (λ (f : ScriptFault). Halts among old (b ∷ []) new (Of f)) (sym h.0) (halts_here old new (b ∷ []) (Of Memory) steady h.2 h.1)
+halts_line old new b (Line failed) is steady fewer h =
+    halts_here old new (b ∷ []) (Line failed) steady h.hive (h, ([], ap (λ (d : ℕ). d ∷ []) is), fewer)
 
 -- the writer took a front of what was gathered, behind the bytes that were taken
-pub halts_passing : (old now new : Position) (bytes : List ℕ) (fault : ScriptFault) → Takes old bytes now →
-    new.stand.hive ≡ now.stand.hive → IsCut now.sent new.sent now.gathered now.written fault → Halts past old bytes new fault
-halts_passing old now new bytes fault h same cut =
-    subst (λ (f : ScriptFault). Halts past old bytes new f) (sym cut.says)
-    (halts_at past old new bytes _ now h same (subst (λ (f : ScriptFault). IsCut now.sent new.sent now.gathered now.written f) cut.says cut))
+pub halts_passing : (place : Place) (old now new : Position) (bytes : List ℕ) (fault : ScriptFault) → Takes old bytes now →
+    new.stand.hive ≡ now.stand.hive → IsCut now.sent new.sent now.gathered now.written fault → Halts place old bytes new (Of fault)
+halts_passing place old now new bytes fault h same cut =
+    subst (λ (f : ScriptFault). Halts place old bytes new (Of f)) (sym cut.says)
+    (halts_at place old new bytes (Of _) now h same (subst (λ (f : ScriptFault). IsCut now.sent new.sent now.gathered now.written f) cut.says cut))
 
 -- the count of lines below its bound
-pub one_more_line : (lines sum new : ℕ) → lines < most_lines → sum ≡ min (lines + 1) 4294967295 → new ≡ sum → new ≡ lines + 1
+pub one_more_line : (lines now sum : ℕ) → lines < most_lines → sum ≡ min (now + 1) 4294967295 → now ≡ lines → sum ≡ lines + 1
 unfolding most_lines
-one_more_line lines sum new fewer e same = omega (arith, fewer, e, same)
+one_more_line lines now sum fewer e same = omega (arith, fewer, e, same)
 
--- no memory for what the last line says
-pub halts_last : (old now new : Position) (bytes : List ℕ) (fault : ScriptFault) → Takes old bytes now → fault ≡ Memory →
-    new.gathered ≡ now.gathered → new.sent ≡ now.sent → new.written ≡ now.written → new.stand.hive ≡ now.stand.hive →
-    Halts past old bytes new fault
-halts_last old now new bytes fault h is gathered sent written same =
-    subst (λ (f : ScriptFault). Halts past old bytes new f) (sym is)
-    (halts_at past old new bytes Memory now h same (record { gathered = gathered; sent = sent; written = written }))
+-- no memory for what the last line says, or it failed
+pub halts_last : (old now new : Position) (bytes : List ℕ) (fault : StrictFault) (left : Option (List ℕ)) → Takes old bytes now → 0 < length now.begun →
+    IsAtEnd left → IsLineFault now fault new → HaltsAtEnd left old bytes new fault
+halts_last old now new bytes (Of fault) left h some at_end l =
+    subst (λ (f : ScriptFault). HaltsAtEnd left old bytes new (Of f)) (sym l.0)
+    (record { halts = halts_at past old new bytes (Of Memory) now h l.2 l.1; last = tt })
+halts_last old now new bytes (Line failed) left h some at_end l =
+    record { halts = halts_at past old new bytes (Line failed) now h l.hive (l, inr refl, h.steady.one_more some); last = λ none. at_end }
+
+-- other faults past the last byte
+pub not_last : (left : Option (List ℕ)) (old : Position) (bytes : List ℕ) (new : Position) (fault : ScriptFault) → Halts past old bytes new (Of fault) →
+    HaltsAtEnd left old bytes new (Of fault)
+not_last left old bytes new fault h = record { halts = h; last = tt }
+
+-- and those among some bytes
+pub before_last : (left : Option (List ℕ)) (a b new : Position) (xs ys : List ℕ) (fault : StrictFault) → Takes a xs b → Halts among b ys new fault →
+    HaltsAtEnd left a (xs ++ ys) new fault
+unfolding halts_after
+before_last left a b new xs ys (Of fault) h k = record { halts = halts_after past a b new xs ys (Of fault) h k; last = tt }
+before_last left a b new xs ys (Line failed) h k =
+    record { halts = halts_after past a b new xs ys (Line failed) h k; last = λ none. absurd (some k.back k.faults.1.0 k.faults.1.1 none) }
+  where
+    some : (back more : List ℕ) → back ≡ 10 ∷ more → back ≡ [] → ⊥
+    some back more e none = absurd (cc)
 
 -- each read gives a byte at least
 pub read_more : (taken buffer : List ℕ) (i n : ℕ) → i ≤ length taken → n ≢ 0 → n ≤ length buffer → i + 1 ≤ length (taken ++ take n buffer)

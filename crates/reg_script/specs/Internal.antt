@@ -2,3 +2,4 @@
 pub mod Outputs
 pub mod WordReadings
 pub mod Progress
+pub mod StrictEnds

@@ -4,4 +4,5 @@ pub mod ReplyTexts
 pub mod Lines
 pub mod Internal
 pub mod Stops
+pub mod FailedLines
 pub mod Ample

@@ -45,20 +45,27 @@ AreSaid (line ∷ lines) old text new =
     (mid : Stand) × (reply : List ℕ) × (rest : List ℕ) × IsSaid (meaning_of line) old reply mid × AreSaid lines mid rest new ×
     (text ≡ reply ++ rest)
 
--- where it begins on a hive with these callbacks: the moment and the session are 0 at first
+-- where it begins on a hive with these callbacks, at this moment: the session is 0 at first
+abbrev pub begins_at : ℕ → Callbacks → View → Stand
+begins_at begin callbacks hive = record { hive = hive; callbacks = callbacks; moment = begin; session = 0 }
+
+-- the moment is 0 at first where none is given
 abbrev pub begins : Callbacks → View → Stand
-begins callbacks hive = record { hive = hive; callbacks = callbacks; moment = 0; session = 0 }
+begins callbacks hive = begins_at 0 callbacks hive
 
 -- a script that runs on a hive with these callbacks may write this text, and leave the hive so
 abbrev pub Lines : Callbacks → View → List ℕ → List ℕ → View → Type 0
 Lines callbacks old script text new =
     (last : Stand) × AreSaid (lines_of script) (begins callbacks old) text last × (last.hive ≡ new)
 
--- the same, where this is the moment of the last line that sets one
-abbrev pub LinesTo : Callbacks → View → List ℕ → List ℕ → View → ℕ → Type 0
-LinesTo callbacks old script text new moment =
-    (last : Stand) × AreSaid (lines_of script) (begins callbacks old) text last × (last.hive ≡ new)
+-- the same from this moment on, where that is the moment of the last line that sets one
+abbrev pub LinesFrom : ℕ → Callbacks → View → List ℕ → List ℕ → View → ℕ → Type 0
+LinesFrom begin callbacks old script text new moment =
+    (last : Stand) × AreSaid (lines_of script) (begins_at begin callbacks old) text last × (last.hive ≡ new)
     × (last.moment ≡ moment)
+
+abbrev pub LinesTo : Callbacks → View → List ℕ → List ℕ → View → ℕ → Type 0
+LinesTo callbacks old script text new moment = LinesFrom 0 callbacks old script text new moment
 
 -- the root's descriptor: a self-relative security descriptor with nothing in it
 abbrev pub fresh_descriptor : List ℕ

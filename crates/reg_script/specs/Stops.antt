@@ -8,7 +8,7 @@ use Rattle.reg_calls.specs.Views.{View}
 use Rattle.reg_script.specs.declared.engine.ScriptFault.{ScriptFault}
 use Rattle.reg_script.specs.declared.engine.ScriptFault.TheVariants.{Read, Write, TooLong, Memory}
 use Rattle.reg_script.specs.LineWords.{lines_of}
-use Rattle.reg_script.specs.Lines.{Stand, begins, AreSaid, IsFresh}
+use Rattle.reg_script.specs.Lines.{Stand, begins_at, AreSaid, IsFresh}
 
 -- a count of 64 bits, which stays at its end
 abbrev pub counted : ℕ → ℕ → ℕ
@@ -76,20 +76,23 @@ AreWritten (Write written) text before after = IsTaken before after text written
 AreWritten TooLong text before after = Appends before after text
 AreWritten Memory text before after = Appends before after text
 
--- a script ended with a fault: of what was read, some lines were answered, and the rest was not; the hive is as those
--- lines left it, with the callbacks that it had
-pub record Stops (fault : ScriptFault) (unread left : Option (List ℕ)) (callbacks : Callbacks) (old new : View) (before after : Option (List ℕ))
-    : Type 0 where
+-- a script that began at this moment ended with a fault: of what was read, some lines were answered, and the rest was not; the hive
+-- is as those lines left it, with the callbacks that it had
+pub record StopsFrom (begin : ℕ) (fault : ScriptFault) (unread left : Option (List ℕ)) (callbacks : Callbacks) (old new : View)
+    (before after : Option (List ℕ)) : Type 0 where
   pub lines : List ℕ
   pub rest : List ℕ
   pub read : Consumes unread left (lines ++ rest)
   pub within : AreWithin (lines_of lines)
   pub text : List ℕ
   pub last : Stand
-  pub said : AreSaid (lines_of lines) (begins callbacks old) text last
+  pub said : AreSaid (lines_of lines) (begins_at begin callbacks old) text last
   pub stands : IsLeft fault lines rest left
   pub hive : new ≡ last.hive
   pub written : AreWritten fault text before after
+
+abbrev pub Stops : ScriptFault → (unread left : Option (List ℕ)) → Callbacks → (old new : View) → (before after : Option (List ℕ)) → Type 0
+Stops fault unread left callbacks old new before after = StopsFrom 0 fault unread left callbacks old new before after
 
 -- a script on a fresh hive without callbacks ended with a fault
 pub record StopsFresh (fault : ScriptFault) (unread left before after : Option (List ℕ)) : Type 0 where

@@ -1,15 +1,19 @@
 //! The script: one call a line, one reply a line.
 
-ghost use Rattle.std.specs.Prelude.{◌≡◌, ◌<◌, ◌≤◌, ℕ, List, ◌∷◌, [], IfOk, OnOk, length, string_bytes, ◌+◌, OnErr, IfErr};
+ghost use Rattle.std.specs.Prelude.{◌≡◌, ◌<◌, ◌≤◌, ℕ, List, ◌∷◌, [], IfOk, OnOk, length, string_bytes, ◌+◌, OnErr, IfErr, Option, true};
 ghost use Rattle.std.specs.Io.KnownBytes.{IsAtEnd, Appends, Consumes};
 ghost use Rattle.reg_calls.specs.HiveView.{view_of, callbacks_of, asks_of};
 ghost use Rattle.reg_script.specs.LineWords.{lines_of};
 ghost use Rattle.reg_script.specs.LineMeanings.{asks, takes_notice, meaning_of};
 ghost use Rattle.reg_script.specs.Internal.WordReadings.{said};
-ghost use Rattle.reg_script.specs.Lines.{IsSaid, AreSaid, Lines, LinesTo};
-ghost use Rattle.reg_script.specs.Stops.{fault_number, most_lines, HasNoFeed, AreWithin, Stops};
-ghost use Rattle.reg_script.specs.Internal.Progress.{IsSteady, Adds, IsUnchanged, Takes, Halts, Ends, among, past, position_of, stand_of};
+ghost use Rattle.reg_script.specs.Lines.{IsSaid, Lines, LinesTo, LinesFrom};
+ghost use Rattle.reg_script.specs.Stops.{fault_number, HasNoFeed, AreWithin, Stops, StopsFrom};
+ghost use Rattle.reg_script.specs.FailedLines.{HaveFailed, StopsStrictly};
+ghost use Rattle.reg_script.specs.Internal.Progress.{IsSteady, Adds, IsUnchanged, Takes, Halts, HaltsAtEnd, Ends, among, past, position_of, stand_of};
+ghost use Rattle.reg_script.specs.Internal.Progress.{IsAnswered, KeepsLine, EndsLine, IsLineFault, EndsLast};
+ghost use Rattle.reg_script.specs.Internal.StrictEnds.{StopsBy};
 
+use crate::failed::{FailedLine, Ran, StrictFault, Went, went_with};
 use crate::line::{Line, Session, Setting};
 use crate::output::Output;
 use crate::parse::parse;
@@ -21,6 +25,7 @@ use reg_calls::Hive;
 use reg_model::{Call, Change, Query};
 use std::alloc::{AllocError, Global};
 use std::io::{Read, Write};
+use std::mem;
 use thiserror::Error;
 
 /// The longest line of a script, in bytes without its LF. The limit is this project's own.
@@ -85,6 +90,10 @@ struct Script {
     line: Vec<u8>,
     /// How many lines have ended.
     lines: u32,
+    /// How many of them failed.
+    failed: u32,
+    /// Whether the script stops at a line that failed.
+    is_strict: bool,
     moment: u64,
     session: Session,
 }
@@ -96,7 +105,7 @@ impl Script {
         hive: &mut Hive<C>,
         writer: &mut W,
         byte: u8,
-    ) -> Result<(), ScriptFault>
+    ) -> Result<(), StrictFault>
         ensures callbacks { callbacks_of hive.new ≡ callbacks_of hive.old }
         ensures ok { OnOk result (IsSteady (position_of C.answers self.old hive.old (W.contents writer.old)) →
             Takes (position_of C.answers self.old hive.old (W.contents writer.old)) (byte ∷ [])
@@ -106,7 +115,7 @@ impl Script {
             (position_of C.answers self.new hive.new (W.contents writer.new)) fault) }
     {
         if self.lines >= LINES_LIMIT {
-            return Err(ScriptFault::TooLong);
+            return Err(StrictFault::Script(ScriptFault::TooLong));
         }
         if byte == b'\n' {
             self.end_line(hive)?;
@@ -114,11 +123,11 @@ impl Script {
             return Ok(());
         }
         if self.line.len() >= LINE_LIMIT {
-            return Err(ScriptFault::TooLong);
+            return Err(StrictFault::Script(ScriptFault::TooLong));
         }
         match self.line.push(byte) {
             Ok(()) => Ok(()),
-            Err(_) => Err(ScriptFault::Memory),
+            Err(_) => Err(StrictFault::Script(ScriptFault::Memory)),
         }
     }
 
@@ -127,7 +136,7 @@ impl Script {
         hive: &mut Hive<C>,
         writer: &mut W,
         bytes: &[u8],
-    ) -> Result<(), ScriptFault>
+    ) -> Result<(), StrictFault>
         ensures callbacks { callbacks_of hive.new ≡ callbacks_of hive.old }
         ensures ok { OnOk result (IsSteady (position_of C.answers self.old hive.old (W.contents writer.old)) →
             Takes (position_of C.answers self.old hive.old (W.contents writer.old)) bytes.now
@@ -142,86 +151,108 @@ impl Script {
         Ok(())
     }
 
-    /// Answers the line that has ended.
-    fn end_line<C: Callback>(&mut self, hive: &mut Hive<C>) -> Result<(), ScriptFault>
+    /// Answers the line that has ended, and counts it. Where the script stops at a line that failed, such a one is the fault.
+    fn end_line<C: Callback>(&mut self, hive: &mut Hive<C>) -> Result<(), StrictFault>
         ensures callbacks { callbacks_of hive.new ≡ callbacks_of hive.old }
-        ensures said { OnOk result
-            (Adds C.answers (IsSaid (meaning_of self.old.line.items)) self.old hive.old self.new hive.new) }
-        ensures ended { OnOk result (self.new.line.items ≡ []) }
-        ensures lines { OnOk result (self.old.lines < most_lines → self.new.lines ≡ self.old.lines + 1) }
-        ensures err { IfErr result (λ fault. (fault ≡ ScriptFault.Memory)
-            × IsUnchanged self.old (view_of hive.old) self.new (view_of hive.new)) }
+        ensures ok { OnOk result ((sent : Option (List ℕ)) →
+            EndsLine (position_of C.answers self.old hive.old sent) (position_of C.answers self.new hive.new sent)) }
+        ensures err { IfErr result (λ fault. (sent : Option (List ℕ)) →
+            IsLineFault (position_of C.answers self.old hive.old sent) fault (position_of C.answers self.new hive.new sent)) }
     {
         let line = parse(self.alloc, self.line.as_slice())?;
-        self.line.clear();
+        let went = self.answer(hive, line)?;
         self.lines = self.lines.saturating_add(1);
-        self.answer(hive, line)?;
-        Ok(())
-    }
-
-    /// Does what a line says, and gathers its reply. For want of memory nothing is done.
-    fn answer<C: Callback>(&mut self, hive: &mut Hive<C>, line: Line) -> Result<(), AllocError>
-        ensures callbacks { callbacks_of hive.new ≡ callbacks_of hive.old }
-        ensures said { OnOk result (Adds C.answers (IsSaid (said line)) self.old hive.old self.new hive.new) }
-        ensures begun { self.new.line ≡ self.old.line }
-        ensures lines { self.new.lines ≡ self.old.lines }
-        ensures err { OnErr result (IsUnchanged self.old (view_of hive.old) self.new (view_of hive.new)) }
-    {
-        match line {
-            Line::Nothing | Line::Setting(Setting::Hive) => Ok(()),
-            Line::Setting(Setting::At(moment)) => {
-                self.moment = moment;
+        match went {
+            Went::Well => {
+                self.line.clear();
                 Ok(())
             }
-            Line::Setting(Setting::As(session)) => {
-                self.session = session;
+            Went::Wrong { status } => {
+                if self.is_strict {
+                    let text = mem::replace(&mut self.line, Vec::new(self.alloc));
+                    return Err(StrictFault::Line(FailedLine {
+                        number: self.lines,
+                        text,
+                        status,
+                    }));
+                }
+                self.line.clear();
+                self.failed = self.failed.saturating_add(1);
                 Ok(())
             }
-            Line::Bad => self.output.text.push_str("bad\n"),
-            Line::Call(call) => self.call(hive, call),
-            Line::Notice => self.notice(hive),
         }
     }
 
-    fn call<C: Callback>(&mut self, hive: &mut Hive<C>, call: Call) -> Result<(), AllocError>
+    /// Does what a line says, gathers its reply, and tells how it went. For want of memory nothing is done.
+    fn answer<C: Callback>(&mut self, hive: &mut Hive<C>, line: Line) -> Result<Went, AllocError>
         ensures callbacks { callbacks_of hive.new ≡ callbacks_of hive.old }
-        ensures said { OnOk result (Adds C.answers (IsSaid (asks call)) self.old hive.old self.new hive.new) }
-        ensures begun { self.new.line ≡ self.old.line }
-        ensures lines { self.new.lines ≡ self.old.lines }
+        ensures said { IfOk result (λ went. Adds C.answers (IsAnswered (said line) went) self.old hive.old self.new hive.new) }
+        ensures kept { KeepsLine self.old self.new }
+        ensures err { OnErr result (IsUnchanged self.old (view_of hive.old) self.new (view_of hive.new)) }
+    {
+        match line {
+            Line::Nothing | Line::Setting(Setting::Hive) => Ok(Went::Well),
+            Line::Setting(Setting::At(moment)) => {
+                self.moment = moment;
+                Ok(Went::Well)
+            }
+            Line::Setting(Setting::As(session)) => {
+                self.session = session;
+                Ok(Went::Well)
+            }
+            Line::Bad => {
+                self.output.text.push_str("bad\n")?;
+                Ok(Went::Wrong { status: None })
+            }
+            Line::Call(call) => self.call(hive, call),
+            Line::Notice => {
+                self.notice(hive)?;
+                Ok(Went::Well)
+            }
+        }
+    }
+
+    fn call<C: Callback>(&mut self, hive: &mut Hive<C>, call: Call) -> Result<Went, AllocError>
+        ensures callbacks { callbacks_of hive.new ≡ callbacks_of hive.old }
+        ensures said { IfOk result (λ went. Adds C.answers (IsAnswered (asks call) went) self.old hive.old self.new hive.new) }
+        ensures kept { KeepsLine self.old self.new }
         ensures err { OnErr result (IsUnchanged self.old (view_of hive.old) self.new (view_of hive.new)) }
     {
         match call {
             Call::Change(change) => self.change(hive, change),
             Call::Query(query) => {
                 let reply = self.query(hive, &query)?;
-                self.output.text.push_str(reply.as_str())
+                self.output.text.push_str(reply.as_str())?;
+                Ok(Went::Well)
             }
         }
     }
 
     /// Makes a change once there is room for its reply, so that none is made whose reply lacks memory.
-    fn change<C: Callback>(&mut self, hive: &mut Hive<C>, change: Change) -> Result<(), AllocError>
+    fn change<C: Callback>(
+        &mut self,
+        hive: &mut Hive<C>,
+        change: Change,
+    ) -> Result<Went, AllocError>
         ensures callbacks { callbacks_of hive.new ≡ callbacks_of hive.old }
-        ensures said { OnOk result
-            (Adds C.answers (IsSaid (asks (Call.Change change))) self.old hive.old self.new hive.new) }
-        ensures begun { self.new.line ≡ self.old.line }
-        ensures lines { self.new.lines ≡ self.old.lines }
+        ensures said { IfOk result (λ went.
+            Adds C.answers (IsAnswered (asks (Call.Change change)) went) self.old hive.old self.new hive.new) }
+        ensures kept { KeepsLine self.old self.new }
         ensures err { OnErr result (IsUnchanged self.old (view_of hive.old) self.new (view_of hive.new)) }
     {
         self.output.text.reserve(CHANGE_REPLY_LIMIT)?;
         let watches = is_notify(&change);
         let changed = hive.apply(self.session.number, self.moment, change);
         write_changed(&mut self.output.text, watches, &changed);
-        Ok(())
+        Ok(went_with(changed.status))
     }
 
     /// Takes the next notice of the session that is set, once there is room for its reply, so that none is taken whose reply lacks
     /// memory.
     fn notice<C: Callback>(&mut self, hive: &mut Hive<C>) -> Result<(), AllocError>
         ensures callbacks { callbacks_of hive.new ≡ callbacks_of hive.old }
-        ensures said { OnOk result (Adds C.answers (IsSaid takes_notice) self.old hive.old self.new hive.new) }
-        ensures begun { self.new.line ≡ self.old.line }
-        ensures lines { self.new.lines ≡ self.old.lines }
+        ensures said { OnOk result (Adds C.answers (IsAnswered takes_notice Went.Well) self.old hive.old self.new hive.new) }
+        ensures kept { KeepsLine self.old self.new }
         ensures err { OnErr result (IsUnchanged self.old (view_of hive.old) self.new (view_of hive.new)) }
     {
         self.output.text.reserve(NOTICE_REPLY_LIMIT)?;
@@ -242,12 +273,13 @@ impl Script {
     }
 
     /// Answers a last line that lacks its LF.
-    fn end<C: Callback>(&mut self, hive: &mut Hive<C>) -> Result<(), ScriptFault>
+    fn end<C: Callback>(&mut self, hive: &mut Hive<C>) -> Result<(), StrictFault>
         ensures callbacks { callbacks_of hive.new ≡ callbacks_of hive.old }
-        ensures ok { OnOk result (HasNoFeed self.old.line.items →
-            Adds C.answers (AreSaid (lines_of self.old.line.items)) self.old hive.old self.new hive.new) }
-        ensures err { IfErr result (λ fault. (fault ≡ ScriptFault.Memory) × (0 < length self.old.line.items)
-            × IsUnchanged self.old (view_of hive.old) self.new (view_of hive.new)) }
+        ensures ok { OnOk result (HasNoFeed self.old.line.items → (sent : Option (List ℕ)) →
+            EndsLast (position_of C.answers self.old hive.old sent) (position_of C.answers self.new hive.new sent)) }
+        ensures begun { OnErr result (0 < length self.old.line.items) }
+        ensures err { IfErr result (λ fault. (sent : Option (List ℕ)) →
+            IsLineFault (position_of C.answers self.old hive.old sent) fault (position_of C.answers self.new hive.new sent)) }
     {
         if self.line.is_empty() {
             return Ok(());
@@ -264,7 +296,7 @@ impl Script {
         reader: &mut R,
         writer: &mut W,
         chunk: &mut [u8],
-    ) -> Result<(), ScriptFault>
+    ) -> Result<(), StrictFault>
         requires { 0 < length chunk.old }
         ensures callbacks { callbacks_of hive.new ≡ callbacks_of hive.old }
         ensures at_end { OnOk result (IsAtEnd (R.remaining reader.new)) }
@@ -275,13 +307,13 @@ impl Script {
         ensures err { IfErr result (λ fault. IsSteady (position_of C.answers self.old hive.old (W.contents writer.old)) →
             self.old.lines ≡ 0 → self.old.line.items ≡ [] →
             (script : List ℕ) × Consumes (R.remaining reader.old) (R.remaining reader.new) script
-            × Halts past (position_of C.answers self.old hive.old (W.contents writer.old)) script
+            × HaltsAtEnd (R.remaining reader.new) (position_of C.answers self.old hive.old (W.contents writer.old)) script
             (position_of C.answers self.new hive.new (W.contents writer.new)) fault) }
     {
         for _read in 0..READS_LIMIT {
             self.output.pass_on(writer)?;
             let Ok(count) = reader.read(chunk) else {
-                return Err(ScriptFault::Read);
+                return Err(StrictFault::Script(ScriptFault::Read));
             };
             if count == 0 {
                 self.end(hive)?;
@@ -289,7 +321,50 @@ impl Script {
             }
             self.take_bytes(hive, writer, &chunk[..count])?;
         }
-        Err(ScriptFault::TooLong)
+        Err(StrictFault::Script(ScriptFault::TooLong))
+    }
+}
+
+/// Runs a script from a moment on, to its first line that failed if it is strict.
+fn run_script<R: Read, W: Write, C: Callback>(
+    alloc: Global,
+    moment: u64,
+    reader: &mut R,
+    writer: &mut W,
+    hive: &mut Hive<C>,
+    is_strict: bool,
+) -> Result<Ran, StrictFault>
+    ensures callbacks { callbacks_of hive.new ≡ callbacks_of hive.old }
+    ensures at_end { OnOk result (IsAtEnd (R.remaining reader.new)) }
+    ensures lines { IfOk result
+        (λ ran. (script : List ℕ) × (text : List ℕ) × Consumes (R.remaining reader.old) (R.remaining reader.new) script
+        × LinesFrom moment (asks_of C.answers hive.old) (view_of hive.old) script text (view_of hive.new) ran.moment
+        × Appends (W.contents writer.old) (W.contents writer.new) text × AreWithin (lines_of script)
+        × HaveFailed ran.failed (lines_of script) (view_of hive.old) (view_of hive.new)) }
+    ensures spared { IfOk result (λ ran. is_strict ≡ true → ran.failed ≡ 0) }
+    ensures stops { IfErr result (λ fault. StopsBy moment is_strict fault (R.remaining reader.old) (R.remaining reader.new)
+        (asks_of C.answers hive.old) (view_of hive.old) (view_of hive.new) (W.contents writer.old) (W.contents writer.new)) }
+{
+    let Ok(mut chunk) = vec![in alloc; 0; CHUNK] else {
+        return Err(StrictFault::Script(ScriptFault::Memory));
+    };
+    let mut script = Script {
+        alloc,
+        output: Output::new(alloc),
+        line: Vec::new(alloc),
+        lines: 0,
+        failed: 0,
+        is_strict,
+        moment,
+        session: Session { number: 0 },
+    };
+    let ended = script.read_all(hive, reader, writer, chunk.as_mut_slice());
+    match script.output.close(writer, ended) {
+        Ok(()) => Ok(Ran {
+            moment: script.moment,
+            failed: script.failed,
+        }),
+        Err(fault) => Err(fault),
     }
 }
 
@@ -335,20 +410,60 @@ pub fn run_to<R: Read, W: Write, C: Callback>(
     ensures stops { IfErr result (λ fault. Stops fault (R.remaining reader.old) (R.remaining reader.new)
         (asks_of C.answers hive.old) (view_of hive.old) (view_of hive.new) (W.contents writer.old) (W.contents writer.new)) }
 {
-    let Ok(mut chunk) = vec![in alloc; 0; CHUNK] else {
-        return Err(ScriptFault::Memory);
-    };
-    let mut script = Script {
-        alloc,
-        output: Output::new(alloc),
-        line: Vec::new(alloc),
-        lines: 0,
-        moment: 0,
-        session: Session { number: 0 },
-    };
-    let ended = script.read_all(hive, reader, writer, chunk.as_mut_slice());
-    match script.output.close(writer, ended) {
-        Ok(()) => Ok(script.moment),
+    match run_counted(alloc, 0, reader, writer, hive) {
+        Ok(ran) => Ok(ran.moment),
+        Err(fault) => Err(fault),
+    }
+}
+
+/// Runs a script as [`run_to`] does, from `moment` on (100 ns units since 1601), and counts the lines that failed: those that have no
+/// form of a line, and those whose change was told another status than 0. A question's status never counts.
+pub fn run_counted<R: Read, W: Write, C: Callback>(
+    alloc: Global,
+    moment: u64,
+    reader: &mut R,
+    writer: &mut W,
+    hive: &mut Hive<C>,
+) -> Result<Ran, ScriptFault>
+    ensures callbacks { callbacks_of hive.new ≡ callbacks_of hive.old }
+    ensures at_end { OnOk result (IsAtEnd (R.remaining reader.new)) }
+    ensures lines { IfOk result
+        (λ ran. (script : List ℕ) × (text : List ℕ) × Consumes (R.remaining reader.old) (R.remaining reader.new) script
+        × LinesFrom moment (asks_of C.answers hive.old) (view_of hive.old) script text (view_of hive.new) ran.moment
+        × Appends (W.contents writer.old) (W.contents writer.new) text × AreWithin (lines_of script)
+        × HaveFailed ran.failed (lines_of script) (view_of hive.old) (view_of hive.new)) }
+    ensures stops { IfErr result (λ fault. StopsFrom moment fault (R.remaining reader.old) (R.remaining reader.new)
+        (asks_of C.answers hive.old) (view_of hive.old) (view_of hive.new) (W.contents writer.old) (W.contents writer.new)) }
+{
+    match run_script(alloc, moment, reader, writer, hive, false) {
+        Ok(ran) => Ok(ran),
+        Err(StrictFault::Script(fault)) => Err(fault),
+        Err(StrictFault::Line(_)) => unreachable!(),
+    }
+}
+
+/// Runs a script as [`run_to`] does, from `moment` on, to its first line that failed: that has no form of a line, or whose change was
+/// told another status than 0. Such a line's reply is the last that is written, the hive is as the lines before it left it, and what was read
+/// behind it does nothing. A question's status never ends it.
+pub fn run_strictly<R: Read, W: Write, C: Callback>(
+    alloc: Global,
+    moment: u64,
+    reader: &mut R,
+    writer: &mut W,
+    hive: &mut Hive<C>,
+) -> Result<u64, StrictFault>
+    ensures callbacks { callbacks_of hive.new ≡ callbacks_of hive.old }
+    ensures at_end { OnOk result (IsAtEnd (R.remaining reader.new)) }
+    ensures lines { IfOk result
+        (λ last. (script : List ℕ) × (text : List ℕ) × Consumes (R.remaining reader.old) (R.remaining reader.new) script
+        × LinesFrom moment (asks_of C.answers hive.old) (view_of hive.old) script text (view_of hive.new) last
+        × Appends (W.contents writer.old) (W.contents writer.new) text × AreWithin (lines_of script)
+        × HaveFailed 0 (lines_of script) (view_of hive.old) (view_of hive.new)) }
+    ensures stops { IfErr result (λ fault. StopsStrictly moment fault (R.remaining reader.old) (R.remaining reader.new)
+        (asks_of C.answers hive.old) (view_of hive.old) (view_of hive.new) (W.contents writer.old) (W.contents writer.new)) }
+{
+    match run_script(alloc, moment, reader, writer, hive, true) {
+        Ok(ran) => Ok(ran.moment),
         Err(fault) => Err(fault),
     }
 }

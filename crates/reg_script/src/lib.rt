@@ -4,11 +4,17 @@
 //! of the lines before it, or just as many bytes of them as the writer took, and the hive is as these lines left it. It stands on
 //! reg_calls, whose hive it works on, and on reg_model.
 //!
+//! A line fails where it has no form of a line, or asks for a change that isn't made. [`run_counted`] tells how many did, and
+//! [`run_strictly`] stops at the first.
+//!
 //! `parse` understands a line by the readers of `words`; `reply` writes a reply; `output` gathers replies and counts what the writer
-//! took; `engine` goes over the bytes. Its public type is [`ScriptFault`].
+//! took; `failed` tells how a line went; `engine` goes over the bytes. Its public types are [`ScriptFault`], [`Ran`], [`StrictFault`]
+//! and [`FailedLine`].
 #![tactic(auto)]
 
 mod engine;
+mod failed;
+mod fresh;
 pub mod laws;
 mod line;
 mod output;
@@ -16,4 +22,6 @@ mod parse;
 mod reply;
 mod words;
 
-pub use engine::{ScriptFault, run, run_to};
+pub use engine::{ScriptFault, run, run_counted, run_strictly, run_to};
+pub use failed::{FailedLine, Ran, StrictFault};
+pub use fresh::FRESH_DESCRIPTOR;

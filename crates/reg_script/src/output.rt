@@ -4,6 +4,7 @@ ghost use Rattle.reg_script.specs.Internal.Outputs.{IsSettled, IsCut, Closes};
 ghost use Rattle.reg_script.specs.Stops.{counted};
 
 use crate::engine::ScriptFault;
+use crate::failed::StrictFault;
 use reg_text::write_counted;
 use std::alloc::Global;
 use std::io::Write;
@@ -88,11 +89,11 @@ impl Output {
     pub fn close<W: Write>(
         &mut self,
         writer: &mut W,
-        ended: Result<(), ScriptFault>,
-    ) -> Result<(), ScriptFault>
+        ended: Result<(), StrictFault>,
+    ) -> Result<(), StrictFault>
         ensures { Closes ended (string_bytes self.old.text) self.old.written (W.contents writer.old) (W.contents writer.new) result }
     {
-        if let Err(ScriptFault::Write { .. }) = ended {
+        if let Err(StrictFault::Script(ScriptFault::Write { .. })) = ended {
             return ended;
         }
         self.flush(writer)?;

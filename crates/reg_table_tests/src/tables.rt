@@ -1,7 +1,9 @@
 //! Tables of a hive's tree. The wanted lines come from the rules of a table.
-use crate::support::{DESCRIPTOR, assert_told, fill};
+use crate::support::fill;
 use reg_calls::Hive;
+use reg_script::FRESH_DESCRIPTOR;
 use reg_tables::{export_csv, export_json};
+use reg_test_support::assert_report;
 use reg_tree::Tree;
 use std::alloc::Global;
 use std::test::Fail;
@@ -37,8 +39,8 @@ fn tables(alloc: Global, tree: &Tree, path: &[u8]) -> Result<String, Fail> {
 }
 
 /// A fresh hive after the script, of which the tables from a key on are told.
-fn told(alloc: Global, path: &[u8]) -> Result<String, Fail> {
-    let mut hive = Hive::new(alloc, b"ROOT", &DESCRIPTOR, 0)?;
+fn report(alloc: Global, path: &[u8]) -> Result<String, Fail> {
+    let mut hive = Hive::new(alloc, b"ROOT", &FRESH_DESCRIPTOR, 0)?;
     fill(alloc, &mut hive, SCRIPT)?;
     tables(alloc, hive.tree(), path)
 }
@@ -79,7 +81,7 @@ value,A,,,3,hex:01ab
 key,A\\c,2022-06-18T04:26:40.5Z,,,
 key,b,3000000000000000000,,,
 ";
-    assert_told(&rt, told(rt.alloc(), b""), wanted)
+    assert_report(report(rt.alloc(), b""), wanted)
 }
 
 #[test]
@@ -93,14 +95,13 @@ fn tables_from_a_key_on(rt: HostRuntime) -> Result<(), Fail> {
 kind,path,time,name,type,data
 key,A\\c,2022-06-18T04:26:40.5Z,,,
 ";
-    assert_told(&rt, told(rt.alloc(), b"a\\C"), wanted)
+    assert_report(report(rt.alloc(), b"a\\C"), wanted)
 }
 
 #[test]
 fn no_key(rt: HostRuntime) -> Result<(), Fail> {
-    assert_told(
-        &rt,
-        told(rt.alloc(), b"A\\d"),
+    assert_report(
+        report(rt.alloc(), b"A\\d"),
         "there is no such key\nthere is no such key\n",
     )
 }

@@ -11,8 +11,8 @@ use Rattle.reg_heap.specs.Paths.{Path, Tree, Rec, Member}
 use Rattle.reg_heap.specs.Edits.{values_of, values_at}
 use Rattle.reg_text.specs.Texts.{digits_text}
 use Rattle.reg_values.specs.ValueLists.{Tells}
-use Rattle.reg_dump.specs.DumpTexts.{Told}
-use Rattle.reg_dump.proofs.LineTexts.{next_value}
+use Rattle.reg_tree_text.specs.DumpTexts.{Told}
+use Rattle.reg_tree_text.proofs.LineTexts.{next_value}
 use Rattle.reg_tables.specs.declared.entry.ValueEntry.{ValueEntry}
 use Rattle.reg_tables.specs.Tables.{value_data, key_data}
 use Rattle.reg_tables.specs.Times.{time_data}

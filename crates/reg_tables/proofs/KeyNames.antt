@@ -12,13 +12,13 @@ use Rattle.reg_heap.specs.Trees.{IsTree, IsWithinLimits}
 use Rattle.reg_tree.specs.declared.node.Node.{Node}
 use Rattle.reg_tree.specs.TreeKeys.{Keys, IsAt, IsResolved}
 use Rattle.reg_tree.proofs.Invariant.CellReadings.{some_of}
-use Rattle.reg_dump.specs.declared.walk.Pending.{Pending}
-use Rattle.reg_dump.specs.declared.walk.Walk.{Walk}
-use Rattle.reg_dump.specs.DumpTexts.{Told, name_of, told_here, told_from}
-use Rattle.reg_dump.specs.Internal.Walking.{text_below, told_below, ArePending, Stands, Goes}
-use Rattle.reg_dump.proofs.WalkSteps.{text-below, name-some, told-open}
-use Rattle.reg_dump.proofs.LineTexts.{root_named}
-use Rattle.reg_looks.specs.Looks.{key_at}
+use Rattle.reg_tree_text.specs.declared.walk.Pending.{Pending}
+use Rattle.reg_tree_text.specs.declared.walk.Walk.{Walk}
+use Rattle.reg_tree_text.specs.DumpTexts.{Told, name_of, told_here, told_from}
+use Rattle.reg_tree_text.specs.Internal.Walking.{text_below, told_below, ArePending, Stands, Goes}
+use Rattle.reg_tree_text.proofs.WalkSteps.{text-below, name-some, told-open}
+use Rattle.reg_tree_text.proofs.LineTexts.{root_named}
+use Rattle.reg_tree_text.specs.PathQueries.{key_at}
 use Rattle.reg_tables.specs.Tables.{names_along, names_to, keys_from}
 use Rattle.reg_tables.proofs.OneName.{IsOneName, one_name}
 

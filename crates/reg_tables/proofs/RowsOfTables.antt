@@ -7,8 +7,8 @@ use Rattle.hex.proofs.OnLiterals.{hex_on_literals}
 use Rattle.serde_json.proofs.OnLiterals.{serde_json_on_literals}
 use Rattle.csv.specs.Writing.{escaped, fields_text, is_blank}
 use Rattle.jiff_fmt.specs.Text.{places, trailing_zeros}
-use Rattle.reg_dump.specs.DumpTexts.{Told}
-use Rattle.reg_listing.specs.ValueTexts.{form_text}
+use Rattle.reg_tree_text.specs.DumpTexts.{Told}
+use Rattle.reg_tree_text.specs.ValueTexts.{form_text}
 use Rattle.reg_tables.specs.Times.{year_and_day, month_and_day, date_text, clock_text, instant_text, time_text, time_data}
 use Rattle.reg_tables.specs.ValueForms.{form_data}
 use Rattle.reg_tables.specs.Tables.{key_text, more_text, keys_text, column_names, key_rows, line_text}

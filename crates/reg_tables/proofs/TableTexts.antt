@@ -10,9 +10,9 @@ use Rattle.reg_names.specs.Names.{text_of}
 use Rattle.reg_heap.specs.Paths.{Path, Tree, Rec, Member}
 use Rattle.reg_heap.specs.Edits.{values_of, values_at}
 use Rattle.reg_values.specs.ValueLists.{Tells}
-use Rattle.reg_dump.specs.DumpTexts.{Told}
-use Rattle.reg_dump.specs.Internal.Gathered.{WriterState, IsSoFar}
-use Rattle.reg_dump.proofs.SentTexts.{opened, swapped}
+use Rattle.reg_tree_text.specs.DumpTexts.{Told}
+use Rattle.reg_tree_text.specs.Internal.Gathered.{WriterState, IsSoFar}
+use Rattle.reg_tree_text.proofs.SentTexts.{opened, swapped}
 use Rattle.reg_tables.specs.Tables.{key_data, key_text, key_row, key_rows, value_row, value_rows, line_text}
 
 -- the text of a key that was gathered

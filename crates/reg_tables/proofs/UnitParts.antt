@@ -10,7 +10,7 @@ use Rattle.std.proofs.lemmas.List.Splits.{slice_split_first}
 use Rattle.reg_names.proofs.PathParts.{only}
 use Rattle.serde_json.specs.Data.{Data, string, array}
 use Rattle.serde_json.specs.View.{items_of}
-use Rattle.reg_listing.specs.ValueTexts.{spelt, units_of}
+use Rattle.reg_tree_text.specs.ValueTexts.{spelt, units_of}
 use Rattle.reg_tables.specs.ValueForms.{parts_of, is_end, string_in, with_text, strings_in, texts_data, strings_form}
 use Rattle.reg_tables.specs.Internal.Entries.{text_data}
 

@@ -10,12 +10,12 @@ use Rattle.reg_names.specs.declared.TheConstants.{PATH_LIMIT}
 use Rattle.reg_names.specs.Names.{text_of}
 use Rattle.reg_heap.specs.Paths.{Path, Tree, Member}
 use Rattle.reg_text.specs.Texts.{digits_text}
-use Rattle.reg_dump.specs.DumpTexts.{Told, name_of, told_from}
-use Rattle.reg_dump.specs.DumpFronts.{IsStopped}
-use Rattle.reg_listing.specs.ValueTexts.{value_told}
-use Rattle.reg_looks.specs.Looks.{key_at}
-use Rattle.reg_looks.specs.declared.fault.LookFault.{LookFault}
-use Rattle.reg_looks.specs.declared.fault.LookFault.TheVariants.{NoKey, NoValue, Stopped}
+use Rattle.reg_tree_text.specs.DumpTexts.{Told, name_of, told_from}
+use Rattle.reg_tree_text.specs.DumpFronts.{IsStopped}
+use Rattle.reg_tree_text.specs.ValueTexts.{value_told}
+use Rattle.reg_tree_text.specs.PathQueries.{key_at}
+use Rattle.reg_tree_text.specs.declared.path_fault.PathFault.{PathFault}
+use Rattle.reg_tree_text.specs.declared.path_fault.PathFault.TheVariants.{NoKey, NoValue, Stopped}
 use Rattle.reg_tables.specs.Times.{time_text, time_data}
 use Rattle.reg_tables.specs.ValueForms.{data_of}
 
@@ -99,7 +99,7 @@ csv_text tree path = line_text column_names ++ flat_map key_rows (keys_from tree
 -- ---- what ended early
 
 -- why a table wasn't written: no key is there, and nothing was written; or a front of the text was
-abbrev pub TableStops : LookFault → Tree → (text : List ℕ) → (table : Path → List ℕ) → (before after : Option (List ℕ)) → Type 0
+abbrev pub TableStops : PathFault → Tree → (text : List ℕ) → (table : Path → List ℕ) → (before after : Option (List ℕ)) → Type 0
 TableStops NoKey tree text table before after = (key_at tree text ≡ None) × (after ≡ before)
 TableStops NoValue tree text table before after = ⊥
 TableStops (Stopped fault) tree text table before after =

@@ -6,8 +6,8 @@ use Rattle.byteorder.specs.Endian.{little_number, big_number}
 use Rattle.serde_json.specs.Data.{Data, number, unsigned, string, array, object, member, no_members}
 use Rattle.serde_json.specs.View.{items_of}
 use Rattle.reg_text.specs.Texts.{digits_text}
-use Rattle.reg_listing.specs.ValueTexts.{units_of, spelt}
-use Rattle.reg_listing.specs.declared.value.TheConstants.{STRING, EXPANDABLE, NUMBER, BIG_NUMBER, LINK, STRINGS, LONG_NUMBER}
+use Rattle.reg_tree_text.specs.ValueTexts.{units_of, spelt}
+use Rattle.reg_tree_text.specs.declared.value.TheConstants.{STRING, EXPANDABLE, NUMBER, BIG_NUMBER, LINK, STRINGS, LONG_NUMBER}
 
 -- the parts of some units between their zeros
 abbrev pub parts_of : List ℕ → List (List ℕ)

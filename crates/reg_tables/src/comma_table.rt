@@ -2,21 +2,20 @@
 ghost use Rattle.std.specs.Prelude.{◌≡◌, flat_map, List, Some, OnOk, IfErr, MatchResult};
 ghost use Rattle.std.specs.Io.KnownBytes.{Appends};
 ghost use Rattle.reg_heap.specs.Paths.{Path};
-ghost use Rattle.reg_dump.specs.DumpTexts.{Told};
+ghost use Rattle.reg_tree_text.specs.DumpTexts.{Told};
 ghost use Rattle.reg_text.specs.Failures.{Stays};
-ghost use Rattle.reg_dump.specs.DumpFronts.{IsStopped, IsBlamed};
-ghost use Rattle.reg_dump.specs.Internal.Gathered.{Puts};
-ghost use Rattle.reg_dump.specs.Internal.Walking.{Goes, Stands};
-ghost use Rattle.reg_looks.specs.Looks.{key_at, IsTold};
-ghost use Rattle.reg_looks.specs.LookBlames.{LookBlames};
+ghost use Rattle.reg_tree_text.specs.DumpFronts.{IsStopped, IsBlamed};
+ghost use Rattle.reg_tree_text.specs.Internal.Gathered.{Puts};
+ghost use Rattle.reg_tree_text.specs.Internal.Walking.{Goes, Stands};
+ghost use Rattle.reg_tree_text.specs.PathQueries.{key_at, IsTold};
+ghost use Rattle.reg_tree_text.specs.PathBlames.{PathBlames};
 ghost use Rattle.reg_tables.specs.Tables.{key_rows, csv_text, TableStops};
 
-use crate::keys::{find_key, walk_from};
+use crate::keys::walk_from;
 use crate::row::{put_key, put_row};
-use reg_dump::{DumpFault, Output, Walk};
-use reg_looks::LookFault;
 use reg_text::Sink;
 use reg_tree::Tree;
+use reg_tree_text::{DumpFault, Output, PathFault, Walk, find_key};
 use std::alloc::Global;
 
 /// Tells the rows of the keys behind the one at which a walk stands.
@@ -105,7 +104,7 @@ fn write_table<S: Sink>(
 
 /// Writes the key that a path leads to from the root, names folded, and all keys below it as CSV, in the order of a dump: a row with
 /// the names of the columns, one for each key with its path and time, and behind it one for each of its values with the key's path
-/// and the value's name, type and data ([`reg_listing::value_text`]). The empty path is the root's. The text goes to the writer some
+/// and the value's name, type and data ([`reg_tree_text::value_text`]). The empty path is the root's. The text goes to the writer some
 /// 64 KB at a time, but that of a row in one piece, and at the end the writer is flushed.
 ///
 /// `NoKey` where the text is no path or no key is there, and then nothing was written; else `Stopped` where a write or memory failed,
@@ -115,18 +114,18 @@ pub fn export_csv<S: Sink>(
     tree: &Tree,
     path: &[u8],
     writer: &mut S,
-) -> Result<(), LookFault>
+) -> Result<(), PathFault>
     ensures ok { OnOk result (IsTold (key_at tree.now.tree path.now) (csv_text tree.now.tree) (S.contents writer.old) (S.contents writer.new)) }
     ensures err { IfErr result (λ fault. TableStops fault tree.now.tree path.now (csv_text tree.now.tree) (S.contents writer.old) (S.contents writer.new)) }
     ensures flushed { OnOk result (S.is_flushed writer.new) }
     ensures failures { MatchResult result (λ _. Stays (S.failures writer.old) (S.failures writer.new))
-        (λ fault. LookBlames fault (S.failures writer.old) (S.failures writer.new)) }
+        (λ fault. PathBlames fault (S.failures writer.old) (S.failures writer.new)) }
 {
     let Some(_node) = find_key(tree, path) else {
-        return Err(LookFault::NoKey);
+        return Err(PathFault::NoKey);
     };
     match write_table(alloc, tree, path, writer) {
         Ok(()) => Ok(()),
-        Err(fault) => Err(LookFault::Stopped(fault)),
+        Err(fault) => Err(PathFault::Stopped(fault)),
     }
 }

@@ -5,7 +5,7 @@ ghost use Rattle.reg_names.specs.Names.{text_of};
 ghost use Rattle.reg_heap.specs.Paths.{Path, Member};
 ghost use Rattle.reg_heap.specs.Edits.{values_at};
 ghost use Rattle.reg_tree.specs.TreeKeys.{IsAt, IsThere};
-ghost use Rattle.reg_dump.specs.DumpTexts.{Told};
+ghost use Rattle.reg_tree_text.specs.DumpTexts.{Told};
 ghost use Rattle.reg_tables.specs.Tables.{value_data, key_data};
 ghost use Rattle.reg_tables.specs.Internal.Entries.{value_view, key_view};
 

@@ -5,23 +5,22 @@ ghost use Rattle.std.specs.Io.KnownBytes.{Appends};
 ghost use Rattle.reg_names.specs.Names.{text_of};
 ghost use Rattle.reg_heap.specs.Paths.{Path};
 ghost use Rattle.reg_tree.specs.TreeKeys.{IsAt, IsThere};
-ghost use Rattle.reg_dump.specs.DumpTexts.{Told};
+ghost use Rattle.reg_tree_text.specs.DumpTexts.{Told};
 ghost use Rattle.reg_text.specs.Failures.{Stays};
-ghost use Rattle.reg_dump.specs.DumpFronts.{IsStopped, IsBlamed};
-ghost use Rattle.reg_dump.specs.Internal.Gathered.{Puts};
-ghost use Rattle.reg_dump.specs.Internal.Walking.{Goes, Stands};
-ghost use Rattle.reg_looks.specs.Looks.{key_at, IsTold};
-ghost use Rattle.reg_looks.specs.LookBlames.{LookBlames};
+ghost use Rattle.reg_tree_text.specs.DumpFronts.{IsStopped, IsBlamed};
+ghost use Rattle.reg_tree_text.specs.Internal.Gathered.{Puts};
+ghost use Rattle.reg_tree_text.specs.Internal.Walking.{Goes, Stands};
+ghost use Rattle.reg_tree_text.specs.PathQueries.{key_at, IsTold};
+ghost use Rattle.reg_tree_text.specs.PathBlames.{PathBlames};
 ghost use Rattle.reg_tables.specs.Tables.{key_text, more_text, keys_text, json_text, TableStops};
 
 use crate::entry::entry_text;
 use crate::gather::key_entry;
-use crate::keys::{find_key, walk_from};
+use crate::keys::walk_from;
 use crate::parts::put_text;
-use reg_dump::{DumpFault, Output, Walk};
-use reg_looks::LookFault;
 use reg_text::Sink;
 use reg_tree::{Node, Tree};
+use reg_tree_text::{DumpFault, Output, PathFault, Walk, find_key};
 use std::alloc::Global;
 
 /// Tells a key with its values.
@@ -149,18 +148,18 @@ pub fn export_json<S: Sink>(
     tree: &Tree,
     path: &[u8],
     writer: &mut S,
-) -> Result<(), LookFault>
+) -> Result<(), PathFault>
     ensures ok { OnOk result (IsTold (key_at tree.now.tree path.now) (json_text tree.now.tree) (S.contents writer.old) (S.contents writer.new)) }
     ensures err { IfErr result (λ fault. TableStops fault tree.now.tree path.now (json_text tree.now.tree) (S.contents writer.old) (S.contents writer.new)) }
     ensures flushed { OnOk result (S.is_flushed writer.new) }
     ensures failures { MatchResult result (λ _. Stays (S.failures writer.old) (S.failures writer.new))
-        (λ fault. LookBlames fault (S.failures writer.old) (S.failures writer.new)) }
+        (λ fault. PathBlames fault (S.failures writer.old) (S.failures writer.new)) }
 {
     let Some(_node) = find_key(tree, path) else {
-        return Err(LookFault::NoKey);
+        return Err(PathFault::NoKey);
     };
     match write_table(alloc, tree, path, writer) {
         Ok(()) => Ok(()),
-        Err(fault) => Err(LookFault::Stopped(fault)),
+        Err(fault) => Err(PathFault::Stopped(fault)),
     }
 }

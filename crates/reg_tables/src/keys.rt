@@ -1,24 +1,14 @@
 //! A key found by its path, from where a walk begins with the names that lead to it as they are spelt.
 ghost use Rattle.std.specs.Prelude.{◌≡◌, length, IfOk, OnOk, Some};
 ghost use Rattle.reg_heap.specs.Paths.{Path};
-ghost use Rattle.reg_looks.specs.Looks.{key_at, IsKeyFound};
-ghost use Rattle.reg_dump.specs.Internal.Walking.{Goes, text_below};
+ghost use Rattle.reg_tree_text.specs.PathQueries.{key_at};
+ghost use Rattle.reg_tree_text.specs.Internal.Walking.{Goes, text_below};
 ghost use Rattle.reg_tables.specs.Tables.{keys_from};
 
-use reg_dump::Walk;
-use reg_names::{check_path, first_name};
+use reg_names::first_name;
 use reg_tree::{Node, Tree};
+use reg_tree_text::Walk;
 use std::alloc::{AllocError, Global};
-
-/// The key that a path leads to from the root, names folded; `None` where there is none, or where the text is no path.
-pub fn find_key(tree: &Tree, path: &[u8]) -> Option<Node>
-    ensures { IsKeyFound tree.now path.now result }
-{
-    if check_path(path).is_err() {
-        return None;
-    }
-    tree.resolve(tree.root(), path)
-}
 
 /// Puts a name behind a path's text. No name is empty, so only the root's text is.
 fn push_name(text: &mut Vec<u8>, name: &[u8]) -> Result<(), AllocError>

@@ -2,8 +2,7 @@
 //!
 //! Its one contract: [`export_json`] and [`export_csv`] write just the text that `specs/Tables.antt` says of the key that is there and of
 //! all below it, or a front of it where a write or memory fails; where there is none, they say so and write nothing. It stands on
-//! reg_dump, whose walk and gathered output it takes, on reg_listing and reg_looks, and on serde_json, csv and jiff, whose own words the
-//! texts are. It has no type of its own.
+//! reg_tree_text, whose walk, gathered output and texts of data it takes, and on serde_json, csv and jiff, whose own words the texts are. It has no type of its own.
 #![tactic(auto)]
 
 mod comma_table;

@@ -1,8 +1,8 @@
 //! A text on its way to a writer.
-ghost use Rattle.reg_dump.specs.Internal.Gathered.{Puts};
+ghost use Rattle.reg_tree_text.specs.Internal.Gathered.{Puts};
 
-use reg_dump::{DumpFault, Output};
 use reg_text::Sink;
+use reg_tree_text::{DumpFault, Output};
 
 /// Tells a text.
 pub fn put_text<S: Sink>(output: &mut Output, writer: &mut S, text: &str) -> Result<(), DumpFault>

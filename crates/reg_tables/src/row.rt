@@ -6,17 +6,16 @@ ghost use Rattle.reg_names.specs.Names.{text_of};
 ghost use Rattle.reg_heap.specs.Paths.{Path, Member};
 ghost use Rattle.reg_heap.specs.Edits.{values_at};
 ghost use Rattle.reg_tree.specs.TreeKeys.{IsAt, IsThere};
-ghost use Rattle.reg_dump.specs.DumpTexts.{Told};
-ghost use Rattle.reg_dump.specs.Internal.Gathered.{Puts};
+ghost use Rattle.reg_tree_text.specs.DumpTexts.{Told};
+ghost use Rattle.reg_tree_text.specs.Internal.Gathered.{Puts};
 ghost use Rattle.reg_tables.specs.Tables.{key_row, value_row, value_rows, key_rows, line_text};
 
 use crate::parts::put_text;
 use crate::time::{moment_text, number_text};
 use csv::{Error, WriterBuilder};
-use reg_dump::{DumpFault, Output};
-use reg_listing::value_text;
 use reg_text::Sink;
 use reg_tree::{Node, Tree};
+use reg_tree_text::{DumpFault, Output, value_text};
 use std::alloc::{AllocError, Global};
 
 /// The bytes of a row.

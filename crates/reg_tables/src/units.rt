@@ -2,7 +2,7 @@
 ghost use Rattle.std.specs.Prelude.{◌≡◌, ◌==◌, ◌≤◌, ◌<◌, ◌∷◌, [], length, MatchOption, IfSome, IfOk, map, string_bytes};
 ghost use Rattle.std.specs.Option.{option_map};
 ghost use Rattle.std.specs.List.{position_or_len};
-ghost use Rattle.reg_listing.specs.ValueTexts.{units_of, spelt};
+ghost use Rattle.reg_tree_text.specs.ValueTexts.{units_of, spelt};
 ghost use Rattle.reg_tables.specs.ValueForms.{parts_of, string_in, strings_in};
 
 use std::alloc::{AllocError, Global};

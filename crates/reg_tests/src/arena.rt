@@ -3,9 +3,10 @@
 ghost use Rattle.std.specs.Prelude.{◌≡◌, ◌-◌, ◌≤◌, ◌%◌, replicate, true, Some, IsSome, IfOk};
 ghost use Rattle.reg_arena.specs.Arena.{heap_of};
 
-use crate::support::{assert_same, assert_told};
+use crate::support::assert_same;
 use reg_arena::{Arena, ArenaFault, list_of};
 use reg_fixtures::is_among;
+use reg_test_support::assert_report;
 use std::alloc::Global;
 use std::test::Fail;
 
@@ -79,8 +80,7 @@ fn four_cells(alloc: Global) -> Result<String, Fail> {
 
 #[test]
 fn carves_cells_side_by_side(rt: HostRuntime) -> Result<(), Fail> {
-    assert_told(
-        &rt,
+    assert_report(
         four_cells(rt.alloc()),
         "[32, 48, 72, 104] 32 16*, 48 24*, 72 32*, 104 16*, 120 3976, ",
     )
@@ -105,8 +105,7 @@ fn carved_in_a_hole(alloc: Global) -> Result<String, Fail> {
 
 #[test]
 fn carves_each_cell_by_itself_and_the_largest_first(rt: HostRuntime) -> Result<(), Fail> {
-    assert_told(
-        &rt,
+    assert_report(
         carved_in_a_hole(rt.alloc()),
         "[120, 48] 32 16*, 48 24*, 72 32*, 104 16*, 120 16*, 136 3960, ",
     )
@@ -128,8 +127,7 @@ fn carved_in_bins(alloc: Global) -> Result<String, Fail> {
 
 #[test]
 fn carves_each_cell_in_a_bin_of_its_own(rt: HostRuntime) -> Result<(), Fail> {
-    assert_told(
-        &rt,
+    assert_report(
         carved_in_bins(rt.alloc()),
         "[4128, 32] 32 4064*, 4128 16*, 4144 4048, ",
     )
@@ -160,8 +158,7 @@ fn carved_in_turn(alloc: Global) -> Result<String, Fail> {
 
 #[test]
 fn carves_in_bins_whose_memory_was_kept(rt: HostRuntime) -> Result<(), Fail> {
-    assert_told(
-        &rt,
+    assert_report(
         carved_in_turn(rt.alloc()),
         "[56, 32, 8224, 4128, 12320, 12256, 12272, 72, 20512] 32 24*, 56 16*, 72 16*, 88 4008, 4128 4064*, 8224 4032*, 12256 16*, 12272 16*, 12320 8160*, 20512 4064*, ",
     )
@@ -195,11 +192,7 @@ fn filled(alloc: Global) -> Result<String, Fail> {
 
 #[test]
 fn the_bins_have_a_limit(rt: HostRuntime) -> Result<(), Fail> {
-    assert_told(
-        &rt,
-        filled(rt.alloc()),
-        "15 cells, 251719680 bytes, Err(Full)",
-    )
+    assert_report(filled(rt.alloc()), "15 cells, 251719680 bytes, Err(Full)")
 }
 
 // The cells after three of four were freed.
@@ -218,7 +211,7 @@ fn three_freed(alloc: Global) -> Result<String, Fail> {
 
 #[test]
 fn freed_cells_that_touch_are_one(rt: HostRuntime) -> Result<(), Fail> {
-    assert_told(&rt, three_freed(rt.alloc()), "32 72, 104 16*, 120 3976, ")
+    assert_report(three_freed(rt.alloc()), "32 72, 104 16*, 120 3976, ")
 }
 
 // Two bins of one free cell each.
@@ -241,7 +234,7 @@ fn two_freed(alloc: Global) -> Result<String, Fail> {
 
 #[test]
 fn freed_cells_of_two_bins_stay_two(rt: HostRuntime) -> Result<(), Fail> {
-    assert_told(&rt, two_freed(rt.alloc()), "32 4064, 4128 4064, ")
+    assert_report(two_freed(rt.alloc()), "32 4064, 4128 4064, ")
 }
 
 // The cells after a larger one was carved than either of two freed bins has room for.
@@ -259,8 +252,7 @@ fn larger_carved(alloc: Global) -> Result<String, Fail> {
 
 #[test]
 fn two_free_bins_are_no_room_for_a_larger_cell(rt: HostRuntime) -> Result<(), Fail> {
-    assert_told(
-        &rt,
+    assert_report(
         larger_carved(rt.alloc()),
         "32 4064, 4128 4064, 8224 4072*, 12296 4088, ",
     )
@@ -293,8 +285,7 @@ fn carved_at_last(alloc: Global) -> Result<String, Fail> {
 // Every allocation of the carve is refused in turn by `rt try --test --fail-alloc N`.
 #[test]
 fn a_carve_without_memory_changes_nothing(rt: HostRuntime) -> Result<(), Fail> {
-    assert_told(
-        &rt,
+    assert_report(
         carved_at_last(rt.alloc()),
         "Ok(()) [8224] 32 4064*, 4128 4064*, 8224 4072*, 12296 4088, ; ",
     )

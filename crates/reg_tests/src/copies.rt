@@ -1,8 +1,8 @@
 //! Copies of calls, entries and outcomes, with ample memory. What is compared is a copy's `Debug` text, which has every field.
-use crate::support::assert_told;
 use reg_model::{
     Answer, AnswerBody, Bytes, Call, Change, ChangeReply, Entry, Outcome, Query, Step,
 };
+use reg_test_support::assert_report;
 use std::alloc::Global;
 use std::fmt::Debug;
 use std::test::Fail;
@@ -47,7 +47,7 @@ fn copied_entry_of(alloc: Global, entry: &Entry) -> Result<String, Fail> {
     shown(alloc, &copy)
 }
 
-/// The same of that entry.
+/// What `copied_entry_of` tells of that entry.
 fn copied_entry(alloc: Global) -> Result<String, Fail> {
     let entry = entry(alloc)?;
     copied_entry_of(alloc, &entry)
@@ -55,8 +55,7 @@ fn copied_entry(alloc: Global) -> Result<String, Fail> {
 
 #[test]
 fn copies_of_changes(rt: HostRuntime) -> Result<(), Fail> {
-    assert_told(
-        &rt,
+    assert_report(
         copied_entry(rt.alloc()),
         "Entry { number: 5, session: 3, moment: 9, \
          change: SetValue { handle: 7, name: Bytes { items: [110, 97, 109, 101] }, kind: 4, bytes: Bytes { items: [1, 0, 0, 0] } }, \
@@ -84,7 +83,7 @@ fn copied_step_of(alloc: Global, step: &Step) -> Result<String, Fail> {
     shown(alloc, &copy)
 }
 
-/// The same of that step.
+/// What `copied_step_of` tells of that step.
 fn copied_step(alloc: Global) -> Result<String, Fail> {
     let step = step(alloc);
     copied_step_of(alloc, &step)
@@ -92,8 +91,7 @@ fn copied_step(alloc: Global) -> Result<String, Fail> {
 
 #[test]
 fn copies_of_steps(rt: HostRuntime) -> Result<(), Fail> {
-    assert_told(
-        &rt,
+    assert_report(
         copied_step(rt.alloc()),
         "Step { session: 3, moment: 9, call: Query(QueryValue { handle: 7, name: Bytes { items: [] }, room: Some(4) }) }",
     )
@@ -116,7 +114,7 @@ fn copied_outcome_of(alloc: Global, outcome: &Outcome) -> Result<String, Fail> {
     shown(alloc, &copy)
 }
 
-/// The same of that outcome.
+/// What `copied_outcome_of` tells of that outcome.
 fn copied_outcome(alloc: Global) -> Result<String, Fail> {
     let outcome = outcome(alloc)?;
     copied_outcome_of(alloc, &outcome)
@@ -124,8 +122,7 @@ fn copied_outcome(alloc: Global) -> Result<String, Fail> {
 
 #[test]
 fn copies_of_answers(rt: HostRuntime) -> Result<(), Fail> {
-    assert_told(
-        &rt,
+    assert_report(
         copied_outcome(rt.alloc()),
         "Answered(Answer { at: 5, body: Value { kind: 3, size: 2, bytes: Some(Bytes { items: [8, 9] }) } })",
     )
@@ -149,7 +146,7 @@ fn copied_opening_of(alloc: Global, change: &Change) -> Result<String, Fail> {
     shown(alloc, &copy)
 }
 
-/// The same of that change.
+/// What `copied_opening_of` tells of that change.
 fn copied_opening(alloc: Global) -> Result<String, Fail> {
     let change = create_key(alloc)?;
     copied_opening_of(alloc, &change)
@@ -157,8 +154,7 @@ fn copied_opening(alloc: Global) -> Result<String, Fail> {
 
 #[test]
 fn copies_of_openings(rt: HostRuntime) -> Result<(), Fail> {
-    assert_told(
-        &rt,
+    assert_report(
         copied_opening(rt.alloc()),
         "CreateKey { handle: 3, path: Bytes { items: [65, 92, 66] }, mask: 983103, descriptor: Some(Bytes { items: [1, 2] }) }",
     )
@@ -178,8 +174,7 @@ fn copied_enumeration(alloc: Global) -> Result<String, Fail> {
 
 #[test]
 fn copies_of_enumerations(rt: HostRuntime) -> Result<(), Fail> {
-    assert_told(
-        &rt,
+    assert_report(
         copied_enumeration(rt.alloc()),
         "EnumValue { handle: 7, index: 2, name_room: 5, room: None }",
     )
@@ -202,8 +197,7 @@ fn copied_description(alloc: Global) -> Result<String, Fail> {
 
 #[test]
 fn copies_of_descriptions(rt: HostRuntime) -> Result<(), Fail> {
-    assert_told(
-        &rt,
+    assert_report(
         copied_description(rt.alloc()),
         "SetSecurity { handle: 6, descriptor: Bytes { items: [3, 4] } }",
     )
@@ -221,8 +215,7 @@ fn copied_registration(alloc: Global) -> Result<String, Fail> {
 
 #[test]
 fn copies_of_registrations(rt: HostRuntime) -> Result<(), Fail> {
-    assert_told(
-        &rt,
+    assert_report(
         copied_registration(rt.alloc()),
         "Notify { handle: 6, filter: 268435460, subtree: true }",
     )
@@ -237,8 +230,7 @@ fn copied_question(alloc: Global) -> Result<String, Fail> {
 
 #[test]
 fn copies_of_questions_for_descriptors(rt: HostRuntime) -> Result<(), Fail> {
-    assert_told(
-        &rt,
+    assert_report(
         copied_question(rt.alloc()),
         "GetSecurity { handle: 7, room: 2 }",
     )
@@ -259,8 +251,7 @@ fn copied_descriptor(alloc: Global) -> Result<String, Fail> {
 
 #[test]
 fn copies_of_descriptors(rt: HostRuntime) -> Result<(), Fail> {
-    assert_told(
-        &rt,
+    assert_report(
         copied_descriptor(rt.alloc()),
         "Answered(Answer { at: 1, body: Security { bytes: Bytes { items: [5] } } })",
     )
@@ -275,5 +266,5 @@ fn vector_of_bytes(alloc: Global) -> Result<String, Fail> {
 
 #[test]
 fn bytes_give_their_vector_back(rt: HostRuntime) -> Result<(), Fail> {
-    assert_told(&rt, vector_of_bytes(rt.alloc()), "[110, 97, 109, 101]")
+    assert_report(vector_of_bytes(rt.alloc()), "[110, 97, 109, 101]")
 }

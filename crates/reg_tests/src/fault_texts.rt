@@ -1,13 +1,13 @@
 //! The words that faults are told in, which no clause says.
-use crate::support::assert_told;
 use reg_arena::ArenaFault;
 use reg_calls::{NewFault, RunFault};
-use reg_dump::DumpFault;
-use reg_image::{ImageFault, LoadFault, WriteFault};
 use reg_names::NameFault;
 use reg_records::RecordFault;
 use reg_script::ScriptFault;
+use reg_test_support::assert_report;
 use reg_tree::TreeFault;
+use reg_tree_image::{ImageFault, LoadFault, WriteFault};
+use reg_tree_text::DumpFault;
 use std::alloc::Global;
 use std::test::Fail;
 
@@ -57,7 +57,7 @@ fn faults_of_a_load(rt: HostRuntime) -> Result<(), Fail> {
 13 a limit is passed
 14 memory runs out
 ";
-    assert_told(&rt, load_texts(rt.alloc()), wanted)
+    assert_report(load_texts(rt.alloc()), wanted)
 }
 
 /// The faults of what is written.
@@ -73,7 +73,7 @@ fn write_texts(alloc: Global) -> Result<String, Fail> {
 fn faults_of_writing(rt: HostRuntime) -> Result<(), Fail> {
     let wanted =
         "no memory for the image, a write failed after 4096 bytes, a write failed after 7 bytes, a write failed after 0 bytes";
-    assert_told(&rt, write_texts(rt.alloc()), wanted)
+    assert_report(write_texts(rt.alloc()), wanted)
 }
 
 /// The faults of scripts, trees and new hives.
@@ -105,7 +105,7 @@ fn other_faults(rt: HostRuntime) -> Result<(), Fail> {
 a read failed, a line is too long, or there are too many, no memory
 there is no value of that name, the key has subkeys, the key may not be deleted
 the root's name is no key name, the descriptor is empty or too long, no memory";
-    assert_told(&rt, other_texts(rt.alloc()), wanted)
+    assert_report(other_texts(rt.alloc()), wanted)
 }
 
 /// The faults of trees that grow, and of their arenas.
@@ -131,7 +131,7 @@ fn faults_of_growing(rt: HostRuntime) -> Result<(), Fail> {
 there would be too many keys or values, the bins have no room, no memory
 the bins have no room, no memory
 no memory for the outcomes";
-    assert_told(&rt, growth_texts(rt.alloc()), wanted)
+    assert_report(growth_texts(rt.alloc()), wanted)
 }
 
 /// The faults of names and paths.
@@ -149,7 +149,7 @@ fn name_texts(alloc: Global) -> Result<String, Fail> {
 fn faults_of_names(rt: HostRuntime) -> Result<(), Fail> {
     let wanted =
         "the name is empty, the name has a byte that names may not have, the name is too long, the path has too many names";
-    assert_told(&rt, name_texts(rt.alloc()), wanted)
+    assert_report(name_texts(rt.alloc()), wanted)
 }
 
 /// The faults of records.
@@ -167,5 +167,5 @@ fn record_texts(alloc: Global) -> Result<String, Fail> {
 fn faults_of_records(rt: HostRuntime) -> Result<(), Fail> {
     let wanted = "the cell is too short for the record, the record has another signature, \
 a length in the record passes the end of its cell, the key node has a flag that is not supported";
-    assert_told(&rt, record_texts(rt.alloc()), wanted)
+    assert_report(record_texts(rt.alloc()), wanted)
 }

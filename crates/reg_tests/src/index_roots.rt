@@ -1,8 +1,8 @@
 //! Many subkeys of one key, in lists under an index root: which lists there are, and what each change makes of them. The lists are
 //! read off the bins, and the wanted ones follow from the rule that a list of 501 gives way to its first 250 and its last 251.
 use crate::keys::{at, make_below, tell_names, tree, unmake};
-use crate::support::assert_told;
 use reg_fixtures::{SubkeyLists, allocated, sizes_but, subkeys};
+use reg_test_support::assert_report;
 use reg_tree::Tree;
 use std::alloc::Global;
 use std::test::Fail;
@@ -36,7 +36,7 @@ fn grow(alloc: Global, tree: &mut Tree, from: u32, below: u32) -> Result<(), Fai
     Ok(())
 }
 
-/// The same from the last on.
+/// Makes the keys of these numbers, from the last one on.
 fn grow_down(alloc: Global, tree: &mut Tree, from: u32, below: u32) -> Result<(), Fail> {
     for number in (from..below).rev() {
         grow_one(alloc, tree, name(alloc, number)?.as_str())?;
@@ -72,7 +72,8 @@ fn tell_lists(alloc: Global, tree: &Tree, text: &mut String) -> Result<(), Fail>
     Ok(())
 }
 
-/// The same where the names are those of the numbers from one on and below another, without them; and how many cells are allocated.
+/// Tells the letters and counts of the subkey lists, which have the names of the numbers from one on and below another, and how many
+/// cells are allocated.
 fn tell_counts(
     alloc: Global,
     tree: &Tree,
@@ -112,7 +113,7 @@ fn rising_in(alloc: Global, tree: &mut Tree) -> Result<String, Fail> {
     Ok(text)
 }
 
-/// The same of a new tree.
+/// What `rising_in` tells of a new tree.
 fn rising(alloc: Global) -> Result<String, Fail> {
     let mut tree = tree(alloc)?;
     rising_in(alloc, &mut tree)
@@ -121,8 +122,7 @@ fn rising(alloc: Global) -> Result<String, Fail> {
 // beside the root and its security each key has a cell, each list, and the index root
 #[test]
 fn full_lists_give_way_to_two_and_empty_ones_go(rt: HostRuntime) -> Result<(), Fail> {
-    assert_told(
-        &rt,
+    assert_report(
         rising(rt.alloc()),
         "[500] 503 cells, ri [250, 251] 506 cells, ri [250, 250, 251] 757 cells, \
 ri [250, 251] 506 cells, [251] 254 cells, [] 2 cells, ",
@@ -149,7 +149,7 @@ fn falling_in(alloc: Global, tree: &mut Tree) -> Result<String, Fail> {
     Ok(text)
 }
 
-/// The same of a new tree.
+/// What `falling_in` tells of a new tree.
 fn falling(alloc: Global) -> Result<String, Fail> {
     let mut tree = tree(alloc)?;
     falling_in(alloc, &mut tree)
@@ -157,8 +157,7 @@ fn falling(alloc: Global) -> Result<String, Fail> {
 
 #[test]
 fn the_first_list_grows_where_names_fall(rt: HostRuntime) -> Result<(), Fail> {
-    assert_told(
-        &rt,
+    assert_report(
         falling(rt.alloc()),
         "[500] 503 cells, ri [250, 251] 506 cells, ri [500, 251] 756 cells, \
 [500] 503 cells, [1] 4 cells, [] 2 cells, ",
@@ -174,7 +173,7 @@ fn without_the_middle_in(alloc: Global, tree: &mut Tree) -> Result<String, Fail>
     Ok(text)
 }
 
-/// The same of a new tree.
+/// What `without_the_middle_in` tells of a new tree.
 fn without_the_middle(alloc: Global) -> Result<String, Fail> {
     let mut tree = tree(alloc)?;
     without_the_middle_in(alloc, &mut tree)
@@ -186,7 +185,7 @@ fn an_empty_list_goes_from_the_middle(rt: HostRuntime) -> Result<(), Fail> {
     let mut wanted = "ri [250, 251]: ".to_string(alloc)?;
     push_names(alloc, 0, 250, &mut wanted)?;
     push_names(alloc, 500, 751, &mut wanted)?;
-    assert_told(&rt, without_the_middle(alloc), wanted.as_str())
+    assert_report(without_the_middle(alloc), wanted.as_str())
 }
 
 /// The sizes of the allocated cells but of the keys, whose names have four characters, after some keys were made and the first deleted.
@@ -197,7 +196,7 @@ fn sizes_in(alloc: Global, tree: &mut Tree, made: u32, deleted: u32) -> Result<S
     Ok(format!(in alloc; "{sizes:?}")?)
 }
 
-/// The same of a new tree.
+/// What `sizes_in` tells of a new tree.
 fn sizes(alloc: Global, made: u32, deleted: u32) -> Result<String, Fail> {
     let mut tree = tree(alloc)?;
     sizes_in(alloc, &mut tree, made, deleted)
@@ -217,7 +216,7 @@ fn lists_have_cells_of_their_sizes(rt: HostRuntime) -> Result<(), Fail> {
         (751, 500, "[32, 2016]"),
         (751, 751, "[32]"),
     ] {
-        assert_told(&rt, sizes(alloc, made, deleted), wanted)?;
+        assert_report(sizes(alloc, made, deleted), wanted)?;
     }
     Ok(())
 }
@@ -239,7 +238,7 @@ fn with_one_in(alloc: Global, tree: &mut Tree, keys: u32, number: u32) -> Result
     Ok(text)
 }
 
-/// The same of a new tree.
+/// What `with_one_in` tells of a new tree.
 fn with_one(alloc: Global, keys: u32, number: u32) -> Result<String, Fail> {
     let mut tree = tree(alloc)?;
     with_one_in(alloc, &mut tree, keys, number)
@@ -259,7 +258,7 @@ fn a_full_list_is_halved_wherever_a_name_comes(rt: HostRuntime) -> Result<(), Fa
     let alloc = rt.alloc();
     for number in [0, 1, 248, 249, 250, 251, 252, 499, 500] {
         let wanted = wanted_with_one(alloc, "ri [250, 251]: ", 500, number)?;
-        assert_told(&rt, with_one(alloc, 500, number), wanted.as_str())?;
+        assert_report(with_one(alloc, 500, number), wanted.as_str())?;
     }
     Ok(())
 }
@@ -275,7 +274,7 @@ fn a_name_comes_into_its_list(rt: HostRuntime) -> Result<(), Fail> {
         (501, "ri [250, 252]: "),
     ] {
         let wanted = wanted_with_one(alloc, lists, 501, number)?;
-        assert_told(&rt, with_one(alloc, 501, number), wanted.as_str())?;
+        assert_report(with_one(alloc, 501, number), wanted.as_str())?;
     }
     let found = with_one(alloc, 501, 250)?;
     let lists = if found.as_str().starts_with("ri [250") {
@@ -284,7 +283,7 @@ fn a_name_comes_into_its_list(rt: HostRuntime) -> Result<(), Fail> {
         "ri [251, 251]: "
     };
     let wanted = wanted_with_one(alloc, lists, 501, 250)?;
-    assert_told(&rt, Ok(found), wanted.as_str())
+    assert_report(Ok(found), wanted.as_str())
 }
 
 /// Which of 751 keys aren't found under their names in capital letters, and which names between them are.
@@ -311,7 +310,7 @@ fn found_in(alloc: Global, tree: &mut Tree) -> Result<String, Fail> {
     Ok(text)
 }
 
-/// The same of a new tree.
+/// What `found_in` tells of a new tree.
 fn found(alloc: Global) -> Result<String, Fail> {
     let mut tree = tree(alloc)?;
     found_in(alloc, &mut tree)
@@ -322,5 +321,5 @@ fn keys_are_found_and_told_in_each_list(rt: HostRuntime) -> Result<(), Fail> {
     let alloc = rt.alloc();
     let mut wanted = String::new(alloc);
     push_names(alloc, 0, 751, &mut wanted)?;
-    assert_told(&rt, found(alloc), wanted.as_str())
+    assert_report(found(alloc), wanted.as_str())
 }

@@ -3,9 +3,10 @@
 ghost use Rattle.std.specs.Prelude.{IfSome, ◌≤◌, ◌<◌, length};
 ghost use Rattle.reg_tree.specs.TreeKeys.{IsThere};
 
-use crate::support::{assert_same, assert_told};
+use crate::support::assert_same;
 use reg_fixtures::deep;
 use reg_names::{check_path, check_value_name};
+use reg_test_support::assert_report;
 use reg_tree::{Node, Tree, TreeFault};
 use std::alloc::Global;
 use std::test::Fail;
@@ -120,7 +121,7 @@ fn made_twice_in(alloc: Global, tree: &mut Tree) -> Result<String, Fail> {
     Ok(text)
 }
 
-/// The same of a new tree.
+/// What `made_twice_in` tells of a new tree.
 fn made_twice(alloc: Global) -> Result<String, Fail> {
     let mut tree = tree(alloc)?;
     made_twice_in(alloc, &mut tree)
@@ -128,7 +129,7 @@ fn made_twice(alloc: Global) -> Result<String, Fail> {
 
 #[test]
 fn names_that_differ_only_in_case_are_one_key(rt: HostRuntime) -> Result<(), Fail> {
-    assert_told(&rt, made_twice(rt.alloc()), "made there Run ")
+    assert_report(made_twice(rt.alloc()), "made there Run ")
 }
 
 /// Tells the names of the keys right below the root, and how many cells there are.
@@ -147,7 +148,7 @@ fn thirty_three_in(alloc: Global, tree: &mut Tree) -> Result<String, Fail> {
     Ok(text)
 }
 
-/// The same of a new tree.
+/// What `thirty_three_in` tells of a new tree.
 fn thirty_three(alloc: Global) -> Result<String, Fail> {
     let mut tree = tree(alloc)?;
     thirty_three_in(alloc, &mut tree)
@@ -155,7 +156,7 @@ fn thirty_three(alloc: Global) -> Result<String, Fail> {
 
 #[test]
 fn a_path_of_thirty_three_missing_names_is_refused(rt: HostRuntime) -> Result<(), Fail> {
-    assert_told(&rt, thirty_three(rt.alloc()), "Limit: 2 cells")
+    assert_report(thirty_three(rt.alloc()), "Limit: 2 cells")
 }
 
 /// Whether a path of so many names below the root is too long to be made.
@@ -166,7 +167,7 @@ fn is_limited_in(alloc: Global, tree: &Tree, names: usize) -> Result<bool, Fail>
     Ok(tree.is_limited(reached))
 }
 
-/// The same of a new tree.
+/// What `is_limited_in` tells of a new tree.
 fn is_limited(alloc: Global, names: usize) -> Result<bool, Fail> {
     let tree = tree(alloc)?;
     is_limited_in(alloc, &tree, names)
@@ -200,7 +201,7 @@ fn deepest_in(alloc: Global, tree: &mut Tree) -> Result<String, Fail> {
     Ok(text)
 }
 
-/// The same of a new tree.
+/// What `deepest_in` tells of a new tree.
 fn deepest(alloc: Global) -> Result<String, Fail> {
     let mut tree = tree(alloc)?;
     deepest_in(alloc, &mut tree)
@@ -208,8 +209,7 @@ fn deepest(alloc: Global) -> Result<String, Fail> {
 
 #[test]
 fn a_path_has_at_most_512_names(rt: HostRuntime) -> Result<(), Fail> {
-    assert_told(
-        &rt,
+    assert_report(
         deepest(rt.alloc()),
         "made made made made made made made made made made made made made made made made Limit there",
     )
@@ -263,7 +263,7 @@ fn five_hundred_in(alloc: Global, tree: &mut Tree) -> Result<String, Fail> {
     Ok(text)
 }
 
-/// The same of a new tree.
+/// What `five_hundred_in` tells of a new tree.
 fn five_hundred(alloc: Global) -> Result<String, Fail> {
     let mut tree = tree(alloc)?;
     five_hundred_in(alloc, &mut tree)
@@ -272,7 +272,7 @@ fn five_hundred(alloc: Global) -> Result<String, Fail> {
 #[test]
 fn five_hundred_subkeys_stand_in_order(rt: HostRuntime) -> Result<(), Fail> {
     let wanted = all_names(rt.alloc())?;
-    assert_told(&rt, five_hundred(rt.alloc()), wanted.as_str())
+    assert_report(five_hundred(rt.alloc()), wanted.as_str())
 }
 
 /// What making and deleting 500 subkeys answers where it isn't as wanted, and what there is afterwards.
@@ -284,7 +284,7 @@ fn emptied_in(alloc: Global, tree: &mut Tree) -> Result<String, Fail> {
     Ok(text)
 }
 
-/// The same of a new tree.
+/// What `emptied_in` tells of a new tree.
 fn emptied(alloc: Global) -> Result<String, Fail> {
     let mut tree = tree(alloc)?;
     emptied_in(alloc, &mut tree)
@@ -292,7 +292,7 @@ fn emptied(alloc: Global) -> Result<String, Fail> {
 
 #[test]
 fn five_hundred_subkeys_are_deleted(rt: HostRuntime) -> Result<(), Fail> {
-    assert_told(&rt, emptied(rt.alloc()), "2 cells")
+    assert_report(emptied(rt.alloc()), "2 cells")
 }
 
 /// Sets a value of the key at a path, and tells what was answered.
@@ -371,7 +371,7 @@ fn two_values_in(alloc: Global, tree: &mut Tree) -> Result<String, Fail> {
     Ok(text)
 }
 
-/// The same of a new tree.
+/// What `two_values_in` tells of a new tree.
 fn two_values(alloc: Global) -> Result<String, Fail> {
     let mut tree = tree(alloc)?;
     two_values_in(alloc, &mut tree)
@@ -379,8 +379,7 @@ fn two_values(alloc: Global) -> Result<String, Fail> {
 
 #[test]
 fn values_are_told_in_order(rt: HostRuntime) -> Result<(), Fail> {
-    assert_told(
-        &rt,
+    assert_report(
         two_values(rt.alloc()),
         "v 1 4 [116, 101, 120, 116], w 1 6 [108, 111, 110, 103, 101, 114], removed",
     )
@@ -395,7 +394,7 @@ fn deleted_with_values_in(alloc: Global, tree: &mut Tree) -> Result<String, Fail
     Ok(format!(in alloc; "{before} cells, {answer}, {after} cells")?)
 }
 
-/// The same of a new tree.
+/// What `deleted_with_values_in` tells of a new tree.
 fn deleted_with_values(alloc: Global) -> Result<String, Fail> {
     let mut tree = tree(alloc)?;
     deleted_with_values_in(alloc, &mut tree)
@@ -403,11 +402,7 @@ fn deleted_with_values(alloc: Global) -> Result<String, Fail> {
 
 #[test]
 fn values_go_with_their_key(rt: HostRuntime) -> Result<(), Fail> {
-    assert_told(
-        &rt,
-        deleted_with_values(rt.alloc()),
-        "8 cells, deleted, 2 cells",
-    )
+    assert_report(deleted_with_values(rt.alloc()), "8 cells, deleted, 2 cells")
 }
 
 /// Deletes the key at a path with all below it, and tells what was answered.
@@ -441,7 +436,7 @@ fn deleted_tree_in(
     Ok(text)
 }
 
-/// The same of a new tree.
+/// What `deleted_tree_in` tells of a new tree.
 fn deleted_tree(alloc: Global, path: &[u8], timed: &[u8]) -> Result<String, Fail> {
     let mut tree = tree(alloc)?;
     deleted_tree_in(alloc, &mut tree, path, timed)
@@ -452,19 +447,14 @@ fn deleted_tree(alloc: Global, path: &[u8], timed: &[u8]) -> Result<String, Fail
 fn trees_are_deleted_by_name(rt: HostRuntime) -> Result<(), Fail> {
     let alloc = rt.alloc();
     let found = deleted_tree(alloc, b"p\\a", b"P");
-    assert_told(
-        &rt,
-        found,
-        "made made made made deleted AB P Q 9 cells, time 9",
-    )?;
+    assert_report(found, "made made made made deleted AB P Q 9 cells, time 9")?;
     let found = deleted_tree(alloc, b"P", b"");
-    assert_told(&rt, found, "made made made made deleted Q 4 cells, time 9")
+    assert_report(found, "made made made made deleted Q 4 cells, time 9")
 }
 
 #[test]
 fn the_root_is_not_deleted(rt: HostRuntime) -> Result<(), Fail> {
-    assert_told(
-        &rt,
+    assert_report(
         deleted_tree(rt.alloc(), b"", b""),
         "made made made made NoDelete A AB P Q 15 cells, time 7",
     )
@@ -488,7 +478,7 @@ fn kept_in(alloc: Global, tree: &mut Tree) -> Result<String, Fail> {
     Ok(text)
 }
 
-/// The same of a new tree.
+/// What `kept_in` tells of a new tree.
 fn kept(alloc: Global) -> Result<String, Fail> {
     let mut tree = tree(alloc)?;
     kept_in(alloc, &mut tree)
@@ -497,5 +487,5 @@ fn kept(alloc: Global) -> Result<String, Fail> {
 // only the root has mark 8
 #[test]
 fn the_root_alone_is_kept(rt: HostRuntime) -> Result<(), Fail> {
-    assert_told(&rt, kept(rt.alloc()), "made true false false")
+    assert_report(kept(rt.alloc()), "made true false false")
 }

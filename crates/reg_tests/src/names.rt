@@ -1,7 +1,7 @@
 //! Paths worked out by hand, and what the faults say.
-use crate::support::assert_told;
 use reg_fixtures::deep;
 use reg_names::{check_path, join_paths};
+use reg_test_support::assert_report;
 use std::alloc::Global;
 use std::test::Fail;
 
@@ -46,8 +46,7 @@ fn each_fault(alloc: Global) -> Result<String, Fail> {
 
 #[test]
 fn each_fault_has_its_text(rt: HostRuntime) -> Result<(), Fail> {
-    assert_told(
-        &rt,
+    assert_report(
         each_fault(rt.alloc()),
         "the name is empty\nthe name has a byte that names may not have\nthe name is too long\nthe path has too many names\na path\na path\n",
     )
@@ -64,8 +63,7 @@ fn last_levels(alloc: Global) -> Result<String, Fail> {
 
 #[test]
 fn the_last_level(rt: HostRuntime) -> Result<(), Fail> {
-    assert_told(
-        &rt,
+    assert_report(
         last_levels(rt.alloc()),
         "a path\nthe path has too many names\nthe name is empty\n",
     )
@@ -93,5 +91,5 @@ fn joined(alloc: Global) -> Result<String, Fail> {
 
 #[test]
 fn paths_joined(rt: HostRuntime) -> Result<(), Fail> {
-    assert_told(&rt, joined(rt.alloc()), "A\\B\\C\nA\nA\n\n")
+    assert_report(joined(rt.alloc()), "A\\B\\C\nA\nA\n\n")
 }

@@ -2,13 +2,14 @@
 ghost use Rattle.std.specs.Prelude.{◌≤◌};
 
 use crate::arena::carved;
-use crate::support::{assert_same, assert_told};
+use crate::support::assert_same;
 use reg_arena::Arena;
 use reg_names::check_value_name;
 use reg_records::{
     KeyFields, ListEntry, ListForm, ListHead, RecordFault, SecurityFields, ValueFields, entry_at,
     offset_at, put_list, read_list, read_nk, read_sk, read_vk,
 };
+use reg_test_support::assert_report;
 use reg_values::laws::no_values_are_no_list;
 use reg_values::{ValuesList, plan_set};
 use std::alloc::Global;
@@ -185,15 +186,11 @@ fn planned(alloc: Global, size: u32) -> Result<String, Fail>
 // A record of 24 bytes and a list of 4, each with its size field and rounded up to eights; the data stands in the record.
 #[test]
 fn a_small_value_is_planned(rt: HostRuntime) -> Result<(), Fail> {
-    assert_told(&rt, planned(rt.alloc(), 4), "[32, 8]")
+    assert_report(planned(rt.alloc(), 4), "[32, 8]")
 }
 
 // Then a big data record of 8 bytes, its list of two offsets, and segments of 16,344 and 3,656 bytes.
 #[test]
 fn a_large_value_is_planned(rt: HostRuntime) -> Result<(), Fail> {
-    assert_told(
-        &rt,
-        planned(rt.alloc(), 20_000),
-        "[32, 8, 16, 16, 16352, 3664]",
-    )
+    assert_report(planned(rt.alloc(), 20_000), "[32, 8, 16, 16, 16352, 3664]")
 }

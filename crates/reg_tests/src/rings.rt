@@ -4,9 +4,9 @@ ghost use Rattle.reg_heap.specs.Heaps.{Heap};
 ghost use Rattle.reg_security.specs.Rings.{Finds, cell_of};
 
 use crate::arena::carved;
-use crate::support::assert_told;
 use reg_arena::Arena;
 use reg_security::SecurityTable;
+use reg_test_support::assert_report;
 use std::alloc::Global;
 use std::test::Fail;
 
@@ -35,5 +35,5 @@ fn first_security(alloc: Global) -> Result<String, Fail> {
 fn first_security_is_its_own_neighbour(rt: HostRuntime) -> Result<(), Fail> {
     let wanted =
         "Some(32) [115, 107, 0, 0, 32, 0, 0, 0, 32, 0, 0, 0, 1, 0, 0, 0, 4, 0, 0, 0, 97, 98, 99, 100, 0, 0, 0, 0]";
-    assert_told(&rt, first_security(rt.alloc()), wanted)
+    assert_report(first_security(rt.alloc()), wanted)
 }

@@ -7,3 +7,4 @@ pub mod DeleteKey
 pub mod DescribeKey
 pub mod PruneTree
 pub mod BuildKey
+pub mod ByteValues

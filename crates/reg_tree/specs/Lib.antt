@@ -7,4 +7,5 @@ pub mod ValueAnswers
 pub mod Reaching
 pub mod SubkeyWalk
 pub mod BuiltKeys
+pub mod ValueBytes
 pub mod Internal

@@ -16,6 +16,7 @@ mod build_values;
 mod cells;
 mod fault;
 mod find;
+mod held_bytes;
 mod key;
 mod make;
 mod node;
@@ -29,6 +30,7 @@ mod values;
 
 pub use build::NewKey;
 pub use fault::TreeFault;
+pub use held_bytes::{bytes_spell_bytes, hold_bytes};
 pub use node::{Created, Node, Reached, Subkey};
 pub use reg_index::Place;
 pub use reg_values::{NewValue, Value};

@@ -1,9 +1,9 @@
 //! Queries, sets and walks of a tree: keys two names below the root, each with a value.
 
 use anyhow::{Result, bail};
-use reg_dump::count as count_keys;
 use reg_names::{check_path, check_value_name};
 use reg_tree::Tree;
+use reg_tree_text::count as count_keys;
 use reg_workload::PerCall;
 use std::alloc::Global;
 use std::rt::Clock;

@@ -3,9 +3,9 @@ ghost use Rattle.std.specs.Prelude.{◌≡◌, ◌+◌, ◌<◌, IfOk, OnOk};
 ghost use Rattle.reg_model.specs.declared.limits.TheConstants.{SESSIONS_LIMIT};
 
 use anyhow::{Result, bail};
+use reg_fixtures::Registry;
 use reg_model::filters::LAST_SET;
 use reg_model::{Bytes, Change};
-use reg_registry::Registry;
 use std::alloc::Global;
 
 /// Every right.

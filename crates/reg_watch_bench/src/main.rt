@@ -7,7 +7,7 @@
 //! argument it does the same with a few watches and prints counts alone, which are the same on every run.
 //!
 //! Its one contract: a hive is changed by calls that are all accepted, and each is an entry more. All of it but `main` is for any
-//! [`reg_registry::Registry`], which is checked without all that a hive is made of.
+//! [`reg_fixtures::Registry`], which is checked without all that a hive is made of.
 #![tactic(auto)]
 
 mod hives;
@@ -15,7 +15,7 @@ mod watches;
 
 use crate::watches::Size;
 use anyhow::{Result, bail};
-use reg_registry::PlainHive;
+use reg_fixtures::PlainHive;
 use std::env;
 
 /// How often everything is measured.

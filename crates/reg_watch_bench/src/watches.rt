@@ -5,8 +5,8 @@ use crate::hives::{
     sets_in_turn, take_all, watch,
 };
 use anyhow::Result;
+use reg_fixtures::Registry;
 use reg_model::{Bytes, Change};
-use reg_registry::Registry;
 use reg_workload::PerCall;
 use std::alloc::Global;
 use std::rt::Clock;

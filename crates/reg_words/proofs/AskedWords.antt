@@ -1,21 +1,23 @@
 -- What a command line asks for, as `clap`'s matches tell it.
-use Rattle.std.proofs.Common.{◌≡◌, ◌∙◌, List, ℕ, Bool, true, false, codes, sym, refl, ap, subst, inl, inr, map, ◌⊎◌, bytes_eq}
+use Rattle.std.proofs.Common.{◌≡◌, ◌∙◌, List, ℕ, Bool, true, false, codes, sym, refl, ap, subst, inl, inr, ◌⊎◌, bytes_eq}
 use Rattle.std.specs.Prelude.{Option, Some, None, Result, Ok, Err, option_map, unwrap_or}
 use Rattle.std.proofs.lemmas.Option.{same_Some}
 use Rattle.std.specs.Str.Parse.{ParsesUnsigned}
 use Rattle.clap.specs.Words.{Row, Text, TriesOne, all_of, first_of, first_value, matched_of, one_of, one_text, raw_values, rows_of}
 use Rattle.clap.specs.declared.parser.matches.Found.{Found}
 use Rattle.clap.proofs.WalkLemmas.{first_value-rows, one_text-rows, raw_values-rows}
+use Rattle.reg_words.specs.StreamLines.{IsNumber}
 use Rattle.reg_words.specs.CommandLines.{IsMoment, IsSet, Asks, AsksToBegin, AsksToEdit, AsksForForm, AsksForPlaces, places_asked}
 use Rattle.reg_words.specs.Internal.Commands.{IsFound}
+use Rattle.reg_words.proofs.StreamWords.{apart, stream_word, stream_named, stream_apart, other_stream, no_running}
 use Rattle.reg_words.specs.declared.request.Request.{Request}
-use Rattle.reg_words.specs.declared.request.Request.TheVariants.{Dump, Check, Listing, Get, Find, Diff, Export, New, Edit, Import}
+use Rattle.reg_words.specs.declared.request.Request.TheVariants.{Stream, Dump, Check, Listing, Get, Find, Diff, Export, New, Edit, Import}
 use Rattle.reg_words.specs.declared.request.EditRequest.{EditRequest}
 use Rattle.reg_words.specs.declared.request.Form.{Form}
 use Rattle.reg_words.specs.declared.request.Form.TheVariants.{Reg, Json, Csv}
 use Rattle.reg_words.specs.declared.request.Places.{Places}
 use Rattle.reg_words.specs.declared.request.Begin.{Begin}
-use Rattle.reg_words.specs.declared.request.Begin.TheVariants.{Kept, Now, At}
+use Rattle.reg_words.specs.declared.request.Begin.TheVariants.{Now, At}
 
 -- the first value, as the rows have it
 pub first_is : (f : Found) (name : Text) (got : Option Text) → got ≡ first_value f name → first_of name (rows_of f) ≡ got
@@ -29,62 +31,70 @@ set_when name rows text b e f g = (λ t. e ∙ ap Some (f t), λ h. g (same_Some
 pub unset_when : (name : Text) (rows : List Row) → first_of name rows ≡ None → (false ≡ true → IsSet name rows) × (IsSet name rows → false ≡ true)
 unset_when name rows e = (λ bad. cc, λ h. cc)
 
--- ---- the moment
+-- ---- a number that an option gives
 
--- what the reading of `--at` makes of it
-abbrev pub IsAsked : (E : Type 0) → List Row → Result (Option ℕ) E → Type 0
-IsAsked E rows (Ok None) = one_of (codes "at") rows ≡ None
-IsAsked E rows (Ok (Some moment)) = (text : Text) × (one_of (codes "at") rows ≡ Some text) × IsMoment text moment
-IsAsked E rows (Err e) =
-    (text : Text) × (one_of (codes "at") rows ≡ Some text) × ((moment : ℕ) → IsMoment text moment → ⊥)
+-- what a text reads as: a number that it writes, or an error where it writes none
+abbrev pub Reads : (Is : Text → ℕ → Type 0) (E : Type 0) → Text → Result ℕ E → Type 0
+Reads Is E text (Ok number) = Is text number
+Reads Is E text (Err e) = (number : ℕ) → Is text number → ⊥
 
-without_text : (E : Type 0) (rows : List Row) (r : Result (Option ℕ) E) → one_of (codes "at") rows ≡ None → r ≡ Ok None → IsAsked E rows r
-without_text E rows r none e = subst (IsAsked E rows) (sym e) none
+pub moment_read : (E : Type 0) (text : Text) (r : Result ℕ E) → ParsesUnsigned 64 10 text r → Reads IsMoment E text r
+moment_read E text (Ok number) p = record { numeral = p.0.0; small = p.0.1; value = p.1 }
+moment_read E text (Err e) p = λ number is. p (is.numeral, is.small)
 
-with_text : (E : Type 0) (G : List ℕ → Result ℕ E → Type 0) (rows : List Row) (t : Text) (r : Result (Option ℕ) E) →
-    ((u : List ℕ) (x : Result ℕ E) → G u x → ParsesUnsigned 64 10 u x) → one_of (codes "at") rows ≡ Some t → TriesOne G t r → IsAsked E rows r
-with_text E G rows t (Ok None) only some h = absurd h
-with_text E G rows t (Ok (Some n)) only some h =
-    let p = only t (Ok n) h in (t, some, record { numeral = p.0.0; small = p.0.1; value = p.1 })
-with_text E G rows t (Err e) only some h = (t, some, λ n (is : IsMoment t n). only t (Err e) h (is.numeral, is.small))
+pub number_read : (E : Type 0) (text : Text) (r : Result ℕ E) → ParsesUnsigned 32 10 text r → Reads IsNumber E text r
+number_read E text (Ok number) p = record { numeral = p.0.0; small = p.0.1; value = p.1 }
+number_read E text (Err e) p = λ number is. p (is.numeral, is.small)
 
-pub moment_asked : (E : Type 0) (G : List ℕ → Result ℕ E → Type 0) (f : Found) (r : Result (Option ℕ) E) →
-    ((u : List ℕ) (x : Result ℕ E) → G u x → ParsesUnsigned 64 10 u x) → (one_text f (codes "at") ≡ None → r ≡ Ok None)
-    → ((t : List ℕ) → one_text f (codes "at") ≡ Some t → TriesOne G t r) → IsAsked E (rows_of f) r
-moment_asked E G f r only none some = go (one_text f (codes "at")) refl
+module _ (name : Text) (Is : Text → ℕ → Type 0) (E : Type 0) (rows : List Row) where
+  -- what the reading of an option makes of it
+  abbrev pub IsAsked : Result (Option ℕ) E → Type 0
+  IsAsked (Ok None) = one_of name rows ≡ None
+  IsAsked (Ok (Some number)) = (text : Text) × (one_of name rows ≡ Some text) × Is text number
+  IsAsked (Err e) = (text : Text) × (one_of name rows ≡ Some text) × ((number : ℕ) → Is text number → ⊥)
+
+  without_text : (r : Result (Option ℕ) E) → one_of name rows ≡ None → r ≡ Ok None → IsAsked r
+  without_text r none e = subst IsAsked (sym e) none
+
+  with_text : (G : List ℕ → Result ℕ E → Type 0) (t : Text) (r : Result (Option ℕ) E) →
+      ((u : List ℕ) (x : Result ℕ E) → G u x → Reads Is E u x) → one_of name rows ≡ Some t → TriesOne G t r → IsAsked r
+  with_text G t (Ok None) only some h = absurd h
+  with_text G t (Ok (Some n)) only some h = (t, some, only t (Ok n) h)
+  with_text G t (Err e) only some h = (t, some, only t (Err e) h)
+
+  -- a match has told the variant
+  pub asked_at : (r x : Result (Option ℕ) E) → r ≡ x → IsAsked r → IsAsked x
+  asked_at r x e h = subst IsAsked e h
+
+pub option_asked : (name : Text) (Is : Text → ℕ → Type 0) (E : Type 0) (G : List ℕ → Result ℕ E → Type 0) (f : Found) (r : Result (Option ℕ) E) →
+    ((u : List ℕ) (x : Result ℕ E) → G u x → Reads Is E u x) → (one_text f name ≡ None → r ≡ Ok None)
+    → ((t : List ℕ) → one_text f name ≡ Some t → TriesOne G t r) → IsAsked name Is E (rows_of f) r
+option_asked name Is E G f r only none some = go (one_text f name) refl
   where
-    go : (o : Option Text) → one_text f (codes "at") ≡ o → IsAsked E (rows_of f) r
-    go None e = without_text E (rows_of f) r (sym (one_text-rows f (codes "at")) ∙ e) (none e)
-    go (Some t) e = with_text E G (rows_of f) t r only (sym (one_text-rows f (codes "at")) ∙ e) (some t e)
-
--- a match has told the variant
-pub asked_at : (E : Type 0) (rows : List Row) (r x : Result (Option ℕ) E) → r ≡ x → IsAsked E rows r → IsAsked E rows x
-asked_at E rows r x e h = subst (IsAsked E rows) e h
+    go : (o : Option Text) → one_text f name ≡ o → IsAsked name Is E (rows_of f) r
+    go None e = without_text name Is E (rows_of f) r (sym (one_text-rows f name) ∙ e) (none e)
+    go (Some t) e = with_text name Is E (rows_of f) G t r only (sym (one_text-rows f name) ∙ e) (some t e)
 
 -- ---- none of the beginnings
-
-same_text : (rows : List Row) (t u : Text) → one_of (codes "at") rows ≡ Some t → one_of (codes "at") rows ≡ Some u → u ≡ t
-same_text rows t u a b = same_Some u t (sym b ∙ a)
 
 -- the flag and a moment
 pub two_moments : (rows : List Row) (text : Text) → IsSet (codes "now") rows → one_of (codes "at") rows ≡ Some text → (begin : Begin) →
     AsksToBegin rows begin → ⊥
-two_moments rows text set some Kept h = h.0 set
-two_moments rows text set some Now h = let bad : None ≡ Some text = sym h.1 ∙ some in cc
+two_moments rows text set some Now h = let bad : None ≡ Some text = sym h ∙ some in cc
 two_moments rows text set some (At moment) h = h.0 set
 
 -- a text that is no moment
 pub no_moment : (rows : List Row) (text : Text) → one_of (codes "at") rows ≡ Some text → ((moment : ℕ) → IsMoment text moment → ⊥) →
     (begin : Begin) → AsksToBegin rows begin → ⊥
-no_moment rows text some never Kept h = let bad : None ≡ Some text = sym h.1 ∙ some in cc
-no_moment rows text some never Now h = let bad : None ≡ Some text = sym h.1 ∙ some in cc
+no_moment rows text some never Now h = let bad : None ≡ Some text = sym h ∙ some in cc
 no_moment rows text some never (At moment) h =
-    never moment (subst (λ (u : Text). IsMoment u moment) (same_text rows text h.1.0 some h.1.1) h.1.2)
+    never moment (subst (λ (u : Text). IsMoment u moment) (same_Some h.1.0 text (sym h.1.1 ∙ some)) h.1.2)
 
 -- ---- nothing asked for
 
 -- the word of the subcommand that asks for something
 abbrev pub word_of : Request → List ℕ
+word_of (Stream request) = stream_word request
 word_of (Dump file) = codes "dump"
 word_of (Check files) = codes "check"
 word_of (Listing file path is_whole) = codes "ls"
@@ -93,10 +103,11 @@ word_of (Find file pattern places) = codes "find"
 word_of (Diff old new) = codes "diff"
 word_of (Export file path form) = codes "export"
 word_of (New file name) = codes "new"
-word_of (Edit edit) = codes "edit"
+word_of (Edit edit keeps_going) = codes "edit"
 word_of (Import edit) = codes "import"
 
 pub named : (found : Text × List Row) (request : Request) → Asks found request → found.0 ≡ word_of request
+named found (Stream request) h = stream_named found request h
 named found (Dump file) h = h.0
 named found (Check files) h = h.0
 named found (Listing file path is_whole) h = h.0
@@ -105,25 +116,25 @@ named found (Find file pattern places) h = h.0
 named found (Diff old new) h = h.0
 named found (Export file path form) h = h.0
 named found (New file name) h = h.0
-named found (Edit edit) h = h.0
+named found (Edit edit keeps_going) h = h.0
 named found (Import edit) h = h.0
-
--- two words that differ
-pub apart : (a b : List ℕ) → bytes_eq a b ≡ false → bytes_eq a a ≡ true → a ≡ b → ⊥
-apart a b differ same e = let bad : true ≡ false = sym same ∙ (ap (bytes_eq a) e ∙ differ) in cc
 
 -- another subcommand was named
 module _ (word : Text) (rows : List Row) (request : Request) (same : bytes_eq word word ≡ true) where
   pub other : bytes_eq word (word_of request) ≡ false → Asks (word, rows) request → ⊥
   other differ h = apart word (word_of request) differ same (named (word, rows) request h)
 
--- the same subcommand, as it is named
+-- a subcommand, as it is named
 pub named_so : (name word : Text) (rows : List Row) (result : Option Request) → name ≡ word → IsFound (Asks (word, rows)) result →
     IsFound (Asks (name, rows)) result
 named_so name word rows result e h = subst (λ (w : Text). IsFound (Asks (w, rows)) result) (sym e) h
 
--- a subcommand that asks for nothing on files
+pub asked_so : (name word : Text) (rows : List Row) (request : Request) → name ≡ word → Asks (word, rows) request → Asks (name, rows) request
+asked_so name word rows request e h = subst (λ (w : Text). Asks (w, rows) request) (sym e) h
+
+-- a subcommand of another name than all that ask for something
 pub record IsNone (name : Text) : Type 0 where
+  pub no_run_word : name ≡ codes "run" → ⊥
   pub no_dump_word : name ≡ codes "dump" → ⊥
   pub no_check_word : name ≡ codes "check" → ⊥
   pub no_ls_word : name ≡ codes "ls" → ⊥
@@ -136,6 +147,8 @@ pub record IsNone (name : Text) : Type 0 where
   pub no_import_word : name ≡ codes "import" → ⊥
 
 pub none_asked : (name : Text) (rows : List Row) → IsNone name → (request : Request) → Asks (name, rows) request → ⊥
+none_asked name rows none (Stream request) h =
+    stream_apart (name, rows) request none.no_run_word none.no_dump_word none.no_check_word h
 none_asked name rows none (Dump file) h = none.no_dump_word (named (name, rows) (Dump file) h)
 none_asked name rows none (Check files) h = none.no_check_word (named (name, rows) (Check files) h)
 none_asked name rows none (Listing file path is_whole) h = none.no_ls_word (named (name, rows) (Listing file path is_whole) h)
@@ -144,7 +157,7 @@ none_asked name rows none (Find file pattern places) h = none.no_find_word (name
 none_asked name rows none (Diff old new) h = none.no_diff_word (named (name, rows) (Diff old new) h)
 none_asked name rows none (Export file path form) h = none.no_export_word (named (name, rows) (Export file path form) h)
 none_asked name rows none (New file value) h = none.no_new_word (named (name, rows) (New file value) h)
-none_asked name rows none (Edit edit) h = none.no_edit_word (named (name, rows) (Edit edit) h)
+none_asked name rows none (Edit edit keeps_going) h = none.no_edit_word (named (name, rows) (Edit edit keeps_going) h)
 none_asked name rows none (Import edit) h = none.no_import_word (named (name, rows) (Import edit) h)
 
 -- what is there is none
@@ -152,26 +165,27 @@ pub none_there : {X : Type 0} (o : Option X) (x : X) → o ≡ None → o ≡ So
 none_there o x e h = let bad : None ≡ Some x = sym e ∙ h in cc
 
 module _ (rows : List Row) where
-  pub no_dump : first_of (codes "file") rows ≡ None → (request : Request) → Asks (codes "dump", rows) request → ⊥
-  no_dump e (Dump file) h = none_there _ file.now e h.1
-  no_dump e request h = other (codes "dump") rows request refl refl h
-
-  pub no_check : all_of (codes "files") rows ≡ None → (request : Request) → Asks (codes "check", rows) request → ⊥
-  no_check e (Check files) h = none_there _ (map (λ file. file.now) files.items) e h.1
-  no_check e request h = other (codes "check") rows request refl refl h
+  -- `run` with a number that is none
+  pub no_run : (text : Text) → one_of (codes "image") rows ≡ Some text → ((number : ℕ) → IsNumber text number → ⊥) → (request : Request) →
+      Asks (codes "run", rows) request → ⊥
+  no_run text some never (Stream request) h = no_running rows text some never request h
+  no_run text some never request h = other (codes "run") rows request refl refl h
 
   pub no_new : first_of (codes "file") rows ≡ None → (request : Request) → Asks (codes "new", rows) request → ⊥
   no_new e (New file name) h = none_there _ file.now e h.1
+  no_new e (Stream request) h = other_stream (codes "new", rows) (codes "new") request refl refl refl refl refl h
   no_new e request h = other (codes "new") rows request refl refl h
 
   pub no_list : first_of (codes "file") rows ≡ None → (request : Request) → Asks (codes "ls", rows) request → ⊥
   no_list e (Listing file path is_whole) h = none_there _ file.now e h.1
+  no_list e (Stream request) h = other_stream (codes "ls", rows) (codes "ls") request refl refl refl refl refl h
   no_list e request h = other (codes "ls") rows request refl refl h
 
   pub no_get : ((first_of (codes "file") rows ≡ None) ⊎ (first_of (codes "path") rows ≡ None)) → (request : Request) →
       Asks (codes "get", rows) request → ⊥
   no_get (inl e) (Get file path value is_raw) h = none_there _ file.now e h.1
   no_get (inr e) (Get file path value is_raw) h = none_there _ path.now e h.2
+  no_get e (Stream request) h = other_stream (codes "get", rows) (codes "get") request refl refl refl refl refl h
   no_get e request h = other (codes "get") rows request refl refl h
 
   pub no_find : ((first_of (codes "file") rows ≡ None) ⊎ ((first_of (codes "pattern") rows ≡ None)
@@ -179,26 +193,31 @@ module _ (rows : List Row) where
   no_find (inl e) (Find file pattern places) h = none_there _ file.now e h.1
   no_find (inr (inl e)) (Find file pattern places) h = none_there _ pattern.now e h.2
   no_find (inr (inr never)) (Find file pattern places) h = never places h.3
+  no_find e (Stream request) h = other_stream (codes "find", rows) (codes "find") request refl refl refl refl refl h
   no_find e request h = other (codes "find") rows request refl refl h
 
   pub no_diff : ((first_of (codes "old") rows ≡ None) ⊎ (first_of (codes "new") rows ≡ None)) → (request : Request) →
       Asks (codes "diff", rows) request → ⊥
   no_diff (inl e) (Diff old new) h = none_there _ old.now e h.1
   no_diff (inr e) (Diff old new) h = none_there _ new.now e h.2
+  no_diff e (Stream request) h = other_stream (codes "diff", rows) (codes "diff") request refl refl refl refl refl h
   no_diff e request h = other (codes "diff") rows request refl refl h
 
   pub no_export : ((first_of (codes "file") rows ≡ None) ⊎ ((form : Form) → AsksForForm rows form → ⊥)) → (request : Request) →
       Asks (codes "export", rows) request → ⊥
   no_export (inl e) (Export file path form) h = none_there _ file.now e h.1
   no_export (inr never) (Export file path form) h = never form h.3
+  no_export e (Stream request) h = other_stream (codes "export", rows) (codes "export") request refl refl refl refl refl h
   no_export e request h = other (codes "export") rows request refl refl h
 
   pub no_edit : ((edit : EditRequest) → AsksToEdit rows edit → ⊥) → (request : Request) → Asks (codes "edit", rows) request → ⊥
-  no_edit never (Edit edit) h = never edit h.1
+  no_edit never (Edit edit keeps_going) h = never edit h.1
+  no_edit never (Stream request) h = other_stream (codes "edit", rows) (codes "edit") request refl refl refl refl refl h
   no_edit never request h = other (codes "edit") rows request refl refl h
 
   pub no_import : ((edit : EditRequest) → AsksToEdit rows edit → ⊥) → (request : Request) → Asks (codes "import", rows) request → ⊥
   no_import never (Import edit) h = never edit h.1
+  no_import never (Stream request) h = other_stream (codes "import", rows) (codes "import") request refl refl refl refl refl h
   no_import never request h = other (codes "import") rows request refl refl h
 
 -- no file is saved

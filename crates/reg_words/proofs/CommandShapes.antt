@@ -1,17 +1,17 @@
 -- `clap`'s command is put together of its arguments and subcommands, and what it takes is the definition's.
-use Rattle.std.proofs.Common.{◌≡◌, ◌∙◌, ◌||◌, List, [], ℕ, Bool, ap, ap₂, subst, sym, refl, true, inl, inr}
+use Rattle.std.proofs.Common.{◌≡◌, ◌∙◌, ◌||◌, List, [], ◌∷◌, ℕ, Bool, ap, ap₂, codes, subst, sym, refl, true, false, inl, inr}
 use Rattle.std.specs.Prelude.{Option, Some, None, Result, Ok, Err, IfErr, IfOk, ◌≢◌}
 use Rattle.std.specs.Result.{IsErrAnd}
 use Rattle.std.specs.declared.alloc.AllocError.{AllocError}
 use Rattle.clap.specs.Values.{kind_of}
 use Rattle.clap.specs.declared.error.kind.ErrorKind.TheVariants.{OutOfMemory}
-use Rattle.clap.specs.Words.{AddsArg, AddsSubcommand, App, FailsBy, HasKind, HasMatchesOf, IsAmong, Row, Rule, Text, fault_of, is_simple, is_simple_and_free, subcommand_of, subcommand_rows_of, with_rule, with_subcommand}
+use Rattle.clap.specs.Words.{AddsArg, AddsSubcommand, App, FailsBy, HasKind, HasMatchesOf, IsAmong, Kinds, Row, Rule, Text, fault_of, is_simple, is_simple_and_free, subcommand_of, subcommand_rows_of, with_rule, with_subcommand}
 use Rattle.clap.specs.declared.builder.arg.Arg.{Arg}
 use Rattle.clap.specs.declared.builder.command.Command.{Command}
 use Rattle.clap.specs.declared.error.Error.{Error}
 use Rattle.clap.specs.declared.parser.matches.ArgMatches.{ArgMatches}
 use Rattle.clap.proofs.OnLiterals.{clap_on_literals}
-use Rattle.reg_words.specs.CommandLines.{regtool, faults_in, found_in, AsksIn, AsksNothing, IsCommandLine}
+use Rattle.reg_words.specs.CommandLines.{regtool, faults_in, found_in, AsksIn, AsksNothing, IsCommandLine, IsNamed}
 use Rattle.reg_words.specs.Internal.Commands.{IsRule, IsCommand, IsFound}
 use Rattle.reg_words.specs.declared.request.Request.{Request}
 
@@ -29,7 +29,7 @@ with_command old sub new app sub_app c s adds = record {
   local = adds.globals ∙ ap₂ (λ (x y : Bool). x || y) c.local s.local;
 }
 
--- the same of one that was to be made, and was
+-- one that was to be made, and was
 pub with_sub : (old new : Command) (made : Result Command AllocError) (app sub_app : App) → IsCommand app old → IfOk made (IsCommand sub_app) →
     ((sub : Command) × (made ≡ Ok sub) × AddsSubcommand old sub new) → IsCommand (with_subcommand app sub_app.top) new
 with_sub old new made app sub_app c made_is h =
@@ -74,11 +74,53 @@ pub memory_unread : {T : Type 0} (words : List (List ℕ)) (r : Result T Error) 
 memory_unread words (Ok v) h = record {}
 memory_unread words (Err e) h = λ other request is. other h
 
--- what the matches ask for is what the words ask for
+-- ---- words that `clap` never takes
+
+-- `clap` finds no fault
+abbrev pub is_none : Kinds → Bool
+is_none [] = true
+is_none (k ∷ ks) = false
+
+no_words_is_none : is_none (faults_in []) ≡ false
+unfolding faults_in regtool clap_on_literals
+no_words_is_none = refl
+
+no_command_is_none : (program : List ℕ) → is_none (faults_in (program ∷ [])) ≡ false
+unfolding faults_in regtool clap_on_literals
+no_command_is_none program = refl
+
+help_is_none : (program : List ℕ) (more : List (List ℕ)) → is_none (faults_in (program ∷ codes "--help" ∷ more)) ≡ false
+unfolding faults_in regtool clap_on_literals
+help_is_none program more = refl
+
+short_help_is_none : (program : List ℕ) (more : List (List ℕ)) → is_none (faults_in (program ∷ codes "-h" ∷ more)) ≡ false
+unfolding faults_in regtool clap_on_literals
+short_help_is_none program more = refl
+
+help_command_is_none : (program : List ℕ) (more : List (List ℕ)) → is_none (faults_in (program ∷ codes "help" ∷ more)) ≡ false
+unfolding faults_in regtool clap_on_literals
+help_command_is_none program more = refl
+
+some_fault : (kinds : Kinds) → is_none kinds ≡ false → kinds ≡ [] → ⊥
+some_fault [] fault is = cc
+some_fault (k ∷ ks) fault is = cc
+
+pub named : (words : List (List ℕ)) → faults_in words ≡ [] → IsNamed words
+named [] taken = some_fault _ no_words_is_none taken
+named (program ∷ []) taken = some_fault _ (no_command_is_none program) taken
+named (program ∷ word ∷ more) taken = (
+  λ is. some_fault _ (help_is_none program more) (subst (λ (w : List ℕ). faults_in (program ∷ w ∷ more) ≡ []) is taken),
+  λ is. some_fault _ (short_help_is_none program more) (subst (λ (w : List ℕ). faults_in (program ∷ w ∷ more) ≡ []) is taken),
+  λ is. some_fault _ (help_command_is_none program more) (subst (λ (w : List ℕ). faults_in (program ∷ w ∷ more) ≡ []) is taken),
+)
+
+-- ---- what the matches ask for
+
+-- it is what the words ask for
 pub asked_for : (words : List (List ℕ)) (found : Option (Text × List Row)) (asked : Option Request) (request : Request) →
     faults_in words ≡ [] → found ≡ found_in words → IsFound (AsksIn found) asked → asked ≡ Some request → IsCommandLine words request
 asked_for words found asked request taken is read e =
-    record { taken = taken; asks = subst (λ (o : Option (Text × List Row)). AsksIn o request) is (subst (IsFound (AsksIn found)) e read) }
+    record { named = named words taken; taken = taken; asks = subst (λ (o : Option (Text × List Row)). AsksIn o request) is (subst (IsFound (AsksIn found)) e read) }
 
 pub asked_for_none : (words : List (List ℕ)) (found : Option (Text × List Row)) (asked : Option Request) →
     found ≡ found_in words → IsFound (AsksIn found) asked → asked ≡ None → AsksNothing words

@@ -1,3 +1,6 @@
 pub mod AskedWords
+pub mod CommandLineRows
 pub mod CommandShapes
 pub mod PlaceLemmas
+pub mod StreamRequests
+pub mod StreamWords

@@ -1,26 +1,35 @@
--- The command line of the tool on files (this project's own).
-use Rattle.std.specs.Prelude.{ℕ, ◌<◌, ◌≡◌, ◌↔◌, List, [], codes, map, option_map, unwrap_or, Option, Some, None, Bool, true, false}
+-- The tool's command line (this project's own).
+use Rattle.std.specs.Prelude.{ℕ, ◌<◌, ◌≡◌, ◌≢◌, ◌↔◌, List, [], ◌∷◌, codes, pos, map, option_map, unwrap_or, Option, Some, None, Bool, true, false, string_bytes, String}
 use Rattle.std.specs.Str.Parse.{IsNumeral, digits_value, without_leading_plus}
 use Rattle.clap.specs.Words.{App, Kinds, Row, Rule, Text, all_of, fault_of, first_of, new_app, new_rule, one_of, subcommand_of, with_rule, with_subcommand}
 use Rattle.clap.specs.Lexer.{usize_max}
 use Rattle.clap.specs.declared.builder.action.ArgAction.TheVariants as action
 use Rattle.clap.specs.declared.builder.value_parser.ValueParser.TheVariants as parser
-use Rattle.reg_command.specs.CommandLines.{required, run_command}
 use Rattle.reg_words.specs.PlaceLists.{places_in}
+use Rattle.reg_words.specs.StreamLines.{AsksOfStream}
 use Rattle.reg_words.specs.declared.request.EditRequest.{EditRequest}
 use Rattle.reg_words.specs.declared.request.Form.{Form}
 use Rattle.reg_words.specs.declared.request.Form.TheVariants.{Reg, Json, Csv}
 use Rattle.reg_words.specs.declared.request.Places.{Places}
 use Rattle.reg_words.specs.declared.request.Begin.{Begin}
-use Rattle.reg_words.specs.declared.request.Begin.TheVariants.{Kept, Now, At}
+use Rattle.reg_words.specs.declared.request.Begin.TheVariants.{Now, At}
+use Rattle.reg_words.specs.declared.request.StreamRequest.{StreamRequest}
 use Rattle.reg_words.specs.declared.request.Request.{Request}
-use Rattle.reg_words.specs.declared.request.Request.TheVariants.{Dump, Check, Listing, Get, Find, Diff, Export, New, Edit, Import}
+use Rattle.reg_words.specs.declared.request.Request.TheVariants.{Stream, Dump, Check, Listing, Get, Find, Diff, Export, New, Edit, Import}
 
--- `clap`'s command `regtool`, one of whose subcommands must be there: `run`, `dump` and `check` as without files, where `dump` may have a
--- file and `check` files; `ls` with a file, a path that may be left out, and the flag `--tree`; `get` with a file, a path, a value's name that may
--- be left out, and the flag `--raw`; `find` with a file, a pattern and the option `--in`; `diff` with two files; `export` with a file, a path that
--- may be left out, the option `--as`, which must be given, and the flag `--utf8`; `new` with a file and the option `--name`; and `edit` and
--- `import`, each with a file, the options `--output` and `--at`, which is a number of 64 bits, and the flags `--now` and `--dry-run`
+-- the words of a command line, as text
+abbrev pub texts : {A : Type 0} → List (String A) → List (List ℕ)
+texts words = map string_bytes words
+
+-- `clap`'s command `regtool`, one of whose subcommands must be there: `run` with the option `--image` of a number of 32 bits, which may be
+-- left out; `dump`, which may have a file, and `check`, which may have files; `ls` with a file, a path that may be left out, and the flag
+-- `--tree`; `get` with a file, a path, a value's name that may be left out, and the flag `--raw`; `find` with a file, a pattern and the
+-- option `--in`; `diff` with two files; `export` with a file, a path that may be left out, the option `--as`, which must be given, and the
+-- flag `--utf8`; `new` with a file and the option `--name`; and `edit` and `import`, each with a file, the options `--output` and `--at`,
+-- which is a number of 64 bits, and the flags `--now` and `--dry-run`, and `edit` with the flag `--keep-going`
+abbrev pub required : App → App
+required a = record a { top = record a.top { subcommand_required = true } }
+
 abbrev pub option_rule : Text → Rule
 option_rule name = record (new_rule name) { long = Some name; value_names = 1 }
 
@@ -45,6 +54,12 @@ files_rule = record (new_rule (codes "files")) {
 
 abbrev pub at_rule : Rule
 at_rule = record (option_rule (codes "at")) { parser = Some (parser.Unsigned 0 18446744073709551615) }
+
+abbrev pub image_rule : Rule
+image_rule = record (option_rule (codes "image")) { parser = Some (parser.Signed (pos 0) (pos 4294967295)) }
+
+abbrev pub run_command : App
+run_command = with_rule (new_app (codes "run")) image_rule
 
 abbrev pub dump_command : App
 dump_command = with_rule (new_app (codes "dump")) (file_rule false)
@@ -85,8 +100,12 @@ saving_command name =
     (with_rule (with_rule (with_rule (with_rule (new_app name) (file_rule true)) (option_rule (codes "output"))) (flag_rule (codes "now"))) at_rule)
     (flag_rule (codes "dry-run"))
 
-abbrev pub tool_commands : App
-tool_commands =
+abbrev pub edit_command : App
+edit_command = with_rule (saving_command (codes "edit")) (flag_rule (codes "keep-going"))
+
+-- the commands that work on the standard streams, these with those that look into a file, and all
+abbrev pub stream_commands : App
+stream_commands =
     with_subcommand
     (with_subcommand (with_subcommand (required (new_app (codes "regtool"))) run_command.top) dump_command.top)
     check_command.top
@@ -95,14 +114,14 @@ abbrev pub looking_commands : App
 looking_commands =
     with_subcommand
     (with_subcommand
-    (with_subcommand (with_subcommand (with_subcommand tool_commands list_command.top) get_command.top) find_command.top)
+    (with_subcommand (with_subcommand (with_subcommand stream_commands list_command.top) get_command.top) find_command.top)
     diff_command.top)
     export_command.top
 
 unfoldable pub regtool : App
 regtool =
     with_subcommand
-    (with_subcommand (with_subcommand looking_commands new_command.top) (saving_command (codes "edit")).top)
+    (with_subcommand (with_subcommand looking_commands new_command.top) edit_command.top)
     (saving_command (codes "import")).top
 
 -- the kinds of fault that `clap` finds in the words of a command line, the program's name first: none where it takes them
@@ -123,10 +142,9 @@ pub record IsMoment (text : List ℕ) (number : ℕ) : Type 0 where
 abbrev pub IsSet : Text → List Row → Type 0
 IsSet name rows = first_of name rows ≡ Some (codes "true")
 
--- the moment that the matches of a command that saves ask for: that of the file, of the clock, or one that is given
+-- the moment that the matches of a command that saves ask for: that of the clock, or one that is given, and then not that of the clock too
 abbrev pub AsksToBegin : List Row → Begin → Type 0
-AsksToBegin rows Kept = (IsSet (codes "now") rows → ⊥) × (one_of (codes "at") rows ≡ None)
-AsksToBegin rows Now = IsSet (codes "now") rows × (one_of (codes "at") rows ≡ None)
+AsksToBegin rows Now = one_of (codes "at") rows ≡ None
 AsksToBegin rows (At moment) =
     (IsSet (codes "now") rows → ⊥) × ((text : Text) × (one_of (codes "at") rows ≡ Some text) × IsMoment text moment)
 
@@ -151,8 +169,9 @@ AsksForForm rows (Reg is_utf8) = (first_of (codes "as") rows ≡ Some (codes "re
 AsksForForm rows Json = first_of (codes "as") rows ≡ Some (codes "json")
 AsksForForm rows Csv = first_of (codes "as") rows ≡ Some (codes "csv")
 
--- what a subcommand with its matches asks for of files
+-- what a subcommand with its matches asks for
 abbrev pub Asks : Text × List Row → Request → Type 0
+Asks found (Stream request) = AsksOfStream found request
 Asks found (Dump file) = (found.0 ≡ codes "dump") × (first_of (codes "file") found.1 ≡ Some file.now)
 Asks found (Check files) = (found.0 ≡ codes "check") × (all_of (codes "files") found.1 ≡ Some (map (λ file. file.now) files.items))
 Asks found (Listing file path is_whole) =
@@ -172,7 +191,8 @@ Asks found (Export file path form) =
 Asks found (New file name) =
     (found.0 ≡ codes "new") × (first_of (codes "file") found.1 ≡ Some file.now)
     × (name.now ≡ unwrap_or (first_of (codes "name") found.1) (codes "ROOT"))
-Asks found (Edit edit) = (found.0 ≡ codes "edit") × AsksToEdit found.1 edit
+Asks found (Edit edit keeps_going) =
+    (found.0 ≡ codes "edit") × AsksToEdit found.1 edit × ((keeps_going ≡ true) ↔ IsSet (codes "keep-going") found.1)
 Asks found (Import edit) = (found.0 ≡ codes "import") × AsksToEdit found.1 edit
 
 -- what a subcommand asks for, if there is one
@@ -180,11 +200,22 @@ abbrev pub AsksIn : Option (Text × List Row) → Request → Type 0
 AsksIn (Some found) request = Asks found request
 AsksIn None request = ⊥
 
--- these words are a command line of the tool on files, which asks for that: `clap` takes them
+-- a word stands behind the program's name, and it doesn't ask for help
+abbrev pub IsNamed : List (List ℕ) → Type 0
+IsNamed [] = ⊥
+IsNamed (program ∷ []) = ⊥
+IsNamed (program ∷ word ∷ more) = (word ≢ codes "--help") × (word ≢ codes "-h") × (word ≢ codes "help")
+
+-- these words are a command line of the tool, which asks for that: `clap` takes them
 pub record IsCommandLine (words : List (List ℕ)) (request : Request) : Type 0 where
+  pub named : IsNamed words
   pub taken : faults_in words ≡ []
   pub asks : AsksIn (found_in words) request
 
--- these words are no command line of it: whatever is asked, they don't ask for it
+-- these words are no command line of the tool: whatever is asked, they don't ask for it
 abbrev pub AsksNothing : List (List ℕ) → Type 0
 AsksNothing words = (request : Request) → IsCommandLine words request → ⊥
+
+-- these words ask for nothing of the standard streams alone
+abbrev pub AsksNoStream : List (List ℕ) → Type 0
+AsksNoStream words = (request : StreamRequest) → IsCommandLine words (Stream request) → ⊥

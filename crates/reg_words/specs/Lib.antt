@@ -1,3 +1,4 @@
+pub mod StreamLines
 pub mod CommandLines
 pub mod PlaceLists
 pub mod Internal

@@ -6,24 +6,42 @@ ghost use Rattle.reg_words.specs.CommandLines.{IsSet, AsksToBegin, AsksToEdit, A
 ghost use Rattle.reg_words.specs.Internal.Commands.{IsFound};
 
 use crate::places::read_places;
-use crate::{Begin, EditRequest, Form, Places, Request};
+use crate::{Begin, EditRequest, Form, Places, Request, StreamRequest};
 use clap::ArgMatches;
 use std::alloc::{AllocError, Global};
 
-/// What `check` is asked for; `None` where it has no files, which is `tool`'s.
-fn check_asked<'a>(
-    alloc: Global,
-    matches: &ArgMatches<'a>,
-) -> Result<Option<Request<'a>>, AllocError>
-    ensures { IfOk result (λ request. IsFound (Asks (codes "check", rows_of (found_of matches.now))) request) }
+/// What `run` is asked for; `None` where its number is none of 32 bits, which `clap` doesn't let through.
+fn run_asked<'a>(matches: &ArgMatches<'a>) -> Option<Request<'a>>
+    ensures { IsFound (Asks (codes "run", rows_of (found_of matches.now))) result }
+{
+    match matches.try_get_one::<u32>("image") {
+        Ok(None) => Some(Request::Stream(StreamRequest::Run)),
+        Ok(Some(sequence)) => Some(Request::Stream(StreamRequest::Image(sequence))),
+        Err(_) => None,
+    }
+}
+
+/// What `dump` is asked for: a file, or standard input where there is none.
+fn dump_asked<'a>(matches: &ArgMatches<'a>) -> Request<'a>
+    ensures { Asks (codes "dump", rows_of (found_of matches.now)) result }
+{
+    match matches.get_str("file") {
+        Some(file) => Request::Dump(file),
+        None => Request::Stream(StreamRequest::Dump),
+    }
+}
+
+/// What `check` is asked for: some files, or standard input where there are none.
+fn check_asked<'a>(alloc: Global, matches: &ArgMatches<'a>) -> Result<Request<'a>, AllocError>
+    ensures { IfOk result (λ request. Asks (codes "check", rows_of (found_of matches.now)) request) }
 {
     match matches.get_strs("files") {
         Some(files) => {
             let mut names = Vec::new(alloc);
             names.extend_from_slice(files)?;
-            Ok(Some(Request::Check(names)))
+            Ok(Request::Check(names))
         }
-        None => Ok(None),
+        None => Ok(Request::Stream(StreamRequest::Check)),
     }
 }
 
@@ -37,14 +55,13 @@ fn is_set(matches: &ArgMatches<'_>, name: &str) -> bool
     }
 }
 
-/// The moment that `edit` is asked to begin at; `None` where two are given.
+/// The moment to begin at, that of the clock where none is given; `None` where two are.
 fn begin_asked(matches: &ArgMatches<'_>) -> Option<Begin>
     ensures { IsFound (AsksToBegin (rows_of (found_of matches.now))) result }
 {
     let is_now = is_set(matches, "now");
     match matches.try_get_one::<u64>("at") {
-        Ok(None) if is_now => Some(Begin::Now),
-        Ok(None) => Some(Begin::Kept),
+        Ok(None) => Some(Begin::Now),
         Ok(Some(moment)) if !is_now => Some(Begin::At(moment)),
         _ => None,
     }
@@ -66,7 +83,7 @@ fn edit_of<'a>(file: &'a str, matches: &ArgMatches<'a>) -> Option<EditRequest<'a
     }
 }
 
-/// The same of any file; `None`, too, where there is none.
+/// What is asked of the file that is to be saved; `None`, too, where there is none.
 fn edit_request<'a>(matches: &ArgMatches<'a>) -> Option<EditRequest<'a>>
     ensures { IsFound (AsksToEdit (rows_of (found_of matches.now))) result }
 {
@@ -80,7 +97,10 @@ fn edit_asked<'a>(matches: &ArgMatches<'a>) -> Option<Request<'a>>
     ensures { IsFound (Asks (codes "edit", rows_of (found_of matches.now))) result }
 {
     match edit_request(matches) {
-        Some(edit) => Some(Request::Edit(edit)),
+        Some(edit) => Some(Request::Edit {
+            edit,
+            keeps_going: is_set(matches, "keep-going"),
+        }),
         None => None,
     }
 }
@@ -124,7 +144,7 @@ fn find_of<'a>(file: &'a str, pattern: &'a str, matches: &ArgMatches<'a>) -> Opt
     }
 }
 
-/// The same of any pattern; `None`, too, where there is none.
+/// What `find` is asked for of a file; `None`, too, where it has no pattern.
 fn find_in<'a>(file: &'a str, matches: &ArgMatches<'a>) -> Option<Request<'a>>
     requires { first_of (codes "file") (rows_of (found_of matches.now)) ≡ Some file.now }
     ensures { IsFound (Asks (codes "find", rows_of (found_of matches.now))) result }
@@ -266,17 +286,7 @@ fn new_asked<'a>(matches: &ArgMatches<'a>) -> Option<Request<'a>>
     }
 }
 
-/// What `dump` is asked for; `None` where it has no file, which is `tool`'s.
-fn dump_asked<'a>(matches: &ArgMatches<'a>) -> Option<Request<'a>>
-    ensures { IsFound (Asks (codes "dump", rows_of (found_of matches.now))) result }
-{
-    match matches.get_str("file") {
-        Some(file) => Some(Request::Dump(file)),
-        None => None,
-    }
-}
-
-/// What a subcommand is asked for; `None` where it is asked for nothing that has to do with files.
+/// What a subcommand is asked for; `None` where it is asked for nothing.
 fn command_asked<'a>(
     alloc: Global,
     name: &str,
@@ -284,11 +294,14 @@ fn command_asked<'a>(
 ) -> Result<Option<Request<'a>>, AllocError>
     ensures { IfOk result (λ request. IsFound (Asks (name.now, rows_of (found_of matches.now))) request) }
 {
+    if name == "run" {
+        return Ok(run_asked(matches));
+    }
     if name == "dump" {
-        return Ok(dump_asked(matches));
+        return Ok(Some(dump_asked(matches)));
     }
     if name == "check" {
-        return check_asked(alloc, matches);
+        return Ok(Some(check_asked(alloc, matches)?));
     }
     if name == "ls" {
         return Ok(list_asked(matches));

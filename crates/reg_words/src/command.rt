@@ -3,12 +3,12 @@
 ghost use Rattle.std.specs.Prelude.{◌≡◌, IfOk, Ok, codes, true, false};
 ghost use Rattle.clap.specs.Words.{AddsSubcommand, new_app, with_rule};
 ghost use Rattle.clap.specs.declared.builder.command.Command.{Command as AnyCommand};
-ghost use Rattle.reg_command.specs.CommandLines.{image_option, run_command as run_shape};
-ghost use Rattle.reg_words.specs.CommandLines.{option_rule, required_rule, flag_rule, place_rule, file_rule, files_rule, at_rule};
+ghost use Rattle.reg_words.specs.CommandLines.{option_rule, required_rule, flag_rule, place_rule, file_rule, files_rule, at_rule, image_rule};
+ghost use Rattle.reg_words.specs.CommandLines.{run_command as run_shape, edit_command as edit_shape};
 ghost use Rattle.reg_words.specs.CommandLines.{dump_command as dump_shape, check_command as check_shape, list_command as list_shape};
 ghost use Rattle.reg_words.specs.CommandLines.{get_command as get_shape, find_command as find_shape, diff_command as diff_shape};
 ghost use Rattle.reg_words.specs.CommandLines.{export_command as export_shape, new_command as new_shape, saving_command as saving_shape};
-ghost use Rattle.reg_words.specs.CommandLines.{tool_commands as tool_shape, looking_commands as looking_shape, regtool as regtool_shape};
+ghost use Rattle.reg_words.specs.CommandLines.{stream_commands as stream_shape, looking_commands as looking_shape, regtool as regstream_shape};
 ghost use Rattle.reg_words.specs.Internal.Commands.{IsRule, IsCommand};
 
 use clap::{Arg, ArgAction, Command};
@@ -89,7 +89,7 @@ fn files_arg<'a>(alloc: Global) -> Arg<'a>
 }
 
 fn image_arg<'a>(alloc: Global) -> Arg<'a>
-    ensures { IsRule image_option result }
+    ensures { IsRule image_rule result }
 {
     option_arg(
         alloc,
@@ -144,7 +144,6 @@ fn with_made<'a>(
     }
 }
 
-/// `run`, which [`reg_command::tool`] serves.
 fn run_command<'a>(alloc: Global) -> Result<Command<'a>, AllocError>
     ensures { IfOk result (λ command. IsCommand run_shape command) }
 {
@@ -243,7 +242,7 @@ fn output_command<'a>(
     ))
 }
 
-/// The same with all that it is asked.
+/// A command that saves a file, with all that edits and imports have in common.
 fn saving_command<'a>(
     alloc: Global,
     name: &'a str,
@@ -252,19 +251,28 @@ fn saving_command<'a>(
     ensures { IfOk result (λ command. IsCommand (saving_shape name.now) command) }
 {
     output_command(alloc, name, about)?
-        .arg(flag_arg(alloc, "now", "Begin at the moment of the clock"))?
+        .arg(flag_arg(
+            alloc,
+            "now",
+            "Begin at the moment of the clock, as without --at",
+        ))?
         .arg(at_arg(alloc))?
         .arg(flag_arg(alloc, "dry-run", "Save nothing"))
 }
 
 fn edit_command<'a>(alloc: Global) -> Result<Command<'a>, AllocError>
-    ensures { IfOk result (λ command. IsCommand (saving_shape (codes "edit")) command) }
+    ensures { IfOk result (λ command. IsCommand edit_shape command) }
 {
     saving_command(
         alloc,
         "edit",
         "Runs a script from standard input on a hive, and saves what it changed",
-    )
+    )?
+    .arg(flag_arg(
+        alloc,
+        "keep-going",
+        "Go on after a line that fails, and save what the others changed",
+    ))
 }
 
 fn import_command<'a>(alloc: Global) -> Result<Command<'a>, AllocError>
@@ -336,23 +344,21 @@ fn export_command<'a>(alloc: Global) -> Result<Command<'a>, AllocError>
         .arg(flag_arg(alloc, "utf8", "Write a .reg text in UTF-8"))
 }
 
-/// The commands that `tool` has, too.
-fn tool_commands<'a>(alloc: Global) -> Result<Command<'a>, AllocError>
-    ensures { IfOk result (λ command. IsCommand tool_shape command) }
+/// The commands that work on the standard streams.
+fn stream_commands<'a>(alloc: Global) -> Result<Command<'a>, AllocError>
+    ensures { IfOk result (λ command. IsCommand stream_shape command) }
 {
-    let top = bare_command(alloc, "regtool", "Answers registry calls on hives").subcommand_required(
-        true,
-    );
-    let running = with_made(top, run_command(alloc))?;
+    let top = bare_command(alloc, "regtool", "Answers registry calls on hives");
+    let running = with_made(top.subcommand_required(true), run_command(alloc))?;
     let dumping = with_made(running, dump_command(alloc))?;
     with_made(dumping, check_command(alloc))
 }
 
-/// With those that look into a file.
+/// These with those that look into a file.
 fn looking_commands<'a>(alloc: Global) -> Result<Command<'a>, AllocError>
     ensures { IfOk result (λ command. IsCommand looking_shape command) }
 {
-    let listing = with_made(tool_commands(alloc)?, list_command(alloc))?;
+    let listing = with_made(stream_commands(alloc)?, list_command(alloc))?;
     let getting = with_made(listing, get_command(alloc))?;
     let finding = with_made(getting, find_command(alloc))?;
     let comparing = with_made(finding, diff_command(alloc))?;
@@ -361,7 +367,7 @@ fn looking_commands<'a>(alloc: Global) -> Result<Command<'a>, AllocError>
 
 /// The whole command.
 pub fn whole_command<'a>(alloc: Global) -> Result<Command<'a>, AllocError>
-    ensures { IfOk result (λ command. IsCommand regtool_shape command) }
+    ensures { IfOk result (λ command. IsCommand regstream_shape command) }
 {
     let making = with_made(looking_commands(alloc)?, new_command(alloc))?;
     let editing = with_made(making, edit_command(alloc))?;

@@ -1,8 +1,8 @@
-//! The command line of the tool on files.
+//! The tool's command line.
 //!
-//! Its one contract: [`read_words`] tells of words exactly what they ask for, as `specs/CommandLines.antt` says it by `clap`'s own
-//! words, or that they ask for nothing. It stands on reg_command, whose `run` it has, and on `clap`. Its types are [`Request`] and
-//! what that holds: [`EditRequest`] with [`Begin`], [`Places`] and [`Form`].
+//! Its contract: [`read_words`] tells of words exactly what they ask for, as `specs/CommandLines.antt` says it by `clap`'s own
+//! words, or that they ask for nothing; [`read_stream_words`] does so for what is asked of the standard streams alone. It stands on
+//! `clap`. Its types are [`Request`] and what that holds: [`StreamRequest`], [`EditRequest`] with [`Begin`], [`Places`] and [`Form`].
 #![tactic(auto)]
 
 mod asked;
@@ -14,19 +14,19 @@ ghost use Rattle.std.specs.Prelude.{◌≡◌, ◌≢◌, IfOk, IfErr};
 ghost use Rattle.clap.specs.Words.{app_of};
 ghost use Rattle.clap.specs.Values.{kind_of};
 ghost use Rattle.clap.specs.declared.error.kind.ErrorKind.TheVariants.{OutOfMemory};
-ghost use Rattle.reg_command.specs.CommandLines.{texts};
-ghost use Rattle.reg_words.specs.CommandLines.{AsksNothing, IsCommandLine, regtool};
+ghost use Rattle.reg_words.specs.CommandLines.{texts, AsksNothing, AsksNoStream, IsCommandLine, regtool};
+ghost use Rattle.reg_words.specs.declared.request.Request.TheVariants.{Stream};
+ghost use Rattle.reg_words.specs.Internal.Commands.{stream_of as stream_asked};
 
 use crate::asked::asked;
 use crate::command::whole_command;
 use clap::error::ErrorKind;
 use clap::{Command, Error};
-pub use request::{Begin, EditRequest, Form, Places, Request};
+pub use request::{Begin, EditRequest, Form, Places, Request, StreamRequest};
 use std::alloc::Global;
 
-/// The error of words that `clap` takes though they ask for nothing, as those that give two moments, told in its own manner.
-fn refusal(command: &mut Command<'_>) -> Error {
-    let text = "the words ask for two moments, no file, or a form or place that there is none of";
+/// The error of words that `clap` takes though they ask for nothing that is served, told in its own manner.
+fn refusal(command: &mut Command<'_>, text: &str) -> Error {
     match command.error(ErrorKind::ArgumentConflict, text) {
         Ok(error) => error,
         Err(error) => Error::from(error),
@@ -46,7 +46,10 @@ fn read_by<'a>(
     let matches = command.try_get_matches_from_mut(words)?;
     match asked(alloc, &matches)? {
         Some(request) => Ok(request),
-        None => Err(refusal(command)),
+        None => Err(refusal(
+            command,
+            "the words ask for two moments, or a form or place that there is none of",
+        )),
     }
 }
 
@@ -57,4 +60,31 @@ pub fn read_words<'a>(alloc: Global, words: &'a [String]) -> Result<Request<'a>,
 {
     let mut command = whole_command(alloc)?;
     read_by(alloc, &mut command, words)
+}
+
+/// What is asked of the standard streams; `None` where files are named.
+fn stream_of(request: &Request<'_>) -> Option<StreamRequest>
+    ensures { result ≡ stream_asked request.now }
+{
+    match request {
+        Request::Stream(stream) => Some(*stream),
+        _ => None,
+    }
+}
+
+/// Reads a command line that asks for something of the standard streams alone. The error is want of memory or tells that the words
+/// don't ask for that.
+pub fn read_stream_words<'a>(alloc: Global, words: &'a [String]) -> Result<StreamRequest, Error>
+    ensures asks { IfOk result (λ request. IsCommandLine (texts words.now) (Stream request)) }
+    ensures refuses { IfErr result (λ error. kind_of error ≢ OutOfMemory → AsksNoStream (texts words.now)) }
+{
+    let mut command = whole_command(alloc)?;
+    let request = read_by(alloc, &mut command, words)?;
+    match stream_of(&request) {
+        Some(stream) => Ok(stream),
+        None => Err(refusal(
+            &mut command,
+            "the words name files, and only standard input is read here",
+        )),
+    }
 }

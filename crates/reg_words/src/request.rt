@@ -1,10 +1,21 @@
 //! What a command line asks for.
 
+/// What is asked of standard input, and is answered on standard output.
+#[derive(Clone, Copy, Debug, PartialEq, Eq)]
+pub enum StreamRequest {
+    /// The replies to a script.
+    Run,
+    /// The image, with that sequence number, of the hive that a script leaves.
+    Image(u32),
+    /// The text of an image's tree.
+    Dump,
+    /// How many keys and values an image has.
+    Check,
+}
+
 /// The moment at which an edit begins.
 #[derive(Clone, Copy, Debug, PartialEq, Eq)]
 pub enum Begin {
-    /// That of the file's base block.
-    Kept,
     /// That of the host's clock.
     Now,
     /// This one, in units of 100 ns since 1601.
@@ -47,6 +58,8 @@ pub struct EditRequest<'a> {
 /// What a command line asks for.
 #[derive(Debug, Drop)]
 pub enum Request<'a> {
+    /// What is done with the standard streams alone.
+    Stream(StreamRequest),
     /// The text of a file's tree.
     Dump(&'a str),
     /// How many keys and values each of some files has.
@@ -95,7 +108,11 @@ pub enum Request<'a> {
         name: &'a str,
     },
     /// A script on the hive of a file.
-    Edit(EditRequest<'a>),
+    Edit {
+        edit: EditRequest<'a>,
+        /// Whether it goes on after a line that fails.
+        keeps_going: bool,
+    },
     /// The entries of a .reg text made in the hive of a file.
     Import(EditRequest<'a>),
 }

@@ -1,4 +1,4 @@
-//! The same work by plain maps: what a program would keep that has no hive's bytes.
+//! Plain maps that do the work of a hive: what a program would keep that has no hive's bytes.
 ghost use Rattle.std.specs.Prelude.{◌≡◌, ◌+◌, IfOk, length, []};
 ghost use Rattle.reg_workload.specs.PlainJournals.{IsPlainReply};
 

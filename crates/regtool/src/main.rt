@@ -8,7 +8,7 @@
 
 ghost use Rattle.std.specs.Prelude.{◌≡◌, ◌≢◌, codes};
 
-use reg_files::{Input, file_tool};
+use reg_files::{Device, file_tool};
 use reg_progress::{Awaited, Counted, Work, tell_each_second};
 use std::io::{ErrorKind, IsTerminal};
 use std::process::ExitCode;
@@ -41,8 +41,8 @@ fn main(rt: HostRuntime) -> ExitCode {
         }
     };
     let work = Work::new();
-    let mut input = Input::new(alloc, Awaited::new(rt.reader(), &work));
-    let mut output = Counted::new(io::writer(&rt), &work);
+    let mut input = Awaited::new(rt.reader(), &work);
+    let mut output = Device::new(Counted::new(io::writer(&rt), &work));
     let mut errors = rt.stderr();
     if !errors.is_terminal() {
         return ExitCode::from(file_tool(alloc, &rt, words, &mut input, &mut output, &mut errors));

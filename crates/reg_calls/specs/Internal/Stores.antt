@@ -6,7 +6,7 @@ use Rattle.reg_model.specs.Worlds.{World, Handle, At, IsStanding, look, after}
 use Rattle.reg_model.specs.Watches.{Watch, Ending, few_ending, watch_of, pending_past, notices}
 use Rattle.reg_model.specs.Causes.{State, by_handle}
 use Rattle.reg_model.specs.Replies.{reply_to}
-use Rattle.reg_model.specs.Calls.{entry_due}
+use Rattle.reg_model.specs.Calls.{entry_due, changes_keys}
 use Rattle.reg_model.specs.declared.reply.ChangeReply.{ChangeReply}
 use Rattle.reg_model.specs.declared.call.Change.{Change}
 use Rattle.reg_names.specs.Names.{path_of}
@@ -75,12 +75,13 @@ pub record GoesOver (x : Ending) (asked : Option Watch) (old new : Watches) : Ty
   pub told : (session : ℕ) → told_to new session ≡ told_to old session ++ notices session x old.pending
   pub taken : new.taken ≡ old.taken
 
--- a change was made on the store, which met the watches so; this is its reply, the bins are no smaller and grew by no more than it may
--- take, and each node that is kept is that of its key
+-- a change was made on the store, which met the watches so; this is its reply, the keys are as they were unless it may have changed
+-- some, the bins are no smaller and grew by no more than it may take, and each node that is kept is that of its key
 pub record IsDoneWith (Meets : Option Watch → Watches → Watches → Type 0) (old new : Store) (session moment number : ℕ) (change : Change) (told : ChangeReply) :
     Type 0 where
   pub world : world_of new ≡ after (world_of old) (entry_due (at number old) session moment change)
   pub reply : told ≡ reply_to (at number old) session change
+  pub kept_keys : changes_keys change told ≡ false → new.tree ≡ old.tree
   pub kept : length old.tree.bins.bytes ≤ length new.tree.bins.bytes
   pub grows : length new.tree.bins.bytes ≤ length old.tree.bins.bytes + growth_of change
   pub known : KnowsKeys new

@@ -4,10 +4,8 @@ use Rattle.reg_callbacks.specs.Lists.{rows_of}
 use Rattle.reg_calls.specs.HiveView.{view_of, callbacks_of}
 use Rattle.reg_calls.specs.declared.hive.Hive.{Hive}
 use Rattle.reg_script.specs.Lines.{IsFresh}
-use Rattle.reg_image.specs.declared.LoadFault.{LoadFault}
-use Rattle.reg_command.specs.CommandLines.{IsCommandLine}
-use Rattle.reg_command.specs.Failures.{IsCut, IsFront, Does}
-use Rattle.reg_command.specs.declared.words.Request.{Request}
+use Rattle.reg_tree_image.specs.declared.LoadFault.{LoadFault}
+use Rattle.reg_command.specs.Failures.{IsCut, IsFront}
 use Rattle.reg_command.specs.ImageRuns.{fault_line}
 use Rattle.reg_command.specs.declared.failure.Stop.{Stop}
 use Rattle.reg_command.specs.declared.failure.Stop.TheVariants.{Script, Load, Write, Memory}
@@ -38,8 +36,3 @@ IsFaultTold fault (Load told) before after = (told ≡ fault) × Appends before 
 IsFaultTold fault (Write written) before after = IsCut (fault_line fault) written before after
 IsFaultTold fault (Script told) before after = ⊥
 IsFaultTold fault Memory before after = ⊥
-
--- the words are a command line, and what it asks for was done
-abbrev pub IsAnswered : List (List ℕ) → (unread left before after : Option (List ℕ)) → Type 0
-IsAnswered words unread left before after =
-    (request : Request) × IsCommandLine words request × Does request unread left before after

@@ -61,9 +61,9 @@ struct Event {
     path: Vec<u8>,
 }
 
-/// What an accepted change does beside its effect: its events, the keys that it removes, and the handle that it closes.
+/// What an accepted change does to watches and handles: its events, the keys that it removes, and the handle that it closes.
 #[derive(Drop)]
-struct Deed {
+struct Effect {
     events: Vec<Event>,
     removed: Vec<Vec<u8>>,
     closed: Option<u64>,
@@ -103,9 +103,9 @@ impl Reply {
     }
 }
 
-impl Deed {
-    fn new(alloc: Global) -> Deed {
-        Deed {
+impl Effect {
+    fn new(alloc: Global) -> Effect {
+        Effect {
             events: Vec::new(alloc),
             removed: Vec::new(alloc),
             closed: None,
@@ -278,22 +278,27 @@ impl PlainHive {
     }
 
     /// Removes the keys below a path, and with `itself` the one at it.
-    fn remove_keys(&mut self, path: &Vec<u8>, itself: bool, deed: &mut Deed) -> Result<(), Fail> {
+    fn remove_keys(
+        &mut self,
+        path: &Vec<u8>,
+        itself: bool,
+        effect: &mut Effect,
+    ) -> Result<(), Fail> {
         for key in self.keys.iter_mut() {
             let is_below = key.path.starts_with(path) && key.path.len() > path.len();
             if key.is_there && (is_below || itself && key.path == *path) {
                 key.is_there = false;
-                deed.remove(&key.path)?;
+                effect.remove(&key.path)?;
             }
         }
         Ok(())
     }
 
     /// Enters a change in the journal: handles of removed keys die, and it is asked of each watch whether it ends.
-    fn enter(&mut self, deed: &Deed) -> Result<u64, Fail> {
+    fn enter(&mut self, effect: &Effect) -> Result<u64, Fail> {
         let by = self.entries;
         for handle in self.handles.iter_mut() {
-            if deed.removes(&handle.path) {
+            if effect.removes(&handle.path) {
                 handle.is_dead = true;
             }
         }
@@ -301,7 +306,7 @@ impl PlainHive {
             if !watch.is_pending {
                 continue;
             }
-            if let Some(reason) = deed.reason(watch) {
+            if let Some(reason) = effect.reason(watch) {
                 watch.is_pending = false;
                 self.notices.push(PlainNotice {
                     session: watch.session,
@@ -318,15 +323,15 @@ impl PlainHive {
 
     /// Enters a change that is one event.
     fn enter_event(&mut self, bits: u32, path: Vec<u8>) -> Result<Reply, Fail> {
-        let mut deed = Deed::new(self.alloc);
-        deed.events.push(Event { bits, path })?;
-        let _entry = self.enter(&deed)?;
+        let mut effect = Effect::new(self.alloc);
+        effect.events.push(Event { bits, path })?;
+        let _entry = self.enter(&effect)?;
         Ok(Reply::Status(0))
     }
 
     /// Enters a change that opens a handle.
-    fn enter_handle(&mut self, session: u8, path: Vec<u8>, deed: &Deed) -> Result<u64, Fail> {
-        let number = self.enter(deed)?;
+    fn enter_handle(&mut self, session: u8, path: Vec<u8>, effect: &Effect) -> Result<u64, Fail> {
+        let number = self.enter(effect)?;
         self.handles.push(PlainHandle {
             number,
             session,
@@ -338,8 +343,8 @@ impl PlainHive {
     }
 
     pub fn open_root(&mut self, session: u8) -> Result<Reply, Fail> {
-        let deed = Deed::new(self.alloc);
-        let number = self.enter_handle(session, Vec::new(self.alloc), &deed)?;
+        let effect = Effect::new(self.alloc);
+        let number = self.enter_handle(session, Vec::new(self.alloc), &effect)?;
         Ok(Reply::Opened(number))
     }
 
@@ -351,19 +356,24 @@ impl PlainHive {
         if !self.has_key(&path) {
             return Ok(Reply::Status(2));
         }
-        let deed = Deed::new(self.alloc);
-        let number = self.enter_handle(session, path, &deed)?;
+        let effect = Effect::new(self.alloc);
+        let number = self.enter_handle(session, path, &effect)?;
         Ok(Reply::Opened(number))
     }
 
     /// Makes the keys of a path that are missing: each is an event of the key above it.
-    fn make_keys(&mut self, mut path: Vec<u8>, names: &[u8], deed: &mut Deed) -> Result<(), Fail> {
+    fn make_keys(
+        &mut self,
+        mut path: Vec<u8>,
+        names: &[u8],
+        effect: &mut Effect,
+    ) -> Result<(), Fail> {
         for name in names {
             let above = path.clone()?;
             path.push(*name)?;
             if !self.has_key(&path) {
                 self.add_key(path.clone()?)?;
-                deed.events.push(Event {
+                effect.events.push(Event {
                     bits: NAME,
                     path: above,
                 })?;
@@ -379,10 +389,10 @@ impl PlainHive {
         };
         let mut path = from.clone()?;
         path.extend_from_slice(names)?;
-        let mut deed = Deed::new(self.alloc);
-        self.make_keys(from, names, &mut deed)?;
-        let disposition = if deed.events.is_empty() { 2 } else { 1 };
-        let number = self.enter_handle(session, path, &deed)?;
+        let mut effect = Effect::new(self.alloc);
+        self.make_keys(from, names, &mut effect)?;
+        let disposition = if effect.events.is_empty() { 2 } else { 1 };
+        let number = self.enter_handle(session, path, &effect)?;
         Ok(Reply::Made(number, disposition))
     }
 
@@ -427,9 +437,9 @@ impl PlainHive {
         if self.has_subkeys(&path) {
             return Ok(Reply::Status(5));
         }
-        let mut deed = Deed::new(self.alloc);
-        self.remove_keys(&path, true, &mut deed)?;
-        let _entry = self.enter(&deed)?;
+        let mut effect = Effect::new(self.alloc);
+        self.remove_keys(&path, true, &mut effect)?;
+        let _entry = self.enter(&effect)?;
         Ok(Reply::Status(0))
     }
 
@@ -442,21 +452,21 @@ impl PlainHive {
         if !self.has_key(&path) {
             return Ok(Reply::Status(2));
         }
-        let mut deed = Deed::new(self.alloc);
-        self.remove_keys(&path, !names.is_empty(), &mut deed)?;
+        let mut effect = Effect::new(self.alloc);
+        self.remove_keys(&path, !names.is_empty(), &mut effect)?;
         if names.is_empty() {
-            self.clear_values(path, &mut deed)?;
+            self.clear_values(path, &mut effect)?;
         }
-        let _entry = self.enter(&deed)?;
+        let _entry = self.enter(&effect)?;
         Ok(Reply::Status(0))
     }
 
     /// Takes a key's values away, which is an event where it had any.
-    fn clear_values(&mut self, path: Vec<u8>, deed: &mut Deed) -> Result<(), Fail> {
+    fn clear_values(&mut self, path: Vec<u8>, effect: &mut Effect) -> Result<(), Fail> {
         let had_first = self.put_value(&path, 0, false);
         let had_second = self.put_value(&path, 1, false);
         if had_first || had_second {
-            deed.events.push(Event {
+            effect.events.push(Event {
                 bits: LAST_SET,
                 path,
             })?;
@@ -478,7 +488,7 @@ impl PlainHive {
         if filter & KINDS == 0 || filter | KINDS | THREAD_AGNOSTIC != KINDS | THREAD_AGNOSTIC {
             return Ok(Reply::Status(87));
         }
-        let number = self.enter(&Deed::new(self.alloc))?;
+        let number = self.enter(&Effect::new(self.alloc))?;
         self.watches.push(PlainWatch {
             number,
             session,
@@ -495,9 +505,9 @@ impl PlainHive {
         for found in self.handles.iter_mut() {
             if found.number == handle && found.session == session && found.is_open {
                 found.is_open = false;
-                let mut deed = Deed::new(self.alloc);
-                deed.closed = Some(handle);
-                let _entry = self.enter(&deed)?;
+                let mut effect = Effect::new(self.alloc);
+                effect.closed = Some(handle);
+                let _entry = self.enter(&effect)?;
                 return Ok(Reply::Status(0));
             }
         }

@@ -1,8 +1,8 @@
 //! Readers and writers that count their calls and fail at one of them: a device's fault is answered where a device failed, at once,
 //! and nowhere else. No contract can say so.
 use super::{REPLIES, SCRIPT};
-use crate::support::assert_told;
 use reg_command::tool;
+use reg_test_support::assert_report;
 use std::alloc::Global;
 use std::io;
 use std::io::{Read, Write};
@@ -82,7 +82,7 @@ fn run_on(
 /// reader and the writer were called.
 fn counted(
     alloc: Global,
-    told: &str,
+    report: &str,
     replies: &str,
     input: &CountingReader<'_>,
     output: &CountingWriter,
@@ -90,25 +90,25 @@ fn counted(
     let taken = output.taken.as_slice();
     let is_start = replies.as_bytes().get(..taken.len()) == Some(taken);
     Ok(format!(in alloc;
-        "{told};{};{is_start};{};{}",
+        "{report};{};{is_start};{};{}",
         taken.len(),
         input.calls,
         output.calls
     )?)
 }
 
-fn told_by(
+fn report_by(
     alloc: Global,
     replies: &str,
     input: &mut CountingReader<'_>,
     output: &mut CountingWriter,
 ) -> Result<String, Fail> {
-    let told = run_on(alloc, input, output)?;
-    counted(alloc, told.as_str(), replies, input, output)
+    let report = run_on(alloc, input, output)?;
+    counted(alloc, report.as_str(), replies, input, output)
 }
 
 /// What a run on such devices left behind, as `counted` tells it.
-fn told(
+fn report(
     alloc: Global,
     script: &str,
     replies: &str,
@@ -125,11 +125,11 @@ fn told(
         habits: writes,
         calls: 0,
     };
-    told_by(alloc, replies, &mut input, &mut output)
+    report_by(alloc, replies, &mut input, &mut output)
 }
 
 /// What is told of the script of three lines, where the reader gives 7 bytes a call, the writer takes 5, and these calls fail.
-fn told_of_three(alloc: Global, read: usize, write: usize, mute: bool) -> Result<String, Fail> {
+fn report_of_three(alloc: Global, read: usize, write: usize, mute: bool) -> Result<String, Fail> {
     let reads = Habits {
         step: 7,
         fails: read,
@@ -140,7 +140,7 @@ fn told_of_three(alloc: Global, read: usize, write: usize, mute: bool) -> Result
         fails: write,
         mute,
     };
-    told(alloc, SCRIPT, REPLIES, reads, writes)
+    report(alloc, SCRIPT, REPLIES, reads, writes)
 }
 
 // its LFs are the bytes 12 and 32 of 43: before the 3rd read the 11 bytes of the first reply are passed on, before the 6th the 2 of the
@@ -157,7 +157,7 @@ fn tells_the_read_that_failed(rt: HostRuntime) -> Result<(), Fail> {
         (9, "0;;39;true;8;10"),
         (0, "0;;39;true;8;10"),
     ] {
-        assert_told(&rt, told_of_three(rt.alloc(), read, 0, false), wanted)?;
+        assert_report(report_of_three(rt.alloc(), read, 0, false), wanted)?;
     }
     Ok(())
 }
@@ -173,7 +173,7 @@ fn tells_the_write_that_failed(rt: HostRuntime) -> Result<(), Fail> {
         (11, "0;;39;true;8;10"),
     ] {
         for mute in [false, true] {
-            assert_told(&rt, told_of_three(rt.alloc(), 0, write, mute), wanted)?;
+            assert_report(report_of_three(rt.alloc(), 0, write, mute), wanted)?;
         }
     }
     Ok(())
@@ -188,13 +188,13 @@ fn tells_the_write_after_a_failed_read(rt: HostRuntime) -> Result<(), Fail> {
         (4, "1;error script 2\n;11;true;5;4"),
         (5, "1;error script 1\n;13;true;6;4"),
     ] {
-        assert_told(&rt, told_of_three(rt.alloc(), 6, write, false), wanted)?;
+        assert_report(report_of_three(rt.alloc(), 6, write, false), wanted)?;
     }
     Ok(())
 }
 
 /// What is told of 40,000 lines, 40,000 bytes a read and 4,096 a write, where these calls fail.
-fn told_of_many(alloc: Global, read: usize, write: usize) -> Result<String, Fail> {
+fn report_of_many(alloc: Global, read: usize, write: usize) -> Result<String, Fail> {
     let script = "x\n".repeat(alloc, 40_000)?;
     let replies = "bad\n".repeat(alloc, 40_000)?;
     let reads = Habits {
@@ -207,7 +207,7 @@ fn told_of_many(alloc: Global, read: usize, write: usize) -> Result<String, Fail
         fails: write,
         mute: false,
     };
-    told(alloc, script.as_str(), replies.as_str(), reads, writes)
+    report(alloc, script.as_str(), replies.as_str(), reads, writes)
 }
 
 // of 80,000 bytes of replies to a read 65,536 are written as soon as there are so many, and the rest before the next read
@@ -221,7 +221,7 @@ fn tells_failures_of_a_long_script(rt: HostRuntime) -> Result<(), Fail> {
         (0, 40, "1;error script 2\n;157824;true;2;40"),
         (4, 41, "0;;160000;true;3;40"),
     ] {
-        assert_told(&rt, told_of_many(rt.alloc(), read, write), wanted)?;
+        assert_report(report_of_many(rt.alloc(), read, write), wanted)?;
     }
     Ok(())
 }

@@ -1,6 +1,6 @@
 //! A script by a pipe, call by call: each line comes once the replies to those before it were passed on. No contract can say so.
-use crate::support::assert_told;
 use reg_command::tool;
+use reg_test_support::assert_report;
 use std::alloc::Global;
 use std::cell::Cell;
 use std::io;
@@ -58,7 +58,7 @@ impl Write for PassingWriter {
 }
 
 /// The tool's status, and the replies.
-fn told_in_turns(alloc: Global) -> Result<String, Fail> {
+fn report_in_turns(alloc: Global) -> Result<String, Fail> {
     let passed = Rc::new(alloc, Cell::new(0))?;
     let mut input = WaitingReader {
         given: 0,
@@ -80,9 +80,8 @@ fn told_in_turns(alloc: Global) -> Result<String, Fail> {
 
 #[test]
 fn replies_are_passed_on_before_the_next_line_is_read(rt: HostRuntime) -> Result<(), Fail> {
-    assert_told(
-        &rt,
-        told_in_turns(rt.alloc()),
+    assert_report(
+        report_in_turns(rt.alloc()),
         "0;0 handle 0\n0 handle 1 disposition 1\n0\nbad\n",
     )
 }

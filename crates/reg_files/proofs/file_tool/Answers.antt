@@ -1,31 +1,30 @@
-use Rattle.std.proofs.Common.{ap, inr, refl, subst}
-use Rattle.reg_command.specs.CommandLines.{texts}
-use Rattle.reg_words.specs.CommandLines.{AsksNothing}
-use Rattle.reg_files.proofs.Statuses.{of_words}
-use Rattle.reg_files.proofs.UnderstoodWords.{not_nothing, nothing}
+use Rattle.std.proofs.Common.{◌≡◌, ap, inl, inr, refl, subst, arith}
+use Rattle.reg_words.specs.CommandLines.{texts, AsksNothing, IsCommandLine}
+use Rattle.reg_files.proofs.Statuses.{small, served, failed_by}
 use Rattle.reg_files.proofs.file_tool.Goals as goal
 
-pub returns-in-Ok-true-clause-refused : goal.returns-in-Ok-true-clause-refused
-returns-in-Ok-true-clause-refused g c =
-    λ two. absurd (not_nothing _ _ _ (ap texts c.as_slice.ensures.value) c.in-Ok-true.ensures c.in-Ok-true.field-0-test (c.tool.ensures.usage two).0)
+pub returns-in-Ok-clause-status : goal.returns-in-Ok-clause-status
+returns-in-Ok-clause-status g c = let low = small _ _ _ _ _ _ _ _ _ _ c.answer.result c.answer.ensures in omega (arith, low)
 
-pub returns-in-Ok-false-clause-tool : goal.returns-in-Ok-false-clause-tool
-returns-in-Ok-false-clause-tool g c =
-    λ request is. absurd (nothing _ _ _ (ap texts c.as_slice.ensures.value) c.in-Ok-false.ensures c.in-Ok-false.field-0-test request is)
+pub returns-in-Ok-clause-done : goal.returns-in-Ok-clause-done
+returns-in-Ok-clause-done g c = served _ _ _ _ _ _ _ _ _ _ _ (subst (λ ws. IsCommandLine (texts ws) c.in-Ok.request) c.as_slice.ensures.value c.in-Ok.ensures.asks) c.answer.result c.answer.ensures
 
-pub returns-in-Ok-false-clause-refused : goal.returns-in-Ok-false-clause-refused
-returns-in-Ok-false-clause-refused g c =
-    λ two.
-    let refused = c.serve.ensures.refused two in
-    record {
-      no_tool = nothing _ _ _ (ap texts c.as_slice.ensures.value) c.in-Ok-false.ensures c.in-Ok-false.field-0-test;
-      no_files = subst (λ ws. AsksNothing (texts ws)) c.as_slice-in-Ok-false.ensures.value refused.0;
-      untouched = refused.1;
+pub returns-in-Ok-clause-failed : goal.returns-in-Ok-clause-failed
+returns-in-Ok-clause-failed g c = λ e. inl (failed_by _ _ _ _ _ _ _ _ _ _ _
+    (subst (λ ws. IsCommandLine (texts ws) c.in-Ok.request) c.as_slice.ensures.value c.in-Ok.ensures.asks) c.answer.result c.answer.ensures e)
+
+pub returns-in-Ok-clause-refused : goal.returns-in-Ok-clause-refused
+returns-in-Ok-clause-refused g c =
+    λ e. let low = small _ _ _ _ _ _ _ _ _ _ c.answer.result c.answer.ensures in absurd (omega (arith, low, e))
+
+pub returns-clause-failed : goal.returns-clause-failed
+returns-clause-failed g c = λ e. inr ((refl, refl), c.refuse_words.ensures.said e)
+
+-- the status of want of memory is another
+pub returns-clause-refused : goal.returns-clause-refused
+returns-clause-refused g c =
+    λ two. record {
+      asks_nothing = subst (λ ws. AsksNothing (texts ws)) c.as_slice.ensures.value
+          (c.in-Err.ensures.refuses (λ memory. let one : c.refuse_words.result ≡ 1 = c.refuse_words.ensures.memory memory in absurd (omega (arith, one, two))));
+      untouched = (refl, refl);
     }
-
-pub returns-in-Ok-false-clause-failed : goal.returns-in-Ok-false-clause-failed
-returns-in-Ok-false-clause-failed g c =
-    λ one. inr (of_words _ _ _ _ _ _ _ _ _ _ (ap texts c.as_slice-in-Ok-false.ensures.value) (c.serve.ensures.failed one))
-
-pub returns-in-Err-clause-failed : goal.returns-in-Err-clause-failed
-returns-in-Err-clause-failed g c = λ one. inr (inr ((refl, refl), c.fail.ensures.said))

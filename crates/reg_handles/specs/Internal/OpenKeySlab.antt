@@ -1,19 +1,15 @@
 -- The slab of the open keys, and the map from their paths to where they stand.
 use Rattle.std.specs.Prelude.{◌≡◌, ◌≢◌, ℕ, ◌+◌, ◌-◌, ◌==◌, ◌&&◌, not, Bool, true, false, List, [], ◌∷◌, ◌++◌, length, map}
 use Rattle.std.specs.Prelude.{Option, Some, None, if◌then◌else◌, bytes_eq, nat_eq, nat_lt, Vec, unwrap_or}
-use Rattle.std.specs.Ordering.{nat_cmp}
-use Rattle.std.specs.Cmp.Lexicographic.{slice_cmp}
-use Rattle.std.specs.BTreeMap.{is_at}
-use Rattle.std.specs.List.{starts_with}
-use Rattle.std.specs.Map.{lookup}
 use Rattle.slab.specs.Slab.{Slab, get}
 use Rattle.reg_names.specs.Names.{path_of}
+use Rattle.reg_model.specs.Internal.TextNumbers.{number_at}
 use Rattle.reg_model.specs.Worlds.{Destination, At, Deleted}
 use Rattle.reg_handles.specs.declared.keys.OpenKey.{OpenKey}
 
 -- where the key at a path stands that was not deleted, if it has rows
 abbrev pub key_at : {Y : Type 0} → List (Vec ℕ Y × ℕ) → List ℕ → Option ℕ
-key_at es text = lookup (is_at (λ k. slice_cmp nat_cmp text k.items)) es
+key_at es text = number_at es text
 
 -- how many rows have the key
 abbrev pub rows_of : {K : Type 0} → Option (OpenKey K) → ℕ
@@ -69,10 +65,6 @@ without_key_past gone k = if gone k.path.items then without_key k else k
 abbrev pub start_below : List ℕ → List ℕ
 start_below [] = []
 start_below (b ∷ bs) = (b ∷ bs) ++ 92 ∷ []
-
--- whether a text begins with another and is longer
-abbrev pub goes_on : List ℕ → List ℕ → Bool
-goes_on start text = starts_with nat_eq text start && nat_lt (length start) (length text)
 
 -- with the key's last row its path is free, unless it was before
 abbrev pub is_freed : {K : Type 0} → Option (OpenKey K) → List ℕ → Bool

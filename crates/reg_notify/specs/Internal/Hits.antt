@@ -3,7 +3,7 @@ use Rattle.std.specs.Prelude.{ℕ, ◌&&◌, ◌||◌, Bool, true, false, List, 
 use Rattle.reg_notify.specs.declared.table.Row.{Row}
 use Rattle.reg_notify.specs.declared.asked.Event.{Event}
 use Rattle.reg_notify.specs.declared.asked.Removed.{Removed}
-use Rattle.reg_notify.specs.Internal.Indexes.{goes_on}
+use Rattle.reg_model.specs.Internal.TextNumbers.{goes_on}
 use Rattle.reg_heap.specs.Paths.{Path}
 use Rattle.std.specs.List.{list_any}
 use Rattle.reg_heap.specs.Edits.{is_under}

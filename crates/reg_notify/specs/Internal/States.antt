@@ -6,7 +6,7 @@ use Rattle.std.specs.Map.{remove_entry}
 use Rattle.reg_model.specs.declared.notice.Reason.{Reason}
 use Rattle.reg_notify.specs.declared.table.Row.{Row}
 use Rattle.reg_notify.specs.declared.table.Table.{Table}
-use Rattle.reg_notify.specs.Internal.Indexes.{number_at}
+use Rattle.reg_model.specs.Internal.TextNumbers.{number_at}
 use Rattle.reg_notify.specs.Internal.Marks.{AreMarked}
 use Rattle.reg_notify.specs.Internal.Rows.{IsTable}
 use Rattle.reg_notify.specs.Internal.Firing.{Why, AreEnded}

@@ -3,6 +3,8 @@ use Rattle.std.specs.Prelude.{◌≡◌, ℕ, ◌≤◌, ◌⊎◌, List, [], le
 use Rattle.std.specs.Io.KnownBytes.{Appends}
 use Rattle.reg_script.specs.declared.engine.ScriptFault.{ScriptFault}
 use Rattle.reg_script.specs.declared.engine.ScriptFault.TheVariants.{Read, Write, TooLong, Memory}
+use Rattle.reg_script.specs.declared.failed.StrictFault.{StrictFault}
+use Rattle.reg_script.specs.declared.failed.StrictFault.TheVariants.{Script, Line}
 use Rattle.reg_script.specs.Stops.{counted}
 
 -- nothing was sent, or all of the text, and none is left; the count of what was sent goes along
@@ -18,14 +20,15 @@ pub record IsCut (old new : Option (List ℕ)) (text : List ℕ) (before : ℕ) 
   pub says : fault ≡ Write (counted before count)
 
 -- all of the text was sent, and what ended before is answered; or the writer took a front of it, and that is the fault
-abbrev pub IsSent : Result (Unit {0}) ScriptFault → List ℕ → ℕ → Option (List ℕ) → Option (List ℕ) → Result (Unit {0}) ScriptFault → Type 0
+abbrev pub IsSent : Result (Unit {0}) StrictFault → List ℕ → ℕ → Option (List ℕ) → Option (List ℕ) → Result (Unit {0}) StrictFault → Type 0
 IsSent ended text before old new result = ((result ≡ ended) × Appends old new text) ⊎
-    ((fault : ScriptFault) × (result ≡ Err fault) × IsCut old new text before fault)
+    ((fault : ScriptFault) × (result ≡ Err (Script fault)) × IsCut old new text before fault)
 
 -- once a script has ended so, what was gathered is sent, unless a write has failed before
-abbrev pub Closes : Result (Unit {0}) ScriptFault → List ℕ → ℕ → Option (List ℕ) → Option (List ℕ) → Result (Unit {0}) ScriptFault → Type 0
+abbrev pub Closes : Result (Unit {0}) StrictFault → List ℕ → ℕ → Option (List ℕ) → Option (List ℕ) → Result (Unit {0}) StrictFault → Type 0
 Closes (Ok done) text before old new result = IsSent (Ok done) text before old new result
-Closes (Err Read) text before old new result = IsSent (Err Read) text before old new result
-Closes (Err (Write written)) text before old new result = (result ≡ Err (Write written)) × (new ≡ old)
-Closes (Err TooLong) text before old new result = IsSent (Err TooLong) text before old new result
-Closes (Err Memory) text before old new result = IsSent (Err Memory) text before old new result
+Closes (Err (Script Read)) text before old new result = IsSent (Err (Script Read)) text before old new result
+Closes (Err (Script (Write written))) text before old new result = (result ≡ Err (Script (Write written))) × (new ≡ old)
+Closes (Err (Script TooLong)) text before old new result = IsSent (Err (Script TooLong)) text before old new result
+Closes (Err (Script Memory)) text before old new result = IsSent (Err (Script Memory)) text before old new result
+Closes (Err (Line failed)) text before old new result = IsSent (Err (Line failed)) text before old new result

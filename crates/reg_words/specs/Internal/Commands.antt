@@ -4,6 +4,9 @@ use Rattle.clap.specs.Words.{App, Rule, app_of, rule_of}
 use Rattle.clap.specs.declared.builder.command.Command.TheViews.{out-Command}
 use Rattle.clap.specs.declared.builder.arg.Arg.{Arg}
 use Rattle.clap.specs.declared.builder.command.Command.{Command}
+use Rattle.reg_words.specs.declared.request.StreamRequest.{StreamRequest}
+use Rattle.reg_words.specs.declared.request.Request.{Request}
+use Rattle.reg_words.specs.declared.request.Request.TheVariants.{Stream}
 
 -- an argument by this rule, of its command alone
 pub record IsRule (rule : Rule) (arg : Arg) : Type 0 where
@@ -19,3 +22,8 @@ pub record IsCommand (app : App) (command : Command) : Type 0 where
 abbrev pub IsFound : {A : Type 0} → (A → Type 0) → Option A → Type 0
 IsFound P (Some a) = P a
 IsFound {A} P None = (a : A) → P a → ⊥
+
+-- what is asked of the standard streams, if anything is
+abbrev pub stream_of : Request → Option StreamRequest
+stream_of (Stream stream) = Some stream
+stream_of request = None

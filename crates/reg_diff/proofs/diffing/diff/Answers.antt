@@ -1,5 +1,5 @@
 use Rattle.std.proofs.Common.{[]}
-use Rattle.reg_dump.proofs.SentTexts.{so_far_start, so_far_all, err_exits, exits}
+use Rattle.reg_tree_text.proofs.SentTexts.{so_far_start, so_far_all, err_exits, exits}
 use Rattle.reg_diff.specs.Differences.{diff_text}
 use Rattle.reg_diff.proofs.SideSteps.{same-says}
 use Rattle.reg_diff.proofs.diffing.diff.Goals as goal

@@ -1,4 +1,4 @@
-use Rattle.reg_dump.proofs.SentTexts.{opened, exits}
+use Rattle.reg_tree_text.proofs.SentTexts.{opened, exits}
 use Rattle.reg_diff.specs.declared.side.Side.TheVariants.{Old, New}
 use Rattle.reg_diff.specs.Differences.{side_text, diff_text}
 use Rattle.reg_diff.proofs.diffing.put_diff.Goals as goal

@@ -1,6 +1,6 @@
 use Rattle.std.proofs.Common.{[]}
 use Rattle.reg_heap.specs.Edits.{folded_path}
-use Rattle.reg_dump.proofs.SentTexts.{swapped}
+use Rattle.reg_tree_text.proofs.SentTexts.{swapped}
 use Rattle.reg_tree.proofs.Invariant.CellReadings.{some_of}
 use Rattle.reg_diff.proofs.SideSteps.{resolved-none, resolved-some, alone-said, both-said}
 use Rattle.reg_diff.proofs.diffing.put_key.Goals as goal

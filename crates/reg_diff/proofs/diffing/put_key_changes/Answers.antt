@@ -1,4 +1,4 @@
-use Rattle.reg_dump.proofs.SentTexts.{opened, swapped, exits}
+use Rattle.reg_tree_text.proofs.SentTexts.{opened, swapped, exits}
 use Rattle.reg_diff.specs.Differences.{field_changes, value_changes}
 use Rattle.reg_diff.proofs.SideSteps.{values-said}
 use Rattle.reg_diff.proofs.diffing.put_key_changes.Goals as goal

@@ -1,7 +1,7 @@
 use Rattle.std.proofs.Common.{ap, ◌++◌, List, ℕ}
 use Rattle.std.specs.Prelude.{codes}
 use Rattle.reg_text.specs.Texts.{line_feed, escaped}
-use Rattle.reg_dump.proofs.SentTexts.{swapped}
+use Rattle.reg_tree_text.proofs.SentTexts.{swapped}
 use Rattle.reg_diff.specs.Differences.{key_line}
 use Rattle.reg_diff.proofs.diffing.put_key_line.Goals as goal
 

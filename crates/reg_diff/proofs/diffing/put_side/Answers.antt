@@ -1,8 +1,8 @@
 use Rattle.std.proofs.Common.{refl, ap, sym, ◌∙◌}
 use Rattle.std.specs.Prelude.{flat_map}
-use Rattle.reg_dump.specs.declared.counts.Counts.{Counts}
-use Rattle.reg_dump.proofs.SentTexts.{swapped, ends, stops_full, exits}
-use Rattle.reg_dump.proofs.CountedKeys.{amid_start, amid_next, went, ended}
+use Rattle.reg_tree_text.specs.declared.counts.Counts.{Counts}
+use Rattle.reg_tree_text.proofs.SentTexts.{swapped, ends, stops_full, exits}
+use Rattle.reg_tree_text.proofs.CountedKeys.{amid_start, amid_next, went, ended}
 use Rattle.reg_diff.specs.Differences.{told_changes}
 use Rattle.reg_diff.proofs.ToldPaths.{here-told, text-path, key-next, counted}
 use Rattle.reg_diff.proofs.diffing.put_side.Goals as goal

@@ -1,8 +1,8 @@
 use Rattle.std.proofs.Common.{ℕ, List, ◌∷◌, ◌++◌, string_bytes}
 use Rattle.std.specs.Prelude.{flat_map}
-use Rattle.reg_dump.specs.declared.counts.Counts.{Counts}
-use Rattle.reg_dump.specs.Internal.Gathered.{WriterState, IsSoFar}
-use Rattle.reg_dump.specs.Internal.Walking.{IsAmid}
+use Rattle.reg_tree_text.specs.declared.counts.Counts.{Counts}
+use Rattle.reg_tree_text.specs.Internal.Gathered.{WriterState, IsSoFar}
+use Rattle.reg_tree_text.specs.Internal.Walking.{IsAmid}
 use Rattle.reg_diff.specs.Differences.{told_changes, side_text}
 use Rattle.reg_diff.proofs.diffing.put_side.Given as goal
 

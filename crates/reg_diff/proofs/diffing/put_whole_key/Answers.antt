@@ -1,7 +1,7 @@
 use Rattle.std.proofs.Common.{ap}
 use Rattle.std.specs.Prelude.{flat_map}
 use Rattle.reg_heap.specs.Edits.{values_of}
-use Rattle.reg_dump.proofs.SentTexts.{opened, swapped, exits}
+use Rattle.reg_tree_text.proofs.SentTexts.{opened, swapped, exits}
 use Rattle.reg_diff.specs.Differences.{key_line, value_line}
 use Rattle.reg_diff.proofs.diffing.put_whole_key.Goals as goal
 

@@ -1,4 +1,4 @@
-use Rattle.reg_dump.proofs.SentTexts.{ends, swapped}
+use Rattle.reg_tree_text.proofs.SentTexts.{ends, swapped}
 use Rattle.reg_diff.proofs.ChangeLines.{bytes-alike, bytes-told}
 use Rattle.reg_diff.proofs.fields.put_bytes_change.Goals as goal
 

@@ -1,5 +1,5 @@
 use Rattle.std.proofs.Common.{◌∙◌}
-use Rattle.reg_dump.proofs.SentTexts.{exits}
+use Rattle.reg_tree_text.proofs.SentTexts.{exits}
 use Rattle.reg_diff.proofs.ChangeSteps.{name-next, marks-next, class-next, security-next, time-next}
 use Rattle.reg_diff.proofs.fields.put_field_changes.Goals as goal
 

@@ -1,7 +1,7 @@
 use Rattle.std.proofs.Common.{ap, []}
 use Rattle.std.specs.Prelude.{flat_map}
 use Rattle.std.proofs.lemmas.List.{drop_all}
-use Rattle.reg_dump.proofs.SentTexts.{ends, exits}
+use Rattle.reg_tree_text.proofs.SentTexts.{ends, exits}
 use Rattle.reg_diff.specs.declared.line.Part.{Part}
 use Rattle.reg_diff.specs.declared.line.Part.TheVariants.{Word}
 use Rattle.reg_diff.specs.Internal.Parts.{part_text}

@@ -1,6 +1,6 @@
 use Rattle.std.proofs.Common.{ℕ, List, ◌++◌, drop, string_bytes}
 use Rattle.std.specs.Prelude.{flat_map}
-use Rattle.reg_dump.specs.Internal.Gathered.{WriterState, IsSoFar}
+use Rattle.reg_tree_text.specs.Internal.Gathered.{WriterState, IsSoFar}
 use Rattle.reg_diff.specs.Internal.Parts.{part_text}
 use Rattle.reg_diff.proofs.line.put_line.Given as goal
 

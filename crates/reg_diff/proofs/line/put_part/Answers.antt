@@ -1,4 +1,4 @@
-use Rattle.reg_dump.proofs.SentTexts.{stops_full, exits}
+use Rattle.reg_tree_text.proofs.SentTexts.{stops_full, exits}
 use Rattle.reg_diff.proofs.line.put_part.Goals as goal
 
 pub returns-in_err-write_word-in-Word : goal.returns-in_err-write_word-in-Word

@@ -1,6 +1,6 @@
 use Rattle.std.proofs.Common.{arith, sym, ap, ◌∙◌, ◌+◌, ◌&&◌, Bool, drop}
 use Rattle.reg_heap.specs.Edits.{values_at}
-use Rattle.reg_dump.proofs.LineTexts.{next_value}
+use Rattle.reg_tree_text.proofs.LineTexts.{next_value}
 use Rattle.reg_diff.specs.Differences.{same_members}
 use Rattle.reg_diff.proofs.ReadValues.{same-next, same-pair}
 use Rattle.reg_diff.proofs.value.are_same.Goals as goal

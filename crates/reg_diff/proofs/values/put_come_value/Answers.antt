@@ -1,6 +1,6 @@
 use Rattle.std.proofs.Common.{ap, sym, ◌∙◌}
 use Rattle.reg_heap.specs.Edits.{values_at}
-use Rattle.reg_dump.proofs.SentTexts.{ends, swapped, exits}
+use Rattle.reg_tree_text.proofs.SentTexts.{ends, swapped, exits}
 use Rattle.reg_diff.specs.declared.side.Side.TheVariants.{New}
 use Rattle.reg_diff.specs.Internal.Parts.{member_of, is_nothing}
 use Rattle.reg_diff.proofs.ValueLines.{come-said, there-said, not-there, line-some}

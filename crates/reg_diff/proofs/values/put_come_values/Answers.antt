@@ -3,8 +3,8 @@ use Rattle.std.specs.Prelude.{flat_map}
 use Rattle.std.proofs.lemmas.List.{drop_all}
 use Rattle.reg_heap.specs.Edits.{values_at}
 use Rattle.reg_heap.specs.Paths.{Member}
-use Rattle.reg_dump.proofs.SentTexts.{swapped, ends, stops_full, exits}
-use Rattle.reg_dump.proofs.LineTexts.{next_value}
+use Rattle.reg_tree_text.proofs.SentTexts.{swapped, ends, stops_full, exits}
+use Rattle.reg_tree_text.proofs.LineTexts.{next_value}
 use Rattle.reg_diff.specs.Differences.{come_line}
 use Rattle.reg_diff.specs.Internal.Parts.{is_nothing}
 use Rattle.reg_diff.proofs.ReadValues.{line-next, quiet-next, quiet-all}

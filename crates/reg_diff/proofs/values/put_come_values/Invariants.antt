@@ -3,7 +3,7 @@ use Rattle.std.specs.Prelude.{flat_map}
 use Rattle.reg_heap.specs.Paths.{Path}
 use Rattle.reg_heap.specs.Edits.{values_at}
 use Rattle.reg_tree.specs.TreeKeys.{IsAt}
-use Rattle.reg_dump.specs.Internal.Gathered.{WriterState, IsSoFar}
+use Rattle.reg_tree_text.specs.Internal.Gathered.{WriterState, IsSoFar}
 use Rattle.reg_diff.specs.Differences.{come_line}
 use Rattle.reg_diff.specs.Internal.Parts.{is_nothing}
 use Rattle.reg_diff.proofs.values.put_come_values.Given as goal

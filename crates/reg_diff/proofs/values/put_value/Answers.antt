@@ -1,4 +1,4 @@
-use Rattle.reg_dump.proofs.SentTexts.{swapped}
+use Rattle.reg_tree_text.proofs.SentTexts.{swapped}
 use Rattle.reg_diff.specs.Internal.Parts.{member_of}
 use Rattle.reg_diff.proofs.ChangeLines.{value-told}
 use Rattle.reg_diff.proofs.values.put_value.Goals as goal

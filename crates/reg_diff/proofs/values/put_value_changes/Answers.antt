@@ -1,6 +1,6 @@
 use Rattle.std.proofs.Common.{sym, ◌∙◌}
 use Rattle.reg_heap.specs.Edits.{values_at}
-use Rattle.reg_dump.proofs.SentTexts.{ends, swapped, stops_full, exits}
+use Rattle.reg_tree_text.proofs.SentTexts.{ends, swapped, stops_full, exits}
 use Rattle.reg_diff.proofs.SameValues.{same-none}
 use Rattle.reg_diff.proofs.ChangeSteps.{lost-next, come-next, order-told, order-not}
 use Rattle.reg_diff.proofs.SideSteps.{values-apart}

@@ -1,7 +1,7 @@
 use Rattle.std.proofs.Common.{arith, ap}
 use Rattle.reg_heap.specs.Edits.{values_at}
-use Rattle.reg_dump.proofs.SentTexts.{swapped, stops_full, exits}
-use Rattle.reg_dump.proofs.LineTexts.{next_value}
+use Rattle.reg_tree_text.proofs.SentTexts.{swapped, stops_full, exits}
+use Rattle.reg_tree_text.proofs.LineTexts.{next_value}
 use Rattle.reg_diff.specs.Differences.{value_line}
 use Rattle.reg_diff.proofs.ReadValues.{line-next}
 use Rattle.reg_diff.proofs.values.put_values.Goals as goal

@@ -1,4 +1,4 @@
-use Rattle.reg_command.proofs.CommandSteps.{none_asked}
+use Rattle.reg_edits.proofs.EditSteps.{none_asked}
 use Rattle.reg_script.proofs.FailedCalls.{if_err}
 use Rattle.reg_edits.proofs.ImportSteps.{applies, entry_stops}
 use Rattle.reg_edits.proofs.importing.apply_text.Goals as goal

@@ -1,51 +1,34 @@
-use Rattle.std.proofs.Common.{◌≤◌, ◌∙◌, length, arith}
+use Rattle.std.proofs.Common.{refl}
 use Rattle.reg_script.proofs.FailedCalls.{if_err}
-use Rattle.reg_lookups.proofs.LookupSteps.{opens, unloaded}
-use Rattle.reg_edits.proofs.ImageBins.{image-long}
-use Rattle.reg_edits.proofs.EditSteps.{is_long}
-use Rattle.reg_edits.proofs.ImportSteps.{import_ends, import_saves, import_keeps}
+use Rattle.reg_edits.proofs.Results.{match_err}
+use Rattle.reg_edits.proofs.EditSteps.{opens}
+use Rattle.reg_edits.proofs.ImportSteps.{read_as, unread_ends, unread_unblamed, apply_ends, apply_unblamed, imports}
 use Rattle.reg_edits.proofs.importing.import.Goals as goal
 
--- the image doesn't load
-pub returns-in_err-hive-clause-err : goal.returns-in_err-hive-clause-err
-returns-in_err-hive-clause-err c =
-    if_err _ c.from_residual.result _ c.from_residual.ensures.1 (unloaded c.in_err-hive.field-0.0 _ _ c.in_err-hive.ensures.err)
+-- the text wasn't read to its end
+pub returns-in_err-text-clause-err : goal.returns-in_err-text-clause-err
+returns-in_err-text-clause-err g c =
+    if_err _ c.from_residual-in_err-text.result _ c.from_residual-in_err-text.ensures.1
+    (unread_ends c.in_err-text.field-0.0 _ _ _ _ _ _ _ (opens _ _ _ _ c.in_ok-hive.ensures.ok) c.in_err-text.ensures.err)
 
-pub returns-in_err-before-clause-err : goal.returns-in_err-before-clause-err
-returns-in_err-before-clause-err c =
-    if_err _ c.from_residual-in_err-before.result _ c.from_residual-in_err-before.ensures.1 (_, opens _ _ _ c.in_ok-hive.ensures.ok)
+pub returns-in_err-text-clause-failures : goal.returns-in_err-text-clause-failures
+returns-in_err-text-clause-failures g c =
+    match_err _ _ c.from_residual-in_err-text.result _ c.from_residual-in_err-text.ensures.1
+    (unread_unblamed c.in_err-text.field-0.0 _ _ c.in_err-text.ensures.err c.in_ok-hive.ensures.failures)
 
-pub begin_of-moment-requires : goal.begin_of-moment-requires
-begin_of-moment-requires c = let l : 4096 ≤ length _ = is_long _ _ (opens _ _ _ c.in_ok-hive.ensures.ok) in omega (arith, l)
-
+-- its entries weren't made
 pub returns-in_err-apply_text-clause-err : goal.returns-in_err-apply_text-clause-err
-returns-in_err-apply_text-clause-err c =
+returns-in_err-apply_text-clause-err g c =
     if_err _ c.from_residual-in_err-apply_text.result _ c.from_residual-in_err-apply_text.ensures.1
-    (import_ends c.in_err-apply_text.field-0.0 _ c.args.begin _ _ _ (opens _ _ _ c.in_ok-hive.ensures.ok) c.begin_of-moment.ensures
-    c.in_err-apply_text.ensures.err)
+    (apply_ends c.in_err-apply_text.field-0.0 _ _ _ _ _ _ _ _ (opens _ _ _ _ c.in_ok-hive.ensures.ok) c.in_ok-text.ensures.ok.0
+    (read_as _ _ _ _ c.as_slice.ensures.value c.in_ok-text.ensures.ok.1) c.in_err-apply_text.ensures.err)
 
-pub sequence_of-requires : goal.sequence_of-requires
-sequence_of-requires c = let l : 4096 ≤ length _ = is_long _ _ (opens _ _ _ c.in_ok-hive.ensures.ok) in omega (arith, l)
-
-pub returns-in_err-after-clause-err : goal.returns-in_err-after-clause-err
-returns-in_err-after-clause-err c =
-    if_err _ c.from_residual-in_err-after.result _ c.from_residual-in_err-after.ensures.1 (_, opens _ _ _ c.in_ok-hive.ensures.ok)
-
--- a base block stands in front of both images
-pub have_other_bins-requires-clause-before : goal.have_other_bins-requires-clause-before
-have_other_bins-requires-clause-before c = image-long _ _ _ _ _ (c.as_slice.ensures.value ∙ c.in_ok-before.ensures.is)
-
-pub have_other_bins-requires-clause-after : goal.have_other_bins-requires-clause-after
-have_other_bins-requires-clause-after c = image-long _ _ _ _ _ (c.as_slice-2.ensures.value ∙ c.in_ok-after.ensures.is)
-
-pub returns-then-have_other_bins-clause-ok : goal.returns-then-have_other_bins-clause-ok
-returns-then-have_other_bins-clause-ok c =
-    import_saves _ c.args.begin _ _ _ _ (opens _ _ _ c.in_ok-hive.ensures.ok) c.begin_of-moment.ensures c.in_ok-apply_text.ensures.ok _ _ _ _ _ _
-    c.sequence_of.ensures c.next_sequence.ensures c.in_ok-before.ensures.is c.in_ok-after.ensures.is c.as_slice.ensures.value c.as_slice-2.ensures.value
-    (c.have_other_bins.ensures.other c.if-have_other_bins.true)
+pub returns-in_err-apply_text-clause-failures : goal.returns-in_err-apply_text-clause-failures
+returns-in_err-apply_text-clause-failures g c =
+    match_err _ _ c.from_residual-in_err-apply_text.result _ c.from_residual-in_err-apply_text.ensures.1
+    (apply_unblamed c.in_err-apply_text.field-0.0 _ _ _ _ _ c.in_err-apply_text.ensures.err c.in_ok-hive.ensures.failures)
 
 pub returns-clause-ok : goal.returns-clause-ok
-returns-clause-ok c =
-    import_keeps _ c.args.begin _ _ _ _ (opens _ _ _ c.in_ok-hive.ensures.ok) c.begin_of-moment.ensures c.in_ok-apply_text.ensures.ok _ _ _ _ _ _
-    c.sequence_of.ensures c.next_sequence.ensures c.in_ok-before.ensures.is c.in_ok-after.ensures.is c.as_slice.ensures.value c.as_slice-2.ensures.value
-    (c.have_other_bins.ensures.same c.if-have_other_bins.false)
+returns-clause-ok g c =
+    imports _ _ _ _ _ _ _ _ _ (opens _ _ _ _ c.in_ok-hive.ensures.ok) c.in_ok-text.ensures.ok.0
+    (read_as _ _ _ _ c.as_slice.ensures.value c.in_ok-text.ensures.ok.1) c.in_ok-apply_text.ensures.ok refl c.next_sequence.ensures c.is_changed-is_changed.ensures refl

@@ -5,8 +5,10 @@ use Rattle.reg_files.proofs.answers.check_asked.Goals as goal
 
 pub returns : goal.returns
 returns g c =
-    λ unread. counted (Check c.args.files) unread (g.W.Write.contents c.args.output.now) (g.W.Write.contents c.check_files.new.output)
-    (g.E.Sink.contents c.args.errors.now) (g.E.Sink.contents c.check_files.new.errors)
-    (g.E.Sink.failures c.args.errors.now) (g.E.Sink.failures c.check_files.new.errors) _ _ c.check_files.result (ap (λ files. map (λ file. file.now) files) c.as_slice.ensures.value)
+    λ unread. counted (Check c.args.files) (g.W.Output.closed c.check_files.new.output) unread (g.W.Write.contents c.args.output.now)
+    (g.W.Write.contents c.check_files.new.output) (g.E.Sink.contents c.args.errors.now) (g.E.Sink.contents c.check_files.new.errors)
+    (g.E.Sink.failures c.args.errors.now) (g.E.Sink.failures c.check_files.new.errors) _ _ c.check_files.result
+    (ap (λ files. map (λ file. file.now) files) c.as_slice.ensures.value)
     c.check_files.ensures.status c.check_files.ensures.silent c.check_files.ensures.checks
-    (λ checks. (refl, (g.E.Sink.failures c.args.errors.now, g.E.Sink.failures c.check_files.new.errors, checks))) (λ checks. (refl, checks))
+    (λ checks. (refl, (g.W.Output.closed c.check_files.new.output, g.E.Sink.failures c.args.errors.now, g.E.Sink.failures c.check_files.new.errors, checks)))
+    (λ checks. (refl, checks))

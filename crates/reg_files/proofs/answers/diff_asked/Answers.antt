@@ -5,8 +5,9 @@ use Rattle.reg_files.proofs.answers.diff_asked.Goals as goal
 
 pub returns : goal.returns
 returns g c =
-    λ unread. compared (Diff c.args.old c.args.new) unread (g.W.Write.contents c.args.output.now) (g.W.Write.contents c.diff_files-done.new.output)
+    λ unread. compared (Diff c.args.old c.args.new) (g.W.Output.closed c.diff_files-done.new.output) unread
+    (g.W.Write.contents c.args.output.now) (g.W.Write.contents c.diff_files-done.new.output)
     (g.E.Sink.contents c.args.errors.now) (g.E.Sink.contents c.settle_diff.new.errors)
-    (g.E.Sink.failures c.args.errors.now) (g.E.Sink.failures c.settle_diff.new.errors) c.diff_files-done.result
-    c.settle_diff.result c.settle_diff.ensures c.diff_files-done.ensures.status c.diff_files-done.ensures.same c.diff_files-done.ensures.other
-    (λ same. (refl, same)) (λ other. (refl, other))
+    (g.E.Sink.failures c.args.errors.now) (g.E.Sink.failures c.settle_diff.new.errors) c.is_closed.result c.is_closed.ensures
+    c.diff_files-done.result c.settle_diff.result c.settle_diff.ensures c.diff_files-done.ensures.status c.diff_files-done.ensures.same
+    c.diff_files-done.ensures.other (λ same. (refl, same)) (λ other. (refl, other))

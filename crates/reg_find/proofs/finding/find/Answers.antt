@@ -1,7 +1,7 @@
 use Rattle.std.proofs.Common.{[]}
-use Rattle.reg_dump.specs.Internal.Gathered.{WriterState}
+use Rattle.reg_tree_text.specs.Internal.Gathered.{WriterState}
 use Rattle.reg_find.specs.Findings.{found_text}
-use Rattle.reg_dump.proofs.SentTexts.{so_far_start, told_ok, told_err, told_failures, err_exits, exits}
+use Rattle.reg_tree_text.proofs.SentTexts.{so_far_start, told_ok, told_err, told_failures, err_exits, exits}
 use Rattle.reg_find.proofs.finding.find.Goals as goal
 
 pub returns-in_err-put_tree-clause-err : goal.returns-in_err-put_tree-clause-err

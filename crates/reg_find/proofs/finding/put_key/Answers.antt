@@ -1,6 +1,6 @@
 use Rattle.std.specs.Prelude.{flat_map}
 use Rattle.reg_names.specs.Names.{text_of}
-use Rattle.reg_dump.proofs.SentTexts.{swapped, opened, exits}
+use Rattle.reg_tree_text.proofs.SentTexts.{swapped, opened, exits}
 use Rattle.reg_find.specs.Findings.{key_found, value_found}
 use Rattle.reg_find.proofs.FoundLines.{values_same}
 use Rattle.reg_find.proofs.finding.put_key.Goals as goal

@@ -1,5 +1,5 @@
 use Rattle.std.proofs.Common.{◌∙◌}
-use Rattle.reg_dump.proofs.SentTexts.{swapped, ends}
+use Rattle.reg_tree_text.proofs.SentTexts.{swapped, ends}
 use Rattle.reg_find.proofs.FoundLines.{key_none, key_some}
 use Rattle.reg_find.proofs.finding.put_name.Goals as goal
 

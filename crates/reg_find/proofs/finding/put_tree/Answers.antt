@@ -1,7 +1,7 @@
 use Rattle.std.proofs.Common.{refl, ap, sym, ◌∙◌}
 use Rattle.std.specs.Prelude.{flat_map}
-use Rattle.reg_dump.proofs.SentTexts.{swapped, ends, stops_full, exits}
-use Rattle.reg_dump.proofs.CountedKeys.{went, ended}
+use Rattle.reg_tree_text.proofs.SentTexts.{swapped, ends, stops_full, exits}
+use Rattle.reg_tree_text.proofs.CountedKeys.{went, ended}
 use Rattle.reg_find.specs.Findings.{found_lines, found_text}
 use Rattle.reg_find.proofs.FoundKeys.{amid_root, key_next}
 use Rattle.reg_find.proofs.finding.put_tree.Goals as goal

@@ -1,6 +1,6 @@
 use Rattle.std.proofs.Common.{◌≡◌, ℕ, List, ◌∷◌, ◌++◌, string_bytes}
 use Rattle.std.specs.Prelude.{flat_map}
-use Rattle.reg_dump.specs.Internal.Gathered.{WriterState, IsSoFar}
+use Rattle.reg_tree_text.specs.Internal.Gathered.{WriterState, IsSoFar}
 use Rattle.reg_find.specs.Findings.{found_lines, found_text}
 use Rattle.reg_find.proofs.FoundKeys.{IsAmid}
 use Rattle.reg_find.proofs.finding.put_tree.Given as goal

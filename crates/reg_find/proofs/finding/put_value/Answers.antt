@@ -1,5 +1,5 @@
 use Rattle.reg_heap.specs.Edits.{values_at}
-use Rattle.reg_dump.proofs.SentTexts.{swapped, stops_full, exits, ends}
+use Rattle.reg_tree_text.proofs.SentTexts.{swapped, stops_full, exits, ends}
 use Rattle.reg_find.proofs.FoundLines.{tells_here, value_none, value_some}
 use Rattle.reg_find.proofs.finding.put_value.Goals as goal
 

@@ -1,7 +1,7 @@
 use Rattle.std.proofs.Common.{arith, ◌∙◌}
 use Rattle.reg_heap.specs.Edits.{values_at}
-use Rattle.reg_dump.proofs.SentTexts.{exits}
-use Rattle.reg_dump.proofs.LineTexts.{next_value}
+use Rattle.reg_tree_text.proofs.SentTexts.{exits}
+use Rattle.reg_tree_text.proofs.LineTexts.{next_value}
 use Rattle.reg_find.proofs.FoundLines.{value_next}
 use Rattle.reg_find.proofs.finding.put_values.Goals as goal
 

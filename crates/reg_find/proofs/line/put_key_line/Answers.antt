@@ -1,6 +1,6 @@
 use Rattle.reg_text.specs.Texts.{line_feed}
-use Rattle.reg_dump.proofs.SentTexts.{gathers, stops_full, exits}
-use Rattle.reg_listing.proofs.ListedLines.{key_start}
+use Rattle.reg_tree_text.proofs.SentTexts.{gathers, stops_full, exits}
+use Rattle.reg_tree_text.proofs.ListedLines.{key_start}
 use Rattle.reg_find.proofs.line.put_key_line.Goals as goal
 
 pub returns-in_err-write_part : goal.returns-in_err-write_part

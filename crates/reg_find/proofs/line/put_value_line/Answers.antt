@@ -1,5 +1,5 @@
-use Rattle.reg_listing.specs.Listings.{after_name}
-use Rattle.reg_dump.proofs.SentTexts.{gathers, stops_full, exits}
+use Rattle.reg_tree_text.specs.Listings.{after_name}
+use Rattle.reg_tree_text.proofs.SentTexts.{gathers, stops_full, exits}
 use Rattle.reg_find.proofs.FoundLines.{path_start, name_start}
 use Rattle.reg_find.proofs.line.put_value_line.Goals as goal
 

@@ -1,5 +1,5 @@
 use Rattle.std.proofs.Common.{rules, None, refl}
-use Rattle.reg_image.proofs.Readers.SiblingTests.{path-valid, free-below, some-left}
+use Rattle.reg_tree_image.proofs.Readers.SiblingTests.{path-valid, free-below, some-left}
 use Rattle.reg_image_tests.proofs.built_trees.build_below.Goals as goal
 
 pub reach-reached-requires-clause-path : goal.reach-reached-requires-clause-path

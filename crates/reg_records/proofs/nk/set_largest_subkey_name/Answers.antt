@@ -1,7 +1,7 @@
 use Rattle.std.proofs.Common.{lit≤}
 use Rattle.byteorder.specs.Endian.{little_bytes}
 use Rattle.reg_records.proofs.KeyNodeCodec.{key-room, key-changed}
-use Rattle.reg_records.proofs.KeyNodeSubkeyWrites.{nk-widened}
+use Rattle.reg_records.proofs.KeyNodeFieldWrites.{nk-widened}
 use Rattle.reg_records.proofs.PlainRecords.{plain-widened}
 use Rattle.reg_records.proofs.nk.set_largest_subkey_name.Goals as goal
 

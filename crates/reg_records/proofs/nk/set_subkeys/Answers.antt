@@ -1,7 +1,7 @@
 use Rattle.std.proofs.Common.{lit≤}
 use Rattle.byteorder.specs.Endian.{little_bytes}
 use Rattle.reg_records.proofs.KeyNodeCodec.{key-room, key-changed}
-use Rattle.reg_records.proofs.KeyNodeSubkeyWrites.{nk-counted}
+use Rattle.reg_records.proofs.KeyNodeFieldWrites.{nk-counted}
 use Rattle.reg_records.proofs.PlainRecords.{plain-counted}
 use Rattle.reg_records.proofs.nk.set_subkeys.Goals as goal
 

@@ -1,7 +1,7 @@
 use Rattle.std.proofs.Common.{lit≤}
 use Rattle.byteorder.specs.Endian.{little_bytes}
 use Rattle.reg_records.proofs.KeyNodeCodec.{key-room, key-changed}
-use Rattle.reg_records.proofs.KeyNodeSubkeyWrites.{nk-listed}
+use Rattle.reg_records.proofs.KeyNodeFieldWrites.{nk-listed}
 use Rattle.reg_records.proofs.PlainRecords.{plain-listed}
 use Rattle.reg_records.proofs.nk.set_subkeys_list.Goals as goal
 

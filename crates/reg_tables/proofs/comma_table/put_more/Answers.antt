@@ -1,7 +1,7 @@
 use Rattle.std.proofs.Common.{ap, sym, ◌∙◌}
 use Rattle.std.specs.Prelude.{flat_map}
-use Rattle.reg_dump.proofs.SentTexts.{opened, swapped, ends, stops_full, exits}
-use Rattle.reg_dump.proofs.CountedKeys.{went, ended}
+use Rattle.reg_tree_text.proofs.SentTexts.{opened, swapped, ends, stops_full, exits}
+use Rattle.reg_tree_text.proofs.CountedKeys.{went, ended}
 use Rattle.reg_tables.specs.Tables.{key_rows}
 use Rattle.reg_tables.proofs.comma_table.put_more.Goals as goal
 

@@ -1,5 +1,5 @@
 use Rattle.std.specs.Prelude.{flat_map}
-use Rattle.reg_dump.proofs.SentTexts.{opened, stops_full, exits}
+use Rattle.reg_tree_text.proofs.SentTexts.{opened, stops_full, exits}
 use Rattle.reg_tables.specs.Tables.{column_names, line_text, key_rows, keys_from, csv_text}
 use Rattle.reg_tables.proofs.comma_table.put_table.Goals as goal
 

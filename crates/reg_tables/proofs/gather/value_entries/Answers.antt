@@ -1,6 +1,6 @@
 use Rattle.std.proofs.Common.{arith}
 use Rattle.reg_heap.specs.Edits.{values_at}
-use Rattle.reg_dump.proofs.LineTexts.{next_value}
+use Rattle.reg_tree_text.proofs.LineTexts.{next_value}
 use Rattle.reg_tables.proofs.GatheredKeys.{gathered_none, gathered_more, gathered_all}
 use Rattle.reg_tables.proofs.gather.value_entries.Goals as goal
 

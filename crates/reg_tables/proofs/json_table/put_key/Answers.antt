@@ -1,4 +1,4 @@
-use Rattle.reg_dump.proofs.SentTexts.{swapped, stops_full, exits}
+use Rattle.reg_tree_text.proofs.SentTexts.{swapped, stops_full, exits}
 use Rattle.reg_tables.proofs.TableTexts.{entry-same}
 use Rattle.reg_tables.proofs.json_table.put_key.Goals as goal
 

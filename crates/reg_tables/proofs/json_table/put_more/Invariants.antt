@@ -1,9 +1,9 @@
 use Rattle.std.proofs.Common.{ℕ, List, ◌++◌, string_bytes}
 use Rattle.std.specs.Prelude.{flat_map}
-use Rattle.reg_dump.specs.DumpTexts.{Told}
-use Rattle.reg_dump.specs.Internal.Gathered.{WriterState, IsSoFar}
-use Rattle.reg_dump.specs.Internal.Walking.{Stands}
-use Rattle.reg_listing.proofs.ListedKeys.{IsAmid}
+use Rattle.reg_tree_text.specs.DumpTexts.{Told}
+use Rattle.reg_tree_text.specs.Internal.Gathered.{WriterState, IsSoFar}
+use Rattle.reg_tree_text.specs.Internal.Walking.{Stands}
+use Rattle.reg_tree_text.proofs.ListedKeys.{IsAmid}
 use Rattle.reg_tables.specs.Tables.{more_text}
 use Rattle.reg_tables.proofs.json_table.put_more.Given as goal
 

@@ -1,5 +1,5 @@
 use Rattle.std.specs.Prelude.{codes}
-use Rattle.reg_dump.proofs.SentTexts.{opened, exits}
+use Rattle.reg_tree_text.proofs.SentTexts.{opened, exits}
 use Rattle.reg_tables.specs.Tables.{key_text, more_text}
 use Rattle.reg_tables.proofs.json_table.put_next.Goals as goal
 

@@ -1,6 +1,6 @@
 use Rattle.std.proofs.Common.{◌++◌}
 use Rattle.std.specs.Prelude.{codes}
-use Rattle.reg_dump.proofs.SentTexts.{opened, stops_full, exits}
+use Rattle.reg_tree_text.proofs.SentTexts.{opened, stops_full, exits}
 use Rattle.reg_tables.specs.Tables.{keys_text, keys_from, json_text}
 use Rattle.reg_tables.proofs.json_table.put_table.Goals as goal
 

@@ -1,6 +1,6 @@
 use Rattle.std.proofs.Common.{[]}
 use Rattle.reg_tables.specs.Tables.{json_text}
-use Rattle.reg_dump.proofs.SentTexts.{so_far_start, told_ok, told_err, told_failures, err_exits, exits}
+use Rattle.reg_tree_text.proofs.SentTexts.{so_far_start, told_ok, told_err, told_failures, err_exits, exits}
 use Rattle.reg_tables.proofs.json_table.write_table.Goals as goal
 
 pub returns-in_err-put_table-clause-err : goal.returns-in_err-put_table-clause-err

@@ -1,4 +1,4 @@
-use Rattle.reg_dump.proofs.SentTexts.{exits}
+use Rattle.reg_tree_text.proofs.SentTexts.{exits}
 use Rattle.reg_tables.proofs.TableTexts.{key-next, values-same}
 use Rattle.reg_tables.proofs.row.put_key.Goals as goal
 

@@ -1,4 +1,4 @@
-use Rattle.reg_dump.proofs.SentTexts.{stops_full, exits}
+use Rattle.reg_tree_text.proofs.SentTexts.{stops_full, exits}
 use Rattle.reg_tables.proofs.row.put_member.Goals as goal
 
 pub returns-in_err-number : goal.returns-in_err-number

@@ -1,5 +1,5 @@
 use Rattle.std.proofs.Common.{◌∙◌}
-use Rattle.reg_dump.proofs.SentTexts.{swapped, stops_full, exits}
+use Rattle.reg_tree_text.proofs.SentTexts.{swapped, stops_full, exits}
 use Rattle.reg_tables.proofs.row.put_row.Goals as goal
 
 pub returns-in_err-text : goal.returns-in_err-text

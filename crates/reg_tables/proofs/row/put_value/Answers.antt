@@ -1,5 +1,5 @@
 use Rattle.reg_heap.specs.Edits.{values_at}
-use Rattle.reg_dump.proofs.SentTexts.{swapped, stops_full, exits}
+use Rattle.reg_tree_text.proofs.SentTexts.{swapped, stops_full, exits}
 use Rattle.reg_tables.proofs.TableTexts.{member-same}
 use Rattle.reg_tables.proofs.row.put_value.Goals as goal
 

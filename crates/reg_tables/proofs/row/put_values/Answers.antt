@@ -1,7 +1,7 @@
 use Rattle.std.proofs.Common.{arith, ap, sym, drop, ◌+◌}
 use Rattle.reg_heap.specs.Edits.{values_at}
-use Rattle.reg_dump.proofs.SentTexts.{opened, swapped, exits}
-use Rattle.reg_dump.proofs.LineTexts.{next_value}
+use Rattle.reg_tree_text.proofs.SentTexts.{opened, swapped, exits}
+use Rattle.reg_tree_text.proofs.LineTexts.{next_value}
 use Rattle.reg_tables.specs.Tables.{value_row, value_rows, line_text}
 use Rattle.reg_tables.proofs.row.put_values.Goals as goal
 

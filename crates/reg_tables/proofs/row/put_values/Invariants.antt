@@ -2,7 +2,7 @@ use Rattle.std.proofs.Common.{ℕ, List, ◌++◌, drop, string_bytes}
 use Rattle.reg_heap.specs.Paths.{Path}
 use Rattle.reg_heap.specs.Edits.{values_at}
 use Rattle.reg_tree.specs.TreeKeys.{IsAt}
-use Rattle.reg_dump.specs.Internal.Gathered.{WriterState, IsSoFar}
+use Rattle.reg_tree_text.specs.Internal.Gathered.{WriterState, IsSoFar}
 use Rattle.reg_tables.specs.Tables.{value_rows}
 use Rattle.reg_tables.proofs.row.put_values.Given as goal
 

@@ -1,6 +1,6 @@
 use Rattle.std.proofs.Common.{arith, refl}
 use Rattle.std.proofs.lemmas.Bool.Decides.{nat_tests}
-use Rattle.reg_listing.proofs.SpeltUnits.{units_start, units_more, units_none, units_all}
+use Rattle.reg_tree_text.proofs.SpeltUnits.{units_start, units_more, units_none, units_all}
 use Rattle.reg_tables.proofs.units.units_of.Goals as goal
 
 pub loop-rest-init : goal.loop-rest-init

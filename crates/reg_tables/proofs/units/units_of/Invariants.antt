@@ -1,6 +1,6 @@
 use Rattle.std.proofs.Common.{◌≡◌, ◌++◌, length}
 use Rattle.std.specs.Option.{option_map}
-use Rattle.reg_listing.specs.ValueTexts.{units_of}
+use Rattle.reg_tree_text.specs.ValueTexts.{units_of}
 use Rattle.reg_tables.proofs.units.units_of.Given as goal
 
 abbrev pub invariant-loop-rest : goal.invariant-loop-rest

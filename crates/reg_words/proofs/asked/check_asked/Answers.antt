@@ -1,7 +1,7 @@
 use Rattle.std.proofs.Common.{◌∙◌, ap, codes, refl, map, rules}
 use Rattle.std.specs.Prelude.{Some, option_map}
-use Rattle.clap.specs.Words.{found_of, rows_of}
-use Rattle.reg_words.proofs.AskedWords.{all_is, no_check}
+use Rattle.clap.specs.Words.{found_of}
+use Rattle.reg_words.proofs.AskedWords.{all_is}
 use Rattle.reg_words.proofs.asked.check_asked.Goals as goal
 
 pub returns-in_ok-extend_from_slice-in-Some : goal.returns-in_ok-extend_from_slice-in-Some
@@ -13,5 +13,4 @@ returns-in_ok-extend_from_slice-in-Some c = (
 
 pub returns-in-None : goal.returns-in-None
 returns-in-None c =
-    no_check (rows_of (found_of c.args.matches.now))
-    (all_is (found_of c.args.matches.now) (codes "files") _ c.get_strs.ensures ∙ ap (option_map (λ s. map (λ v. v.now) s.now)) c.in-None.is)
+    (refl, all_is (found_of c.args.matches.now) (codes "files") _ c.get_strs.ensures ∙ ap (option_map (λ s. map (λ v. v.now) s.now)) c.in-None.is)

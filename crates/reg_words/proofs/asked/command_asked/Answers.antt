@@ -1,37 +1,45 @@
 use Rattle.std.proofs.Common.{codes, rules}
 use Rattle.clap.specs.Words.{found_of, rows_of}
-use Rattle.reg_words.proofs.AskedWords.{named_so, none_asked}
+use Rattle.reg_words.proofs.AskedWords.{asked_so, named_so, none_asked}
 use Rattle.reg_words.proofs.asked.command_asked.Goals as goal
 
 pub returns-then-eq : goal.returns-then-eq
-returns-then-eq c = named_so c.args.name.now (codes "dump") (rows_of (found_of c.args.matches.now)) c.dump_asked.result (search rules) c.dump_asked.ensures
+returns-then-eq c = named_so c.args.name.now (codes "run") (rows_of (found_of c.args.matches.now)) c.run_asked.result (search rules) c.run_asked.ensures
+
+pub returns-then-eq-2 : goal.returns-then-eq-2
+returns-then-eq-2 c = asked_so c.args.name.now (codes "dump") (rows_of (found_of c.args.matches.now)) c.dump_asked.result (search rules) c.dump_asked.ensures
 
 pub returns-then-eq-3 : goal.returns-then-eq-3
-returns-then-eq-3 c = named_so c.args.name.now (codes "ls") (rows_of (found_of c.args.matches.now)) c.list_asked.result (search rules) c.list_asked.ensures
+returns-then-eq-3 c =
+    asked_so c.args.name.now (codes "check") (rows_of (found_of c.args.matches.now)) c.in_ok-check_asked.field-0 (search rules) c.in_ok-check_asked.ensures
 
 pub returns-then-eq-4 : goal.returns-then-eq-4
-returns-then-eq-4 c = named_so c.args.name.now (codes "get") (rows_of (found_of c.args.matches.now)) c.get_asked.result (search rules) c.get_asked.ensures
+returns-then-eq-4 c = named_so c.args.name.now (codes "ls") (rows_of (found_of c.args.matches.now)) c.list_asked.result (search rules) c.list_asked.ensures
 
 pub returns-then-eq-5 : goal.returns-then-eq-5
-returns-then-eq-5 c = named_so c.args.name.now (codes "find") (rows_of (found_of c.args.matches.now)) c.find_asked.result (search rules) c.find_asked.ensures
+returns-then-eq-5 c = named_so c.args.name.now (codes "get") (rows_of (found_of c.args.matches.now)) c.get_asked.result (search rules) c.get_asked.ensures
 
 pub returns-then-eq-6 : goal.returns-then-eq-6
-returns-then-eq-6 c = named_so c.args.name.now (codes "diff") (rows_of (found_of c.args.matches.now)) c.diff_asked.result (search rules) c.diff_asked.ensures
+returns-then-eq-6 c = named_so c.args.name.now (codes "find") (rows_of (found_of c.args.matches.now)) c.find_asked.result (search rules) c.find_asked.ensures
 
 pub returns-then-eq-7 : goal.returns-then-eq-7
-returns-then-eq-7 c = named_so c.args.name.now (codes "export") (rows_of (found_of c.args.matches.now)) c.export_asked.result (search rules) c.export_asked.ensures
+returns-then-eq-7 c = named_so c.args.name.now (codes "diff") (rows_of (found_of c.args.matches.now)) c.diff_asked.result (search rules) c.diff_asked.ensures
 
 pub returns-then-eq-8 : goal.returns-then-eq-8
-returns-then-eq-8 c = named_so c.args.name.now (codes "new") (rows_of (found_of c.args.matches.now)) c.new_asked.result (search rules) c.new_asked.ensures
+returns-then-eq-8 c = named_so c.args.name.now (codes "export") (rows_of (found_of c.args.matches.now)) c.export_asked.result (search rules) c.export_asked.ensures
 
 pub returns-then-eq-9 : goal.returns-then-eq-9
-returns-then-eq-9 c = named_so c.args.name.now (codes "edit") (rows_of (found_of c.args.matches.now)) c.edit_asked.result (search rules) c.edit_asked.ensures
+returns-then-eq-9 c = named_so c.args.name.now (codes "new") (rows_of (found_of c.args.matches.now)) c.new_asked.result (search rules) c.new_asked.ensures
 
 pub returns-then-eq-10 : goal.returns-then-eq-10
-returns-then-eq-10 c = named_so c.args.name.now (codes "import") (rows_of (found_of c.args.matches.now)) c.import_asked.result (search rules) c.import_asked.ensures
+returns-then-eq-10 c = named_so c.args.name.now (codes "edit") (rows_of (found_of c.args.matches.now)) c.edit_asked.result (search rules) c.edit_asked.ensures
+
+pub returns-then-eq-11 : goal.returns-then-eq-11
+returns-then-eq-11 c = named_so c.args.name.now (codes "import") (rows_of (found_of c.args.matches.now)) c.import_asked.result (search rules) c.import_asked.ensures
 
 pub returns : goal.returns
 returns c = none_asked c.args.name.now (rows_of (found_of c.args.matches.now)) (record {
+  no_run_word = λ e. search (rules, e);
   no_dump_word = λ e. search (rules, e);
   no_check_word = λ e. search (rules, e);
   no_ls_word = λ e. search (rules, e);

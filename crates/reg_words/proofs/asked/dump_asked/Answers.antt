@@ -1,7 +1,7 @@
 use Rattle.std.proofs.Common.{◌∙◌, ap, codes, refl}
 use Rattle.std.specs.Prelude.{option_map}
-use Rattle.clap.specs.Words.{found_of, rows_of}
-use Rattle.reg_words.proofs.AskedWords.{first_is, no_dump}
+use Rattle.clap.specs.Words.{found_of}
+use Rattle.reg_words.proofs.AskedWords.{first_is}
 use Rattle.reg_words.proofs.asked.dump_asked.Goals as goal
 
 pub returns-in-Some : goal.returns-in-Some
@@ -10,5 +10,4 @@ returns-in-Some c =
 
 pub returns-in-None : goal.returns-in-None
 returns-in-None c =
-    no_dump (rows_of (found_of c.args.matches.now))
-    (first_is (found_of c.args.matches.now) (codes "file") _ c.get_str.ensures ∙ ap (option_map (λ s. s.now)) c.in-None.is)
+    (refl, first_is (found_of c.args.matches.now) (codes "file") _ c.get_str.ensures ∙ ap (option_map (λ s. s.now)) c.in-None.is)

@@ -4,7 +4,7 @@ use Rattle.reg_words.proofs.command.looking_commands.Goals as goal
 
 pub returns : goal.returns
 returns c =
-    let listing = with_sub _ _ _ _ _ c.in_ok-tool_commands.ensures c.list_command.ensures c.in_ok-listing.ensures in
+    let listing = with_sub _ _ _ _ _ c.in_ok-stream_commands.ensures c.list_command.ensures c.in_ok-listing.ensures in
     let getting = with_sub _ _ _ _ _ listing c.get_command.ensures c.in_ok-getting.ensures in
     let finding = with_sub _ _ _ _ _ getting c.find_command.ensures c.in_ok-finding.ensures in
     let comparing = with_sub _ _ _ _ _ finding c.diff_command.ensures c.in_ok-comparing.ensures in

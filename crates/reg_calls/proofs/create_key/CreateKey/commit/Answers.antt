@@ -11,7 +11,7 @@ use Rattle.reg_calls.specs.Internal.Stores.{KnowsKeys, IsUnchanged}
 use Rattle.reg_calls.proofs.FoundPaths.{is-empty, not-empty}
 use Rattle.reg_calls.proofs.KnownKeys.{added_known, made_known, again_known, unchanged, store_of}
 use Rattle.reg_calls.proofs.TableAndLimitLemmas.{look-push, closed-push, numbered-new}
-use Rattle.reg_calls.proofs.StoreAfterChange.{create-room, create-given, create-done, create-there, made-disposition, lacking, lacks_full}
+use Rattle.reg_calls.proofs.StoreAfterChange.{create-room, create-given, create-done, create-there, made-disposition, made-changed, lacking, lacks_full}
 use Rattle.reg_calls.proofs.create_key.CreateKey.commit.Goals as goal
 
 pub add-requires-clause-room : goal.add-requires-clause-room
@@ -69,7 +69,10 @@ returns-in-Ok-create_at c = λ handle path a.
     c.args.self.reached.missing.now a.missing some in
     create-done c.args.number c.args.store.now c.args.session c.requires.ready handle path c.args.self.mask (option_copied c.args.self.descriptor) a.clear
     c.args.moment c.create_at.new.self c.set_payload.new.self c.args.self.text.items a.text.names
-    made.tree (c.set_payload.ensures.handles ∙ c.in-Ok.ensures.ok) c.opened-in-Ok-create_at.result told c.in-Ok-create_at.ensures.kept c.in-Ok-create_at.ensures.grows
+    made.tree (c.set_payload.ensures.handles ∙ c.in-Ok.ensures.ok) c.opened-in-Ok-create_at.result told
+    (made-changed c.args.number c.args.store.now c.args.session c.requires.ready handle path c.args.self.mask (option_copied c.args.self.descriptor) a.clear
+    c.opened-in-Ok-create_at.result c.opened-in-Ok-create_at.ensures)
+    c.in-Ok-create_at.ensures.kept c.in-Ok-create_at.ensures.grows
     (made_known c.args.store.now c.requires.ready.known c.add.new.self c.args.self.text.items c.args.self.reached.node c.in-Ok.ensures.payloads
     c.create_at.new.self made.nodes c.args.number added numbered-last refl c.in-Ok-create_at.node
     (subst (λ (p : Path). IsAt c.create_at.new.self p c.in-Ok-create_at.node) (sym a.text.names) made.last) c.set_payload.new.self c.set_payload.ensures.payloads)

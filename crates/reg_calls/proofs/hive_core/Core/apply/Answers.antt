@@ -111,7 +111,7 @@ returns-in-Ok-carry_out g c =
     applied-by (asks (answers_of g.C.Callback.answers c.args.callbacks.now)) c.args.self.now _ c.args.session c.args.moment c.args.change c.in-Ok-carry_out.reply c.len-number.result store None is
     (sym (still-clear (at c.len-number.result store) c.args.session _ c.args.change clear c.in-Ok.ensures.1))
     (inl (accepted c.self.invariant.3 c.args.self.now _ c.self.view_is c.args.session c.args.moment c.args.change c.in-Ok-carry_out.reply
-    done.reply entries refl done.watches.taken done.kept done.grows all.hive))
+    done.reply entries refl done.watches.taken done.kept_keys done.kept done.grows all.hive))
 
 pub invariant_of-self-in-Err-carry_out : goal.invariant_of-self-in-Err-carry_out
 invariant_of-self-in-Err-carry_out g c =

@@ -1,6 +1,6 @@
 use Rattle.std.proofs.Common.{sym, ◌∙◌}
 use Rattle.std.proofs.lemmas.Option.{MatchOption-at_none}
-use Rattle.reg_handles.proofs.LongerTexts.{none-behind, none-first, one-first}
+use Rattle.reg_model.proofs.LongerTexts.{none-behind, none-first, one-first}
 use Rattle.reg_handles.proofs.keys.OpenKeys.first_past.Goals as goal
 
 pub returns-in-Some-clause-some : goal.returns-in-Some-clause-some

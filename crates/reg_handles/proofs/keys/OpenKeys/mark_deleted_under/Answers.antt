@@ -1,7 +1,8 @@
 use Rattle.std.proofs.Common.{◌≡◌, ℕ, List, None, cond, subst}
 use Rattle.std.specs.Prelude.{option_map}
 use Rattle.slab.specs.Slab.{get}
-use Rattle.reg_handles.specs.Internal.OpenKeySlab.{key_at, goes_on, without_key_past}
+use Rattle.reg_handles.specs.Internal.OpenKeySlab.{key_at, without_key_past}
+use Rattle.reg_model.specs.Internal.TextNumbers.{goes_on}
 use Rattle.reg_handles.proofs.KeysMarkedBelow.{one_marked, all_slots, all_paths}
 use Rattle.reg_handles.proofs.keys.OpenKeys.mark_deleted_under.Goals as goal
 

@@ -1,5 +1,6 @@
 use Rattle.std.specs.BTreeMap.{btree_map_len}
-use Rattle.reg_handles.specs.Internal.OpenKeySlab.{key_at, goes_on}
+use Rattle.reg_handles.specs.Internal.OpenKeySlab.{key_at}
+use Rattle.reg_model.specs.Internal.TextNumbers.{goes_on}
 use Rattle.reg_handles.proofs.KeysMarkedBelow.{AreMarked}
 use Rattle.reg_handles.proofs.keys.OpenKeys.mark_deleted_under.Given as goal
 

@@ -1,5 +1,6 @@
 use Rattle.std.proofs.Common.{None, ◌∙◌, sym, subst, arith}
-use Rattle.reg_notify.specs.Internal.Indexes.{number_at, UpdatesText}
+use Rattle.reg_notify.specs.Internal.Indexes.{UpdatesText}
+use Rattle.reg_model.specs.Internal.TextNumbers.{number_at}
 use Rattle.reg_notify.specs.Internal.Marks.{AreMarked}
 use Rattle.reg_notify.specs.Internal.Keys.{class_of}
 use Rattle.reg_notify.proofs.PlaceTexts.{key-appended}

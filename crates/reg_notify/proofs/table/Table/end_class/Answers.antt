@@ -1,7 +1,7 @@
 use Rattle.std.proofs.Common.{sym, ◌∙◌}
 use Rattle.reg_model.specs.declared.notice.Reason.TheVariants.{Matched}
 use Rattle.reg_notify.specs.Internal.Hits.{of_class}
-use Rattle.reg_notify.specs.Internal.Indexes.{goes_on}
+use Rattle.reg_model.specs.Internal.TextNumbers.{goes_on}
 use Rattle.reg_notify.specs.Internal.Rows.{place_of}
 use Rattle.reg_notify.proofs.EndsSteps.{each, ends-never, ends-test}
 use Rattle.reg_notify.proofs.HitSteps.{class-met, class-not_met}

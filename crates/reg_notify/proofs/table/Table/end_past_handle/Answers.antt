@@ -1,5 +1,5 @@
 use Rattle.std.proofs.Common.{◌∙◌, refl}
-use Rattle.reg_notify.specs.Internal.Indexes.{number_at}
+use Rattle.reg_model.specs.Internal.TextNumbers.{number_at}
 use Rattle.reg_notify.specs.Internal.Rows.{holder_of}
 use Rattle.reg_notify.proofs.Firings.{part-none}
 use Rattle.reg_notify.proofs.TableSteps.{one-past, none-past}

@@ -1,6 +1,6 @@
 use Rattle.std.proofs.Common.{◌≡◌}
 use Rattle.std.specs.BTreeMap.{btree_map_len}
-use Rattle.reg_notify.specs.Internal.Indexes.{goes_on}
+use Rattle.reg_model.specs.Internal.TextNumbers.{goes_on}
 use Rattle.reg_notify.specs.Internal.Rows.{holder_of}
 use Rattle.reg_notify.specs.Internal.Firing.{if_passes}
 use Rattle.reg_notify.specs.Internal.States.{IsReady}

@@ -1,5 +1,5 @@
 use Rattle.std.proofs.Common.{◌≡◌, true, None, List, ℕ, sym, ◌∙◌, subst}
-use Rattle.reg_notify.specs.Internal.Indexes.{goes_on, number_at}
+use Rattle.reg_model.specs.Internal.TextNumbers.{goes_on, number_at}
 use Rattle.reg_notify.proofs.HitSteps.{if-none}
 use Rattle.reg_notify.proofs.table.Table.has_watch.Goals as goal
 

@@ -4,7 +4,7 @@ use Rattle.reg_model.specs.declared.notice.Reason.TheVariants.{Closed}
 use Rattle.reg_notify.specs.Asked.{closing_by, Fires}
 use Rattle.reg_notify.specs.Tables.{Table}
 use Rattle.reg_notify.specs.Internal.Firing.{if_passes}
-use Rattle.reg_notify.specs.Internal.Indexes.{goes_on}
+use Rattle.reg_model.specs.Internal.TextNumbers.{goes_on}
 use Rattle.reg_notify.specs.Internal.Rows.{holder_of}
 use Rattle.reg_notify.specs.Internal.Settled.{shown}
 use Rattle.reg_notify.specs.Internal.States.{Ends}

@@ -1,8 +1,10 @@
-use Rattle.std.proofs.Common.{[], ◌++◌, take, refl, ◌∙◌, arith}
+use Rattle.std.proofs.Common.{[], ◌++◌, take, refl, ◌∙◌, arith, rules}
 use Rattle.reg_script.specs.declared.engine.ScriptFault.TheVariants.{Read}
+use Rattle.reg_script.specs.declared.failed.StrictFault.TheVariants.{Script as Of}
+use Rattle.reg_script.specs.Internal.Progress.{past}
 use Rattle.reg_script.proofs.FailedCalls.{if_err}
 use Rattle.reg_script.proofs.ProgressLemmas.{takes_none, takes_then, takes_settled, consumes_none, consumes_then, consumes_kept, consumes_no_more, ends_at}
-use Rattle.reg_script.proofs.ScriptHalts.{halts_after, halts_at, halts_last, halts_passing, read_more, not_so_many}
+use Rattle.reg_script.proofs.ScriptHalts.{halts_at, halts_last, halts_passing, not_last, before_last, read_more, not_so_many}
 use Rattle.reg_script.proofs.engine.Script.read_all.Goals as goal
 
 pub loop-read-init : goal.loop-read-init
@@ -13,7 +15,7 @@ returns-in_err-pass_on-clause-err g c =
     if_err _ c.from_residual.result _ c.from_residual.ensures.1
     (λ steady none empty.
     let h = c.loop-read.invariant.taken steady in
-    (h.0, h.1, halts_passing _ _ _ h.0 _ h.2 refl c.in_err-pass_on.ensures.err))
+    (h.0, h.1, not_last _ _ h.0 _ _ (halts_passing past _ _ _ h.0 _ h.2 refl c.in_err-pass_on.ensures.err)))
 
 pub returns-in_default-clause-err : goal.returns-in_default-clause-err
 returns-in_default-clause-err g c =
@@ -22,7 +24,7 @@ returns-in_default-clause-err g c =
     let t = takes_settled _ _ h.0 _ _ _ h.2 c.in_ok-pass_on.ensures.sent in (
       h.0,
       consumes_kept _ _ _ h.0 h.1 c.in_default.ensures.bytes,
-      halts_at _ _ _ h.0 Read _ t refl (record { gathered = refl; sent = refl; written = refl }, refl),
+      not_last _ _ h.0 _ Read (halts_at past _ _ h.0 (Of Read) _ t refl (record { gathered = refl; sent = refl; written = refl }, refl)),
     )
 
 pub returns-in_err-end-clause-err : goal.returns-in_err-end-clause-err
@@ -30,22 +32,20 @@ returns-in_err-end-clause-err g c =
     if_err _ c.from_residual-in_err-end.result _ c.from_residual-in_err-end.ensures.1
     (λ steady none empty.
     let h = c.loop-read.invariant.taken steady in
-    let t = takes_settled _ _ h.0 _ _ _ h.2 c.in_ok-pass_on.ensures.sent in
-    let kept = c.in_err-end.ensures.err in (
+    let t = takes_settled _ _ h.0 _ _ _ h.2 c.in_ok-pass_on.ensures.sent in (
       h.0,
       consumes_no_more _ _ _ h.0 c.read.new.buf c.in-Ok.count h.1 c.in-Ok.ensures.bytes.0 c.if-count-eq0.true,
-      halts_last _ _ _ h.0 _ t kept.0 kept.2.text refl kept.2.written kept.2.hive,
+      halts_last _ _ _ h.0 _ _ t c.in_err-end.ensures.begun (search rules) (c.in_err-end.ensures.err _),
     ))
 
 pub returns-then-count-eq0-clause-lines : goal.returns-then-count-eq0-clause-lines
 returns-then-count-eq0-clause-lines g c =
     λ steady.
     let h = c.loop-read.invariant.taken steady in
-    let t = takes_settled _ _ h.0 _ _ _ h.2 c.in_ok-pass_on.ensures.sent in
-    let e = c.in_ok-end.ensures.ok t.steady.no_feed in (
+    let t = takes_settled _ _ h.0 _ _ _ h.2 c.in_ok-pass_on.ensures.sent in (
       h.0,
       consumes_no_more _ _ _ h.0 c.read.new.buf c.in-Ok.count h.1 c.in-Ok.ensures.bytes.0 c.if-count-eq0.true,
-      ends_at _ _ _ h.0 e.0 t e.1 e.2 refl e.3,
+      ends_at _ _ _ h.0 t (c.in_ok-end.ensures.ok t.steady.no_feed _),
     )
 
 pub returns-in_err-take_bytes-clause-err : goal.returns-in_err-take_bytes-clause-err
@@ -56,7 +56,7 @@ returns-in_err-take_bytes-clause-err g c =
     let t = takes_settled _ _ h.0 _ _ _ h.2 c.in_ok-pass_on.ensures.sent in (
       h.0 ++ take c.in-Ok.count c.read.new.buf,
       consumes_then _ _ _ h.0 _ h.1 c.in-Ok.ensures.bytes.0,
-      halts_after _ _ _ _ h.0 _ _ t (c.in_err-take_bytes.ensures.err t.steady),
+      before_last _ _ _ _ h.0 _ _ t (c.in_err-take_bytes.ensures.err t.steady),
     ))
 
 pub loop-read-preserved : goal.loop-read-preserved

@@ -1,7 +1,8 @@
-use Rattle.std.proofs.Common.{rules, refl}
+use Rattle.std.proofs.Common.{rules, refl, ◌∷◌, []}
 use Rattle.reg_script.proofs.FailedCalls.{if_err}
-use Rattle.reg_script.proofs.ProgressLemmas.{takes_byte, takes_line}
-use Rattle.reg_script.proofs.ScriptHalts.{halts_here, halts_unchanged, halts_cut, too_many_lines, line_too_long, few_lines, many_lines, short_line, long_line}
+use Rattle.reg_script.proofs.ProgressLemmas.{takes_byte, takes_ended, takes_settled}
+use Rattle.reg_script.specs.Internal.Progress.{among}
+use Rattle.reg_script.proofs.ScriptHalts.{halts_here, halts_line, halts_passing, too_many_lines, line_too_long, few_lines, many_lines, short_line, long_line}
 use Rattle.reg_script.proofs.engine.Script.take_byte.Goals as goal
 
 pub returns-then-self-ge-LINES_LIMIT-clause-err : goal.returns-then-self-ge-LINES_LIMIT-clause-err
@@ -11,22 +12,22 @@ returns-then-self-ge-LINES_LIMIT-clause-err g c =
 
 pub returns-in_err-end_line-clause-err : goal.returns-in_err-end_line-clause-err
 returns-in_err-end_line-clause-err g c = if_err _ c.from_residual.result _ c.from_residual.ensures.1
-    (λ steady. let kept = c.in_err-end_line.ensures.err in
-    halts_unchanged _ _ c.args.byte _ steady kept.0 kept.1.text refl kept.1.written kept.1.hive)
+    (λ steady. halts_line _ _ c.args.byte _ c.if-byte-eq10.true steady (few_lines _ c.if-self-ge-LINES_LIMIT.false)
+    (c.in_err-end_line.ensures.err (g.W.Write.contents c.args.writer.now)))
 
 pub returns-in_err-settle-clause-err : goal.returns-in_err-settle-clause-err
 returns-in_err-settle-clause-err g c = if_err _ c.from_residual-in_err-settle.result _ c.from_residual-in_err-settle.ensures.1
-    (λ steady. let said = c.in_ok-end_line.ensures.said in
-    halts_cut _ _ c.args.byte _ _ _ _ c.if-byte-eq10.true steady
-    (few_lines _ c.if-self-ge-LINES_LIMIT.false) said.1 said.2 said.3 c.in_err-settle.ensures.err)
+    (λ steady.
+    let t = takes_ended _ _ c.args.byte c.if-byte-eq10.true steady (few_lines _ c.if-self-ge-LINES_LIMIT.false)
+    (c.in_ok-end_line.ensures.ok (g.W.Write.contents c.args.writer.now)) in
+    halts_passing among _ _ _ _ _ t refl c.in_err-settle.ensures.err)
 
 pub returns-then-byte-eq10-clause-ok : goal.returns-then-byte-eq10-clause-ok
 returns-then-byte-eq10-clause-ok g c =
     λ steady.
-    let fewer = few_lines _ c.if-self-ge-LINES_LIMIT.false in
-    let said = c.in_ok-end_line.ensures.said in
-    takes_line _ _ c.args.byte _ _ _ c.if-byte-eq10.true steady fewer said.1 said.2 c.in_ok-end_line.ensures.ended
-    (c.in_ok-end_line.ensures.lines fewer) said.3 c.in_ok-settle.ensures.sent
+    let t = takes_ended _ _ c.args.byte c.if-byte-eq10.true steady (few_lines _ c.if-self-ge-LINES_LIMIT.false)
+    (c.in_ok-end_line.ensures.ok (g.W.Write.contents c.args.writer.now)) in
+    takes_settled _ _ (c.args.byte ∷ []) _ _ _ t c.in_ok-settle.ensures.sent
 
 pub returns-then-len-ge-LINE_LIMIT-clause-err : goal.returns-then-len-ge-LINE_LIMIT-clause-err
 returns-then-len-ge-LINE_LIMIT-clause-err g c =

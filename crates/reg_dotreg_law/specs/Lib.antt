@@ -1,0 +1,4 @@
+pub mod EntriesDue
+pub mod MadeAgain
+pub mod ReadBack
+pub mod MadeOfFiles

@@ -1,0 +1,27 @@
+-- What a file that was written of a tree makes, when it is read and applied to another tree (this project's own).
+use Rattle.std.specs.Prelude.{◌≡◌, ℕ, List, [], Bool, Some, Ok}
+use Rattle.std.specs.FinMap.{get}
+use Rattle.reg_heap.specs.Paths.{Path, Tree}
+use Rattle.reg_tree_text.specs.DumpTexts.{name_of}
+use Rattle.reg_dotreg_writer.specs.Entries.{entries_text, file_bytes}
+use Rattle.reg_dotreg_reader.specs.declared.entry.Numbered.{Numbered}
+use Rattle.reg_dotreg_reader.specs.EntryMeanings.{entries_in}
+use Rattle.reg_dotreg_reader.specs.FileUnits.{units_of}
+use Rattle.reg_dotreg_import.specs.Imports.{imported, entries_of}
+use Rattle.reg_dotreg_law.specs.MadeAgain.{HasSame, HasSameBelow}
+
+-- the bytes of a file have units, which are understood below the root of a tree; and applied to that one at a moment they make a tree
+abbrev pub Makes : (bytes : List ℕ) (other : Tree) (moment : ℕ) (new : Tree) → Type 0
+Makes bytes other moment new =
+    (units : List ℕ) × (entries : List Numbered) × (units_of bytes ≡ Some units) × (entries_in (name_of (get other [])) units ≡ Ok entries)
+    × (new ≡ imported moment other (entries_of entries))
+
+-- the file of a tree's keys from the one at a path on makes, of another tree, one with just these keys and those on the way to the first
+abbrev pub IsBranchOfFile : (is_utf8 : Bool) (tree : Tree) (path : Path) (other : Tree) (moment : ℕ) → Type 0
+IsBranchOfFile is_utf8 tree path other moment =
+    (new : Tree) × Makes (file_bytes is_utf8 (entries_text tree path)) other moment new × HasSameBelow new tree path
+
+-- the file of a tree makes, of another tree, one with the same keys and values
+abbrev pub IsMadeOfFile : (is_utf8 : Bool) (tree other : Tree) (moment : ℕ) → Type 0
+IsMadeOfFile is_utf8 tree other moment =
+    (new : Tree) × Makes (file_bytes is_utf8 (entries_text tree [])) other moment new × HasSame new tree

@@ -1,0 +1,108 @@
+//! The laws of .reg texts: what is written of a tree is read as that tree's keys and values, and makes the tree again.
+//!
+//! Each function is one law: it does nothing, and its contract says what holds of the definitions of reg_dotreg_writer, which writes, of
+//! reg_dotreg_reader, which reads, and of reg_dotreg_import, which applies what was read. [`entries_make_the_branch`] and
+//! [`entries_make_the_tree`] speak of entries and trees, [`values_are_read_back`], [`text_is_read_back`] and [`file_is_read_back`] of texts,
+//! [`import_of_an_export_is_the_branch`] and [`import_of_an_export_is_the_tree`] of files, and [`what_an_export_wrote_an_import_makes`] of
+//! hives, in the words of the calls that export and import.
+#![tactic(auto)]
+
+ghost use Rattle.std.specs.Prelude.{◌≡◌, ℕ, [], IsSome, Bool, List, ◌∷◌, Option, Some, true, ◌++◌};
+ghost use Rattle.std.specs.FinMap.{get};
+ghost use Rattle.reg_heap.specs.Paths.{Path, Tree, Member};
+ghost use Rattle.reg_heap.specs.Trees.{IsTree, IsWithinLimits};
+ghost use Rattle.reg_tree_text.specs.DumpTexts.{name_of};
+ghost use Rattle.reg_dotreg_import.specs.Imports.{imported};
+ghost use Rattle.reg_dotreg_law.specs.EntriesDue.{entries_below, entries_due};
+ghost use Rattle.reg_dotreg_law.specs.MadeAgain.{IsBare, HasSame, HasSameBelow};
+ghost use Rattle.reg_names.specs.Names.{folded};
+ghost use Rattle.reg_dotreg_writer.specs.EntryTexts.{value_entry};
+ghost use Rattle.reg_dotreg_writer.specs.Entries.{CanWrite, entries_text, file_bytes};
+ghost use Rattle.reg_dotreg_reader.specs.FileUnits.{units_of};
+ghost use Rattle.reg_dotreg_reader.specs.declared.entry.Entry.TheVariants.{Value};
+ghost use Rattle.reg_tree.specs.ValueBytes.{IsOfBytes};
+ghost use Rattle.reg_dotreg_law.specs.MadeOfFiles.{IsBranchOfFile, IsMadeOfFile};
+ghost use Rattle.reg_dotreg_law.specs.ReadBack.{IsKept, Says, IsReadBack};
+ghost use Rattle.reg_heap.specs.Edits.{folded_path};
+ghost use Rattle.reg_calls.specs.Views.{View};
+ghost use Rattle.reg_queries.specs.ImageExports.{Exports};
+ghost use Rattle.reg_dotreg_reader.specs.declared.entry.Numbered.{Numbered};
+ghost use Rattle.reg_edits.specs.TextImports.{root_name, Applies, IsText};
+
+/// The entries of the keys from one on make, at any moment, of a tree with the root alone one that has just that key, those below it and
+/// those on the way to it: below the root with the same names, at and below that key with the same values, on the way without values. It
+/// is a tree, and its root keeps the name that it had.
+pub fn entries_make_the_branch()
+    ensures same { (tree bare : Tree) → (path : Path) → (moment : ℕ) → IsTree tree → IsWithinLimits tree → IsSome (get tree path) →
+        IsBare bare → HasSameBelow (imported moment bare (entries_below tree path)) tree path }
+    ensures is_tree { (tree bare : Tree) → (path : Path) → (moment : ℕ) → IsTree tree → IsWithinLimits tree → IsSome (get tree path) →
+        IsBare bare → IsTree (imported moment bare (entries_below tree path)) }
+    ensures root { (tree bare : Tree) → (path : Path) → (moment : ℕ) → IsTree tree → IsWithinLimits tree → IsSome (get tree path) →
+        IsBare bare → name_of (get (imported moment bare (entries_below tree path)) []) ≡ name_of (get bare []) }
+{}
+
+/// The entries of a tree's keys make, at any moment, of a tree with the root alone one that has the same keys, with the same values, and
+/// below the root with the same names. It is a tree, and its root keeps the name that it had.
+pub fn entries_make_the_tree()
+    ensures same { (tree bare : Tree) → (moment : ℕ) → IsTree tree → IsWithinLimits tree → IsBare bare →
+        HasSame (imported moment bare (entries_due tree)) tree }
+    ensures is_tree { (tree bare : Tree) → (moment : ℕ) → IsTree tree → IsWithinLimits tree → IsBare bare →
+        IsTree (imported moment bare (entries_due tree)) }
+    ensures root { (tree bare : Tree) → (moment : ℕ) → IsTree tree → IsWithinLimits tree → IsBare bare →
+        name_of (get (imported moment bare (entries_due tree)) []) ≡ name_of (get bare []) }
+{}
+
+/// The entry of a value, whatever text stands behind it, is read as that value, where values may stand: its name, its type, its bytes.
+pub fn values_are_read_back()
+    ensures { (root : List ℕ) → (value : Member) → IsKept value →
+        Says root true (value_entry value.name value.kind value.bytes) (Value value.name value.kind value.bytes ∷ []) true }
+{}
+
+/// The text of a tree's keys from one on, whose names it can hold, is read, of keys below a root of the same name, folded, as those keys
+/// and their values in their order.
+pub fn text_is_read_back()
+    ensures { (name : List ℕ) → (tree : Tree) → (path : Path) → folded name ≡ folded (name_of (get tree [])) → IsTree tree →
+        IsWithinLimits tree → IsOfBytes tree → IsSome (get tree path) → CanWrite tree path → IsReadBack name tree path }
+{}
+
+/// The file of that text, in either encoding, has the units of the text.
+pub fn file_is_read_back()
+    ensures { (is_utf8 : Bool) → (tree : Tree) → (path : Path) → IsTree tree → IsWithinLimits tree → IsOfBytes tree →
+        IsSome (get tree path) → CanWrite tree path →
+        units_of (file_bytes is_utf8 (entries_text tree path)) ≡ Some (entries_text tree path) }
+{}
+
+/// The file that is written of a tree's keys from one on, in either encoding, read and applied at any moment to a tree of the root alone
+/// whose name is the same, folded, makes that key and all below it again, and the keys on the way to it without values.
+pub fn import_of_an_export_is_the_branch()
+    ensures { (is_utf8 : Bool) → (tree bare : Tree) → (path : Path) → (moment : ℕ) → IsTree tree → IsWithinLimits tree →
+        IsOfBytes tree → IsSome (get tree path) → CanWrite tree path → IsBare bare →
+        folded (name_of (get bare [])) ≡ folded (name_of (get tree [])) → IsBranchOfFile is_utf8 tree path bare moment }
+{}
+
+/// The file that is written of a tree, in either encoding, read and applied at any moment to a tree of the root alone whose name is the
+/// same, folded, makes that tree again: the same keys, the same values, and below the root the same names.
+pub fn import_of_an_export_is_the_tree()
+    ensures { (is_utf8 : Bool) → (tree bare : Tree) → (moment : ℕ) → IsTree tree → IsWithinLimits tree → IsOfBytes tree →
+        CanWrite tree [] → IsBare bare → folded (name_of (get bare [])) ≡ folded (name_of (get tree [])) →
+        IsMadeOfFile is_utf8 tree bare moment }
+{}
+
+/// An export of the tree in an image was written to a writer that held some bytes, and appended a file to them. That file is understood
+/// for a hive that has a root alone, without values, of the same name, folded (clause `read`). Where its entries are made there, at any
+/// moment, that hive has, of the keys of the image's tree, just the exported one, those below it and those on the way to it: with the same
+/// names below the root, with the same values at and below the exported one, and without values on the way (clause `branch`). Where the
+/// root was exported, it has the same keys, with the same values, and below the root the same names (clause `whole`). What the hive may
+/// still refuse are its calls: for memory or space, and by 1450 the exported key where it is more than 32 names below the root, since its
+/// call would make them all.
+pub fn what_an_export_wrote_an_import_makes()
+    ensures read { (unread left : Option (List ℕ)) → (path file held : List ℕ) → (is_utf8 : Bool) → (old : View) →
+        (export : Exports unread left path is_utf8 (Some held) (Some (held ++ file))) → IsBare old.keys.tree →
+        folded (root_name old) ≡ folded (name_of (get export.tree [])) → (entries : List Numbered) × IsText (root_name old) file entries }
+    ensures branch { (unread left : Option (List ℕ)) → (path file held : List ℕ) → (is_utf8 : Bool) → (moment : ℕ) → (old last : View) →
+        (export : Exports unread left path is_utf8 (Some held) (Some (held ++ file))) → Applies moment file old last → IsBare old.keys.tree →
+        folded (root_name old) ≡ folded (name_of (get export.tree [])) → HasSameBelow last.keys.tree export.tree (folded_path path) }
+    ensures whole { (unread left : Option (List ℕ)) → (file held : List ℕ) → (is_utf8 : Bool) → (moment : ℕ) → (old last : View) →
+        (export : Exports unread left [] is_utf8 (Some held) (Some (held ++ file))) → Applies moment file old last → IsBare old.keys.tree →
+        folded (root_name old) ≡ folded (name_of (get export.tree [])) → HasSame last.keys.tree export.tree }
+{}

@@ -1,0 +1,20 @@
+use Rattle.std.proofs.Common.{chars, ap, ◌∙◌}
+use Rattle.std.proofs.lemmas.List.{nil_from_length}
+use Rattle.std.proofs.lemmas.Str.{chars-nil, chars_past_char, IsUtf8-past_char}
+use Rattle.std.specs.Str.Iter.{chars_rest}
+use Rattle.reg_dotreg_reader.proofs.CharacterUnits.{character_more, character_end}
+use Rattle.reg_dotreg_reader.proofs.encoding.text_units.Goals as goal
+
+pub loop-character-preserved : goal.loop-character-preserved
+loop-character-preserved c = let step = c.in-Some.ensures.steps.0 in record {
+  is_utf8 = IsUtf8-past_char _ _ c.in-Some.character c.loop-character.invariant.is_utf8 step;
+  units =
+      character_more c.loop-character.units.items _ c.in-Some.character _ (chars (chars_rest c.loop-character.rest)) _
+      c.loop-character.invariant.units (chars_past_char _ _ c.in-Some.character c.loop-character.invariant.is_utf8 step)
+      c.in_ok-push_units.ensures;
+}
+
+pub returns : goal.returns
+returns c =
+    character_end c.loop-character.units.items _ _ c.loop-character.invariant.units
+    (ap chars (nil_from_length _ c.in_default.ensures.steps.0.0) ∙ chars-nil)

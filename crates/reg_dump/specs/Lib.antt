@@ -1,4 +1,0 @@
-pub mod DumpTexts
-pub mod DumpFronts
-pub mod DumpCounts
-pub mod Internal

@@ -1,5 +1,0 @@
-use Rattle.reg_entry_law.proofs.ReadTrees.{tree-file}
-use Rattle.reg_entry_law.proofs.file_is_read_back.Goals as goal
-
-pub returns : goal.returns
-returns c = tree-file

@@ -1,5 +1,0 @@
-use Rattle.reg_entry_law.proofs.MadeOfFile.{branch-of_file}
-use Rattle.reg_entry_law.proofs.import_of_an_export_is_the_branch.Goals as goal
-
-pub returns : goal.returns
-returns c = branch-of_file

@@ -1,5 +1,0 @@
-use Rattle.reg_entry_law.proofs.EntriesBack.{value-says}
-use Rattle.reg_entry_law.proofs.values_are_read_back.Goals as goal
-
-pub returns : goal.returns
-returns c = value-says

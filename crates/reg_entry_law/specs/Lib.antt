@@ -1,2 +1,0 @@
-pub mod ReadBack
-pub mod MadeOfFiles

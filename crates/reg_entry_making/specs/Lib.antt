@@ -1,2 +1,0 @@
-pub mod EntriesDue
-pub mod MadeAgain

@@ -1,0 +1,107 @@
+//! What answers registry calls, as a bound: a hive, for those who only ask it.
+//!
+//! A program or a test that takes a type of this bound is checked without all that a hive is made of.
+//! Its one contract: a change that is answered 0 is an entry more, and what is counted are the entries. What else a call does only
+//! the hive's own contracts say. It stands on reg_calls. Its trait is [`Registry`], and [`PlainHive`] the type that programs choose.
+ghost use Rattle.std.specs.Prelude.{◌≡◌, ◌+◌, ◌<◌, ℕ, IfOk, length};
+ghost use Rattle.reg_model.specs.declared.limits.TheConstants.{SESSIONS_LIMIT};
+ghost use Rattle.reg_calls.specs.HiveView.{view_of};
+
+use reg_arena::Arena;
+use reg_callbacks::{Callback, NoCallback};
+use reg_calls::{Hive, NewFault};
+use reg_model::{Answer, Change, ChangeReply, Notice, Query};
+use reg_tree::Tree;
+use std::alloc::Global;
+
+/// A hive on which no callback is ever registered.
+pub type PlainHive = Hive<NoCallback>;
+
+/// What answers the calls of sessions. Each method is the one of that name of [`Hive`].
+pub trait Registry: Drop {
+    /// How many entries its journal has.
+    ghost entries: { Self → ℕ };
+
+    /// One of one root, with no entry: [`Hive::new`], whose faults these are.
+    fn fresh(
+        alloc: Global,
+        root_name: &[u8],
+        descriptor: &[u8],
+        moment: u64,
+    ) -> Result<Self, NewFault>
+        ensures { IfOk result (λ registry. entries registry ≡ 0) };
+
+    /// Answers a change of a session, below 64, at a moment (100 ns units since 1601): an entry more where the status is 0.
+    fn apply(&mut self, session: u8, moment: u64, change: Change) -> ChangeReply
+        requires { session < SESSIONS_LIMIT }
+        ensures { result.status ≡ 0 → entries self.new ≡ entries self.old + 1 };
+
+    /// Answers a question of a session.
+    fn read(&self, session: u8, query: &Query) -> Answer;
+
+    /// How many entries the journal has.
+    fn len(&self) -> usize
+        ensures { result ≡ entries self.now };
+
+    /// How many handles are open, of all sessions.
+    fn open_handles(&self) -> usize;
+
+    /// How many watches are pending, of all sessions.
+    fn pending(&self) -> usize;
+
+    /// Hands a session its next notice, if there is one. No entry comes by it.
+    fn take_notice(&mut self, session: u8) -> Option<Notice>
+        ensures { entries self.new ≡ entries self.old };
+
+    /// The bins with all their cells.
+    fn arena(&self) -> &Arena;
+
+    /// The keys.
+    fn tree(&self) -> &Tree;
+}
+
+impl<C: Callback> Registry for Hive<C> {
+    ghost entries = { λ hive. length (view_of hive).journal };
+
+    fn fresh(
+        alloc: Global,
+        root_name: &[u8],
+        descriptor: &[u8],
+        moment: u64,
+    ) -> Result<Hive<C>, NewFault> {
+        Hive::new(alloc, root_name, descriptor, moment)
+    }
+
+    #[tactic(auto, using(reg_calls::proofs::AcceptedChanges::accepted))]
+    fn apply(&mut self, session: u8, moment: u64, change: Change) -> ChangeReply {
+        self.apply(session, moment, change)
+    }
+
+    fn read(&self, session: u8, query: &Query) -> Answer {
+        self.read(session, query)
+    }
+
+    fn len(&self) -> usize {
+        self.len()
+    }
+
+    fn open_handles(&self) -> usize {
+        self.open_handles()
+    }
+
+    fn pending(&self) -> usize {
+        self.pending()
+    }
+
+    fn take_notice(&mut self, session: u8) -> Option<Notice> {
+        self.take_notice(session)
+    }
+
+    fn arena(&self) -> &Arena {
+        self.arena()
+    }
+
+    fn tree(&self) -> &Tree {
+        self.tree()
+    }
+}

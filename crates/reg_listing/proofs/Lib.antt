@@ -1,5 +1,0 @@
-pub mod ListedLines
-pub mod ListedKeys
-pub mod SpeltUnits
-mod RowsOfValueTexts
-mod RowsOfListings

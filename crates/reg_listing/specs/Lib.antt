@@ -1,2 +1,0 @@
-pub mod Listings
-pub mod ValueTexts

@@ -1,2 +1,0 @@
-pub mod Looks
-pub mod LookBlames

@@ -1,4 +1,0 @@
-pub mod LookupSteps
-pub mod FindSteps
-pub mod DiffSteps
-pub mod ExportSteps

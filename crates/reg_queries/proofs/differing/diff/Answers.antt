@@ -1,0 +1,12 @@
+use Rattle.std.proofs.Common.{refl}
+use Rattle.reg_queries.proofs.DiffSteps.{differ, stopped}
+use Rattle.reg_queries.proofs.differing.diff.Goals as goal
+
+pub returns-in-Err-clause-err : goal.returns-in-Err-clause-err
+returns-in-Err-clause-err g c = (c.in-Err.ensures.err, refl, refl)
+
+pub returns-clause-ok : goal.returns-clause-ok
+returns-clause-ok g c = differ _ _ _ _ _ c.in-Ok.ensures.ok _ _ c.diff_from.result c.diff_from.ensures.ok
+
+pub returns-clause-err : goal.returns-clause-err
+returns-clause-err g c = stopped _ _ _ _ _ c.in-Ok.ensures.ok _ _ c.diff_from.result c.diff_from.ensures.err

@@ -1,0 +1,16 @@
+use Rattle.std.proofs.Common.{refl}
+use Rattle.reg_queries.proofs.differing.diff_from.Goals as goal
+
+pub returns-in-Err-clause-err : goal.returns-in-Err-clause-err
+returns-in-Err-clause-err g c = (c.in-Err.ensures.err, refl)
+
+pub returns-in-Ok-diff-clause-ok : goal.returns-in-Ok-diff-clause-ok
+returns-in-Ok-diff-clause-ok g c = record {
+  tree = c.in-Ok.tree.tree;
+  reads = c.in-Ok.ensures.ok;
+  written = c.in-Ok-diff.ensures.ok;
+  same = c.in-Ok-diff.ensures.same;
+}
+
+pub returns-clause-err : goal.returns-clause-err
+returns-clause-err g c = (c.in-Ok.tree.tree, c.in-Ok.ensures.ok, c.in-Err-diff.ensures.err)

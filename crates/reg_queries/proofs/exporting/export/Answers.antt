@@ -1,0 +1,18 @@
+use Rattle.std.proofs.Common.{refl}
+use Rattle.reg_queries.proofs.exporting.export.Goals as goal
+
+pub returns-in-Err-clause-err : goal.returns-in-Err-clause-err
+returns-in-Err-clause-err g c = (c.in-Err.ensures.err, refl)
+
+pub returns-in-Ok-export-clause-ok : goal.returns-in-Ok-export-clause-ok
+returns-in-Ok-export-clause-ok g c = record {
+  tree = c.in-Ok.tree.tree;
+  reads = c.in-Ok.ensures.ok;
+  is_tree = c.root.ensures.tree;
+  limits = c.root.ensures.limits;
+  of_bytes = c.hold_bytes.ensures;
+  written = c.in-Ok-export.ensures.ok;
+}
+
+pub returns-clause-err : goal.returns-clause-err
+returns-clause-err g c = (c.in-Ok.tree.tree, c.in-Ok.ensures.ok, c.in-Err-export.ensures.err)

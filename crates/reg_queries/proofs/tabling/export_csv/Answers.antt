@@ -1,0 +1,11 @@
+use Rattle.std.proofs.Common.{refl}
+use Rattle.reg_queries.proofs.tabling.export_csv.Goals as goal
+
+pub returns-in-Err-clause-err : goal.returns-in-Err-clause-err
+returns-in-Err-clause-err g c = (c.in-Err.ensures.err, refl)
+
+pub returns-in-Ok-export_csv-clause-ok : goal.returns-in-Ok-export_csv-clause-ok
+returns-in-Ok-export_csv-clause-ok g c = record { tree = c.in-Ok.tree.tree; reads = c.in-Ok.ensures.ok; written = c.in-Ok-export_csv.ensures.ok }
+
+pub returns-clause-err : goal.returns-clause-err
+returns-clause-err g c = (c.in-Ok.tree.tree, c.in-Ok.ensures.ok, c.in-Err-export_csv.ensures.err)

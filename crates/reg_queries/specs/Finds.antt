@@ -1,0 +1,43 @@
+-- What a pattern finds in an image (this project's own).
+use Rattle.std.specs.Prelude.{◌≡◌, ℕ, Bool, List, Option, is_some}
+use Rattle.std.specs.Io.KnownBytes.{Appends}
+use Rattle.regex.specs.Patterns.{find}
+use Rattle.regex.specs.Bytes.{regex_pattern}
+use Rattle.regex.specs.declared.bytes.regex.Regex.{Regex}
+use Rattle.reg_heap.specs.Paths.{Tree}
+use Rattle.reg_tree_text.specs.DumpFronts.{IsStopped}
+use Rattle.reg_tree_image.specs.Loads.{ReadsImage, MeetsFault}
+use Rattle.reg_find.specs.Findings.{found_text}
+use Rattle.reg_find.specs.PatternTexts.{IsPatternOf, IsRefusedFor}
+use Rattle.reg_find.specs.declared.scope.Scope.{Scope}
+use Rattle.reg_queries.specs.declared.fault.FindFault.{FindFault}
+use Rattle.reg_queries.specs.declared.fault.FindFault.TheVariants.{Pattern, Load, Stopped}
+
+-- which texts a regular expression matches: those in a part of which it is found
+abbrev pub matched_by : Regex → List ℕ → Bool
+matched_by regex text = is_some (find (regex_pattern regex) text 0)
+
+-- an image was read, and what matches in its tree was written
+pub record FindsBy (unread left : Option (List ℕ)) (matches : List ℕ → Bool) (scope : Scope) (before after : Option (List ℕ)) : Type 0 where
+  pub tree : Tree
+  pub reads : ReadsImage unread left tree
+  pub written : Appends before after (found_text matches scope tree)
+
+-- an image was read, and what the regular expression in a text finds in its tree was written
+pub record Finds (unread left : Option (List ℕ)) (pattern : List ℕ) (scope : Scope) (before after : Option (List ℕ)) : Type 0 where
+  pub regex : Regex
+  pub is_pattern : IsPatternOf pattern regex
+  pub finds : FindsBy unread left (matched_by regex) scope before after
+
+-- why a search wasn't made, or not to the end: the image doesn't load, and nothing was written; or a write or memory failed
+abbrev pub SearchStops : FindFault → (unread left : Option (List ℕ)) → (matches : List ℕ → Bool) → Scope → (before after : Option (List ℕ)) → Type 0
+SearchStops (Pattern fault) unread left matches scope before after = ⊥
+SearchStops (Load fault) unread left matches scope before after = MeetsFault fault unread left × (after ≡ before)
+SearchStops (Stopped fault) unread left matches scope before after =
+    (tree : Tree) × ReadsImage unread left tree × IsStopped before after (found_text matches scope tree) fault
+
+-- the same of the regular expression in a text: it is none that is compiled, and nothing was read or written; or its search stopped
+abbrev pub FindStops : FindFault → (unread left : Option (List ℕ)) → (pattern : List ℕ) → Scope → (before after : Option (List ℕ)) → Type 0
+FindStops (Pattern fault) unread left pattern scope before after = IsRefusedFor pattern fault × (left ≡ unread) × (after ≡ before)
+FindStops fault unread left pattern scope before after =
+    (regex : Regex) × IsPatternOf pattern regex × SearchStops fault unread left (matched_by regex) scope before after

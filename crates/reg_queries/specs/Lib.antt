@@ -1,0 +1,4 @@
+pub mod Queries
+pub mod Finds
+pub mod Differs
+pub mod ImageExports

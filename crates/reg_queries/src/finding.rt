@@ -1,0 +1,60 @@
+//! A tree loaded from an image, and what a pattern finds in it written.
+
+ghost use Rattle.std.specs.Prelude.{OnOk, IfErr};
+ghost use Rattle.reg_queries.specs.Finds.{Finds, FindsBy, FindStops, SearchStops};
+
+use crate::FindFault;
+use reg_find::{Pattern, PatternFault, Scope, compile};
+use reg_text::Source;
+use reg_tree_image::load_tree;
+use std::alloc::Global;
+use std::io::Write;
+
+/// Loads a tree from an image and writes what a pattern finds in it.
+fn search<R: Source, P: Pattern, W: Write>(
+    alloc: Global,
+    image: &mut R,
+    pattern: &mut P,
+    scope: Scope,
+    output: &mut W,
+) -> Result<(), FindFault>
+    ensures ok { OnOk result (FindsBy (R.remaining image.old) (R.remaining image.new) (P.matches pattern.old) scope
+        (W.contents output.old) (W.contents output.new)) }
+    ensures err { IfErr result (λ fault. SearchStops fault (R.remaining image.old) (R.remaining image.new) (P.matches pattern.old) scope
+        (W.contents output.old) (W.contents output.new)) }
+{
+    let tree = match load_tree(alloc, image) {
+        Ok(tree) => tree,
+        Err(fault) => return Err(FindFault::Load(fault)),
+    };
+    match reg_find::find(alloc, &tree, pattern, scope, output) {
+        Ok(()) => Ok(()),
+        Err(fault) => Err(FindFault::Stopped(fault)),
+    }
+}
+
+/// Loads a tree from an image and writes what a regular expression finds in it ([`reg_find::find`]).
+///
+/// `Pattern` where the text is none, or too large a one, or memory was refused for it, and then nothing was read; else `Load` where
+/// the image doesn't load. With either nothing was written. Else `Stopped` after a front of the text.
+pub fn find<R: Source, W: Write>(
+    alloc: Global,
+    image: &mut R,
+    pattern: &str,
+    scope: Scope,
+    output: &mut W,
+) -> Result<(), FindFault>
+    ensures ok { OnOk result (Finds (R.remaining image.old) (R.remaining image.new) pattern.now scope
+        (W.contents output.old) (W.contents output.new)) }
+    ensures err { IfErr result (λ fault. FindStops fault (R.remaining image.old) (R.remaining image.new) pattern.now scope
+        (W.contents output.old) (W.contents output.new)) }
+{
+    let regex = match compile(alloc, pattern) {
+        Ok(regex) => regex,
+        Err(fault) => return Err(FindFault::Pattern(fault)),
+    };
+    match regex.matcher(alloc) {
+        Ok(mut matcher) => search(alloc, image, &mut matcher, scope, output),
+        Err(_) => Err(FindFault::Pattern(PatternFault::Memory)),
+    }
+}

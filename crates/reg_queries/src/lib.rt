@@ -1,0 +1,23 @@
+//! Queries of an image: it is read as a tree, and something of the tree written.
+//!
+//! Its one contract: each call writes just what a crate below does of a tree, of the tree that the image loads as; or it answers why the
+//! image doesn't load, and then nothing was written. [`list`] and [`get`] write what reg_tree_text does, [`find`] what reg_find does,
+//! [`export`] what reg_dotreg_writer does, [`export_json`] and [`export_csv`] what reg_tables does, and [`diff`] what reg_diff does of two
+//! trees. No image is read past its bins.
+//!
+//! It stands on these and on reg_tree_image, which loads. Its types are the calls' faults.
+#![tactic(auto)]
+
+mod differing;
+mod exporting;
+mod fault;
+mod finding;
+mod querying;
+mod tabling;
+
+pub use differing::diff;
+pub use exporting::export;
+pub use fault::{DiffFault, ExportEnd, FindFault, QueryFault};
+pub use finding::find;
+pub use querying::{get, list};
+pub use tabling::{export_csv, export_json};

@@ -1,0 +1,57 @@
+//! A tree loaded from an image, and a key of it written as JSON or CSV.
+
+ghost use Rattle.std.specs.Prelude.{OnOk, IfErr};
+ghost use Rattle.reg_tables.specs.Tables.{json_text, csv_text, TableStops};
+ghost use Rattle.reg_queries.specs.Queries.{Tabulates, QueryStops};
+
+use crate::QueryFault;
+use reg_text::Source;
+use reg_tree_image::load_tree;
+use std::alloc::Global;
+use std::io::Write;
+
+/// Loads a tree from an image and writes the key at a path with all below it as JSON ([`reg_tables::export_json`]).
+pub fn export_json<R: Source, W: Write>(
+    alloc: Global,
+    image: &mut R,
+    path: &[u8],
+    output: &mut W,
+) -> Result<(), QueryFault>
+    ensures ok { OnOk result (Tabulates (R.remaining image.old) (R.remaining image.new) path.now json_text
+        (W.contents output.old) (W.contents output.new)) }
+    ensures err { IfErr result (λ fault. QueryStops fault (R.remaining image.old) (R.remaining image.new)
+        (λ tree ended. TableStops ended tree path.now (json_text tree) (W.contents output.old) (W.contents output.new))
+        (W.contents output.old) (W.contents output.new)) }
+{
+    let tree = match load_tree(alloc, image) {
+        Ok(tree) => tree,
+        Err(fault) => return Err(QueryFault::Load(fault)),
+    };
+    match reg_tables::export_json(alloc, &tree, path, output) {
+        Ok(()) => Ok(()),
+        Err(fault) => Err(QueryFault::Query(fault)),
+    }
+}
+
+/// Loads a tree from an image and writes the key at a path with all below it as CSV ([`reg_tables::export_csv`]).
+pub fn export_csv<R: Source, W: Write>(
+    alloc: Global,
+    image: &mut R,
+    path: &[u8],
+    output: &mut W,
+) -> Result<(), QueryFault>
+    ensures ok { OnOk result (Tabulates (R.remaining image.old) (R.remaining image.new) path.now csv_text
+        (W.contents output.old) (W.contents output.new)) }
+    ensures err { IfErr result (λ fault. QueryStops fault (R.remaining image.old) (R.remaining image.new)
+        (λ tree ended. TableStops ended tree path.now (csv_text tree) (W.contents output.old) (W.contents output.new))
+        (W.contents output.old) (W.contents output.new)) }
+{
+    let tree = match load_tree(alloc, image) {
+        Ok(tree) => tree,
+        Err(fault) => return Err(QueryFault::Load(fault)),
+    };
+    match reg_tables::export_csv(alloc, &tree, path, output) {
+        Ok(()) => Ok(()),
+        Err(fault) => Err(QueryFault::Query(fault)),
+    }
+}

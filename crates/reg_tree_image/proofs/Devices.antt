@@ -1,0 +1,11 @@
+-- Images from a reader, and to a writer.
+pub mod InputPieces
+pub mod TreesOfBins
+pub mod FaultsOfSteps
+pub mod FaultsOfWalks
+pub mod BlockTests
+pub mod LoadedImages
+pub mod ImagesRead
+pub mod ReadFailures
+pub mod MadeImages
+pub mod WrittenBins

@@ -1,0 +1,127 @@
+-- Keys and values that were built one behind the other.
+use Rattle.std.proofs.Common.{◌≡◌, ◌⊎◌, ℕ, zero, suc, Some, List, [], ◌∷◌, ◌++◌, take, drop, slice_get, inl, inr}
+use Rattle.std.proofs.Common.{refl, sym, ap, ◌∙◌, subst}
+use Rattle.std.specs.FinMap.{insert}
+use Rattle.std.proofs.lemmas.Option.{none-some, same_Some}
+use Rattle.reg_heap.specs.Paths.{Path, Rec, Tree, Member}
+use Rattle.reg_heap.specs.Edits.{child_path}
+use Rattle.reg_arena.specs.declared.ArenaFault.{ArenaFault}
+use Rattle.reg_arena.specs.declared.ArenaFault.TheVariants.{Full, Memory as OutOfMemory}
+use Rattle.reg_tree.specs.declared.node.Node.{Node}
+use Rattle.reg_tree.specs.TreeKeys.{Keys, IsAt}
+use Rattle.reg_tree_image.specs.declared.LoadFault.{LoadFault}
+use Rattle.reg_tree_image.specs.declared.LoadFault.TheVariants.{Limit, Memory}
+use Rattle.reg_tree.specs.BuiltKeys.{AreWhole, BuildsRoot, BuildsKey, LacksKeyRoom, LacksClassRoom}
+use Rattle.reg_tree_image.specs.CrowdedBins.{PutsValue, PutsEach, LacksValueRoom, CrowdsEach, PutsValues, CrowdsValues}
+use Rattle.reg_tree_image.specs.CrowdedBins.{BuildsFirst, BuildsOne, BuildsEach, BuildsAll, bare_of, CrowdsRoot, CrowdsBelow, CrowdsNext}
+use Rattle.reg_tree_image.specs.Internal.BegunKeys.{IsLack, lack_of}
+
+-- ---- values
+
+pub puts-more : (path : Path) (time : ℕ) (members : List Member) (old mid new : Keys) (m : Member) → PutsEach path time members old mid →
+    PutsValue mid new path time m → PutsEach path time (members ++ m ∷ []) old new
+puts-more path time [] old mid new m e p = (new, subst (λ k. PutsValue k new path time m) e p, refl)
+puts-more path time (x ∷ members) old mid new m e p = (e.0, e.1, puts-more path time members e.0 mid new m e.2 p)
+
+-- the values before one, that one and those behind it
+parted : (members : List Member) (index : ℕ) (m : Member) → slice_get members index ≡ Some m →
+    members ≡ take index members ++ m ∷ drop (suc index) members
+parted [] index m e = absurd (none-some _ e)
+parted (x ∷ members) zero m e = ap (λ x. x ∷ members) (same_Some _ _ e)
+parted (x ∷ members) (suc index) m e = ap (λ ms. x ∷ ms) (parted members index m e)
+
+pub crowds-each : (bare now : Keys) (path : Path) (time : ℕ) (members : List Member) (index : ℕ) (m : Member) →
+    slice_get members index ≡ Some m → PutsEach path time (take index members) bare now → LacksValueRoom now path m →
+    CrowdsEach bare path time members
+crowds-each bare now path time members index m e p l = record {
+  front = take index members;
+  next = m;
+  back = drop (suc index) members;
+  members_are = parted members index m e;
+  now = now;
+  put = p;
+  lacks = l;
+}
+
+-- ---- what was lacking
+
+-- what the arena lacked
+pub as-lack : (crowded : Type 0) (fault : ArenaFault) (e : LoadFault) → e ≡ lack_of fault → (fault ≡ Full → crowded) → IsLack crowded e
+as-lack crowded Full e i f = subst (λ e. IsLack crowded e) (sym i) (f refl)
+as-lack crowded OutOfMemory e i f = subst (λ e. IsLack crowded e) (sym i) tt
+
+-- room that lacks for another reason
+pub lack-as : (here crowded : Type 0) (fault : LoadFault) → (here → crowded) → IsLack here fault → IsLack crowded fault
+lack-as here crowded Memory f l = tt
+lack-as here crowded Limit f l = f l
+lack-as here crowded fault f l = absurd l
+
+-- ---- keys
+
+each-more : (told : List (Path × Rec)) (old mid new : Keys) (path above : Path) (key : Rec) → BuildsEach told old mid →
+    path ≡ child_path above key.name → BuildsOne mid new above key → BuildsEach (told ++ (path, key) ∷ []) old new
+each-more [] old mid new path above key b p o = (above, new, p, subst (λ k. BuildsOne k new above key) b o, refl)
+each-more (e ∷ told) old mid new path above key b p o =
+    (b.0, b.1, b.2, b.3, each-more told b.1 mid new path above key b.4 p o)
+
+pub all-more : (told : List (Path × Rec)) (mid new : Keys) (path above : Path) (key : Rec) → BuildsAll told mid →
+    path ≡ child_path above key.name → BuildsOne mid new above key → BuildsAll (told ++ (path, key) ∷ []) new
+all-more [] mid new path above key b p o = absurd b
+all-more (e ∷ told) mid new path above key b p o = (b.0, b.1, b.2, each-more told b.0 mid new path above key b.3 p o)
+
+pub all-first : (new : Keys) (path : Path) (key : Rec) → path ≡ [] → BuildsFirst new key → BuildsAll ((path, key) ∷ []) new
+all-first new path key p b = (new, p, b, refl)
+
+pub crowds-next : (told : List (Path × Rec)) (keys : Keys) (path above : Path) (key : Rec) → BuildsAll told keys →
+    path ≡ child_path above key.name → CrowdsBelow keys above key → CrowdsNext told path key
+crowds-next [] keys path above key b p c = absurd b
+crowds-next (e ∷ told) keys path above key b p c = (keys, above, b, p, c)
+
+-- ---- keys with their values, where what was made is the key without these
+
+module _ (made key : Rec) (given : List Member) (same : made ≡ bare_of key) (values : given ≡ key.values) where
+  its-path : (above : Path) → child_path above made.name ≡ child_path above key.name
+  its-path above = ap (λ (r : Rec). child_path above r.name) same
+
+  -- the key with its values, and its node
+  pub told-below : (new : Keys) (base : Tree) (above : Path) (node : Node) →
+      new.tree ≡ insert base (child_path above made.name) (record made { values = given }) → IsAt new (child_path above made.name) node →
+      (new.tree ≡ insert base (child_path above key.name) key) × IsAt new (child_path above key.name) node
+  told-below new base above node e at =
+      subst (λ path. (new.tree ≡ insert base path key) × IsAt new path node) (its-path above) (
+        e ∙ ap (insert base (child_path above made.name)) (ap (λ (r : Rec). record r { values = given }) same
+            ∙ ap (λ (ms : List Member). record key { values = ms }) values),
+        at,
+      )
+
+  pub builds-one : (old mid new : Keys) (above : Path) → BuildsKey old mid above made → AreWhole mid →
+      PutsValues (child_path above made.name) key.time given mid new → BuildsOne old new above key
+  builds-one old mid new above b w p = (
+    mid,
+    subst (λ r. BuildsKey old mid above r) same b,
+    w,
+    subst (λ path. PutsValues path key.time key.values mid new) (its-path above)
+        (subst (λ ms. PutsValues (child_path above made.name) key.time ms mid new) values p),
+  )
+
+  pub crowds-below : (old mid : Keys) (above : Path) → BuildsKey old mid above made → AreWhole mid →
+      CrowdsValues mid (child_path above made.name) key.time given → CrowdsBelow old above key
+  crowds-below old mid above b w c =
+      inr (
+        mid,
+        subst (λ r. BuildsKey old mid above r) same b,
+        w,
+        subst (λ path. CrowdsValues mid path key.time key.values) (its-path above)
+            (subst (λ ms. CrowdsValues mid (child_path above made.name) key.time ms) values c),
+      )
+
+  pub crowds-key : (old mid : Keys) (above : Path) → LacksKeyRoom old above made ⊎ LacksClassRoom old mid above made → CrowdsBelow old above key
+  crowds-key old mid above (inl l) = inl (inl (subst (λ r. LacksKeyRoom old above r) same l))
+  crowds-key old mid above (inr l) = inl (inr (mid, subst (λ r. LacksClassRoom old mid above r) same l))
+
+  pub builds-first : (mid new : Keys) → BuildsRoot mid made → AreWhole mid → PutsValues [] key.time given mid new → BuildsFirst new key
+  builds-first mid new b w p =
+      (mid, subst (λ r. BuildsRoot mid r) same b, w, subst (λ ms. PutsValues [] key.time ms mid new) values p)
+
+  pub crowds-root : (mid : Keys) → BuildsRoot mid made → AreWhole mid → CrowdsValues mid [] key.time given → CrowdsRoot key
+  crowds-root mid b w c = (mid, subst (λ r. BuildsRoot mid r) same b, w, subst (λ ms. CrowdsValues mid [] key.time ms) values c)

@@ -1,0 +1,6 @@
+pub mod Computed
+pub mod NamedCells
+pub mod Readers
+pub mod KeyStacks
+pub mod Devices
+pub mod CleanWalks

@@ -1,0 +1,168 @@
+-- The bins that are built of the keys that were told, and when they have no room for the next (Suhanov, Windows registry file format
+-- specification, "Hive bin", "Cell").
+use Rattle.std.specs.Prelude.{◌≡◌, ◌<◌, ◌≤◌, ◌+◌, ◌⊎◌, ℕ, suc, Some, List, [], ◌∷◌, ◌++◌, length, ⊤}
+use Rattle.reg_names.specs.declared.TheConstants.{PATH_LIMIT}
+use Rattle.reg_heap.specs.Paths.{Path, Rec, Member}
+use Rattle.reg_heap.specs.Edits.{child_path, edited, with_value}
+use Rattle.reg_arena.specs.declared.Cell.{Cell}
+use Rattle.reg_arena.specs.declared.TheConstants.{CARVE_LIMIT}
+use Rattle.reg_arena.specs.Arena.{heap_of}
+use Rattle.reg_arena.specs.Cells.{BinPlace, bins_of, cells_of_bins, content_in}
+use Rattle.reg_arena.specs.NewCells.{total_of}
+use Rattle.reg_values.specs.NewValues.{all_value_sizes}
+use Rattle.reg_tree.specs.declared.node.Node.{Node}
+use Rattle.reg_tree.specs.TreeKeys.{Keys, IsAt}
+use Rattle.reg_tree.specs.CellSizes.{value_sizes, LacksRoom}
+use Rattle.reg_tree.specs.BuiltKeys.{AreWhole, TakesCells, with_values, BuildsRoot, BuildsKey, LacksKeyRoom, LacksClassRoom}
+use Rattle.reg_tree_image.specs.WalkSteps.{Seen}
+use Rattle.reg_tree_image.specs.LoadingWalk.{root_path}
+use Rattle.reg_tree_image.specs.Images.{nothing}
+use Rattle.reg_tree_image.specs.WalkedKeys.{Comes}
+
+-- ---- values, one behind the other
+
+-- a key's next value was set: the tree is that one step on, just the cells that it takes came, and all is whole
+pub record PutsValue (old new : Keys) (path : Path) (time : ℕ) (m : Member) : Type 0 where
+  pub node : Node
+  pub at : IsAt old path node
+  pub tree : new.tree ≡ edited old.tree path (with_value m.name m.kind m.bytes time)
+  pub takes : TakesCells old new (value_sizes (heap_of old.bins) node.offset m.name (length m.bytes))
+  pub root : new.root ≡ old.root
+  pub whole : AreWhole new
+
+-- some values of the key at a path, one behind the other
+abbrev pub PutsEach : Path → ℕ → List Member → Keys → Keys → Type 0
+PutsEach path time [] old new = new ≡ old
+PutsEach path time (m ∷ members) old new = (next : Keys) × PutsValue old next path time m × PutsEach path time members next new
+
+-- the bins have no room for the cells that a value more of the key at a path takes
+pub record LacksValueRoom (keys : Keys) (path : Path) (m : Member) : Type 0 where
+  pub node : Node
+  pub at : IsAt keys path node
+  pub lacks : LacksRoom keys.bins (value_sizes (heap_of keys.bins) node.offset m.name (length m.bytes))
+
+-- of a key the first of these were set, and then there is no room for the next
+pub record CrowdsEach (old : Keys) (path : Path) (time : ℕ) (members : List Member) : Type 0 where
+  pub front : List Member
+  pub next : Member
+  pub back : List Member
+  pub members_are : members ≡ front ++ next ∷ back
+  pub now : Keys
+  pub put : PutsEach path time front old now
+  pub lacks : LacksValueRoom now path next
+
+-- ---- all values of a key
+
+-- how many bytes the cells have that values take together: their list's, which has room for so many, and those of each one's record and data
+abbrev pub bytes_taken : ℕ → List Member → ℕ
+bytes_taken room members = total_of (all_value_sizes room members)
+
+-- with the next value the cells would have more bytes than one carve may take, where there is a next one
+abbrev pub PassesCarve : ℕ → List Member → List Member → Type 0
+PassesCarve room front [] = ⊤
+PassesCarve room front (next ∷ back) = CARVE_LIMIT < bytes_taken room (front ++ next ∷ [])
+
+-- the first of a key's values, as many as one carve may take with a list that has room for all: their cells have at most 16,777,216 bytes
+-- together, and those of one more would pass that; and the values behind them, of which there may be none
+pub record IsFront (members front back : List Member) : Type 0 where
+  pub parts : members ≡ front ++ back
+  pub fit : bytes_taken (length members) front ≤ CARVE_LIMIT
+  pub most : PassesCarve (length members) front back
+
+-- a key got values at once, with a list that has room for so many: the tree has them, just the cells that they take came, with at most one bin
+-- for all of them (32 bytes and theirs, rounded up to a multiple of 4,096), and all is whole
+pub record PutsAll (bare new : Keys) (path : Path) (time room : ℕ) (members : List Member) : Type 0 where
+  pub node : Node
+  pub at : IsAt bare path node
+  pub tree : new.tree ≡ edited bare.tree path (with_values members time)
+  pub takes : TakesCells bare new (all_value_sizes room members)
+  pub grows : length new.bins.bytes ≤ length bare.bins.bytes + 4127 + bytes_taken room members
+  pub root : new.root ≡ bare.root
+  pub whole : AreWhole new
+
+-- the key at a path, which had no values, got these: at once as many as one carve may take, with a list that has room for all, and the others one
+-- behind the other
+pub record PutsFirst (bare new : Keys) (path : Path) (time : ℕ) (members : List Member) : Type 0 where
+  pub front : List Member
+  pub back : List Member
+  pub first : IsFront members front back
+  pub now : Keys
+  pub together : PutsAll bare now path time (length members) front
+  pub each : PutsEach path time back now new
+
+-- the key at a path, which had no values, got these, of which there may be none
+abbrev pub PutsValues : Path → ℕ → List Member → Keys → Keys → Type 0
+PutsValues path time [] bare new = new ≡ bare
+PutsValues path time (m ∷ members) bare new = PutsFirst bare new path time (m ∷ members)
+
+-- there is no room for them: for those that are put at once, or then for one of the others
+pub record CrowdsValues (bare : Keys) (path : Path) (time : ℕ) (members : List Member) : Type 0 where
+  pub front : List Member
+  pub back : List Member
+  pub first : IsFront members front back
+  pub lacks : LacksRoom bare.bins (all_value_sizes (length members) front)
+      ⊎ ((now : Keys) × PutsAll bare now path time (length members) front × CrowdsEach now path time back)
+
+-- ---- keys
+
+-- a key without its values
+abbrev pub bare_of : Rec → Rec
+bare_of key = record key { values = [] }
+
+-- the root was built, and got its values
+abbrev pub BuildsFirst : Keys → Rec → Type 0
+BuildsFirst new key = (bare : Keys) × BuildsRoot bare (bare_of key) × AreWhole bare × PutsValues [] key.time key.values bare new
+
+-- a key was built right below the one at a path, and got its values
+abbrev pub BuildsOne : Keys → Keys → Path → Rec → Type 0
+BuildsOne old new above key =
+    (bare : Keys) × BuildsKey old bare above (bare_of key) × AreWhole bare × PutsValues (child_path above key.name) key.time key.values bare new
+
+-- keys were built one after the other, each at its path
+abbrev pub BuildsEach : List (Path × Rec) → Keys → Keys → Type 0
+BuildsEach [] old new = new ≡ old
+BuildsEach (e ∷ told) old new =
+    (above : Path) × (next : Keys) × (e.0 ≡ child_path above e.1.name) × BuildsOne old next above e.1 × BuildsEach told next new
+
+-- just these keys were built, the first of them as the root
+abbrev pub BuildsAll : List (Path × Rec) → Keys → Type 0
+BuildsAll [] keys = ⊥
+BuildsAll (e ∷ told) keys = (first : Keys) × (e.0 ≡ []) × BuildsFirst first e.1 × BuildsEach told first keys
+
+-- ---- no room for the next
+
+-- for the values of the root
+abbrev pub CrowdsRoot : Rec → Type 0
+CrowdsRoot key = (bare : Keys) × BuildsRoot bare (bare_of key) × AreWhole bare × CrowdsValues bare [] key.time key.values
+
+-- for a key right below the one at a path: its key node, list and descriptor; or, once these are there, its class; or its values
+abbrev pub CrowdsBelow : Keys → Path → Rec → Type 0
+CrowdsBelow keys above key =
+    (LacksKeyRoom keys above (bare_of key) ⊎ ((made : Keys) × LacksClassRoom keys made above (bare_of key)))
+    ⊎ ((bare : Keys) × BuildsKey keys bare above (bare_of key) × AreWhole bare
+    × CrowdsValues bare (child_path above key.name) key.time key.values)
+
+-- for a key at a path, once these were built
+abbrev pub CrowdsNext : List (Path × Rec) → Path → Rec → Type 0
+CrowdsNext [] path key = (path ≡ []) × CrowdsRoot key
+CrowdsNext (e ∷ told) path key =
+    (keys : Keys) × (above : Path) × BuildsAll (e ∷ told) keys × (path ≡ child_path above key.name) × CrowdsBelow keys above key
+
+-- once all keys that were told but the last were built, there is no room for that one
+pub record IsCrowded (seen : Seen) : Type 0 where
+  pub told : List (Path × Rec)
+  pub path : Path
+  pub key : Rec
+  pub told_are : seen.told ≡ told ++ (path, key) ∷ []
+  pub crowds : CrowdsNext told path key
+
+-- the headers and the cells of some bins are good; and the walk of the keys in them, from a root on, meets no fault until it has told one
+-- for which the new bins have no room
+pub record AreCrowded (bins : List ℕ) (minor root : ℕ) : Type 0 where
+  pub places : List BinPlace
+  pub cells : List Cell
+  pub places_are : bins_of bins ≡ Some places
+  pub cells_are : cells_of_bins bins places ≡ Some cells
+  pub after : Seen
+  pub comes : Comes (content_in bins cells) minor after (suc PATH_LIMIT) [] root_path root nothing
+  pub crowded : IsCrowded after

@@ -1,0 +1,88 @@
+-- What comes of loading a tree from a reader.
+use Rattle.std.specs.Prelude.{◌≡◌, ℕ, ◌+◌, ◌<◌, ◌≤◌, ◌⊎◌, nat_lt, if◌then◌else◌, Option, Some, Result, Ok, Err, IsOk, List, length, take, drop}
+use Rattle.std.specs.Io.KnownBytes.{Consumes, IsAtEnd}
+use Rattle.reg_text.specs.Failures.{Stays, Fails}
+use Rattle.reg_heap.specs.ByteWords.{word}
+use Rattle.reg_heap.specs.Paths.{Tree}
+use Rattle.reg_heap.specs.declared.limits.TheConstants.{BINS_LIMIT}
+use Rattle.reg_tree_image.specs.declared.LoadFault.{LoadFault}
+use Rattle.reg_tree_image.specs.declared.LoadFault.TheVariants.{Read, Short, Signature, Version, Checksum, Dirty, Bins, Cells, Record, Loop}
+use Rattle.reg_tree_image.specs.declared.LoadFault.TheVariants.{Twice, NotInProfile, Limit, Memory}
+use Rattle.reg_tree_image.specs.declared.block.BaseBlock.{BaseBlock}
+use Rattle.reg_tree_image.specs.WalkSteps.{Seen}
+use Rattle.reg_tree_image.specs.BaseBlock.{block_walk}
+use Rattle.reg_tree_image.specs.Images.{nothing, loaded, fault_of}
+use Rattle.reg_tree_image.specs.CrowdedBins.{AreCrowded}
+
+-- the number of a fault
+abbrev pub fault_number : LoadFault → ℕ
+fault_number Read = 1
+fault_number Short = 2
+fault_number Signature = 3
+fault_number Version = 4
+fault_number Checksum = 5
+fault_number Dirty = 6
+fault_number Bins = 7
+fault_number Cells = 8
+fault_number Record = 9
+fault_number Loop = 10
+fault_number Twice = 11
+fault_number NotInProfile = 12
+fault_number Limit = 13
+fault_number Memory = 14
+
+-- a base block, and the bins behind it, where its tests told their size
+abbrev pub asked_by : Result (BaseBlock × Seen) LoadFault → ℕ
+asked_by (Ok x) = 4096 + x.0.size
+asked_by (Err fault) = 4096
+
+-- how many bytes the steps so far ask for, where these were read: the base block, and once that passes its tests, the bins too
+abbrev pub asked_for : List ℕ → ℕ
+asked_for bytes = if nat_lt (length bytes) 4096 then 4096 else asked_by (block_walk bytes nothing)
+
+-- a base block was read, and passes its tests
+abbrev pub HasBlock : List ℕ → Type 0
+HasBlock bytes = (4096 ≤ length bytes) × IsOk (block_walk bytes nothing)
+
+-- of the input an image was read to the end of its bins, and this is its tree
+pub record ReadsImage (unread left : Option (List ℕ)) (tree : Tree) : Type 0 where
+  pub image : List ℕ
+  pub consumed : Consumes unread left image
+  pub size : length image ≡ 4096 + word image 40
+  pub loads : loaded image ≡ Ok tree
+
+-- of the input an image was read to the end of its bins; this is its tree, and this its sequence number
+pub record ReadsNumbered (unread left : Option (List ℕ)) (tree : Tree) (sequence : ℕ) : Type 0 where
+  pub image : List ℕ
+  pub consumed : Consumes unread left image
+  pub size : length image ≡ 4096 + word image 40
+  pub loads : loaded image ≡ Ok tree
+  pub numbered : sequence ≡ word image 4
+
+-- a base block that passes its tests, and bins behind it whose keys the new bins have no room for: before the walk meets any fault
+abbrev pub IsImageCrowded : List ℕ → Type 0
+IsImageCrowded bytes =
+    (block : BaseBlock) × (block_walk bytes nothing ≡ Ok (block, nothing))
+    × AreCrowded (take block.size (drop 4096 bytes)) block.minor block.root
+
+-- why loading ended, where so much of an image was read and this is left. A read failed before all was read that was asked for; or the
+-- reader came to its end before that. Otherwise all that was asked for was read, and no more, and it meets that fault, or the new bins
+-- have no room for a key of it. Once the base block passes its tests, memory may lack at any time
+abbrev pub IsRefused : LoadFault → List ℕ → Option (List ℕ) → Type 0
+IsRefused Read image left = length image < asked_for image
+IsRefused Short image left = (length image < asked_for image) × (fault_of image ≡ Some Short) × IsAtEnd left
+IsRefused Limit image left = (length image ≡ asked_for image) × ((fault_of image ≡ Some Limit) ⊎ IsImageCrowded image)
+IsRefused Memory image left = (length image ≤ asked_for image) × HasBlock image
+IsRefused fault image left = (length image ≡ asked_for image) × (fault_of image ≡ Some fault)
+
+-- of the input so much was read, and it met that fault
+pub record MeetsFault (fault : LoadFault) (unread left : Option (List ℕ)) : Type 0 where
+  pub image : List ℕ
+  pub consumed : Consumes unread left image
+  pub within : length image ≤ 4096 + BINS_LIMIT
+  pub refused : IsRefused fault image left
+
+-- a failed read, after which no more was asked of the reader; or none failed, where it ended otherwise
+abbrev pub IsBlamed : LoadFault → Option ℕ → Option ℕ → Type 0
+IsBlamed Read before after = Fails before after
+IsBlamed fault before after = Stays before after

@@ -1,0 +1,19 @@
+//! Laws of images. Each function is one law: it does nothing, and its contract says what holds of the definitions in `specs/`.
+//!
+//! Suhanov, Windows registry file format specification, section "Format of primary files".
+ghost use Rattle.std.specs.Prelude.{◌≡◌, ◌≤◌, ℕ, List, length, Some, IsSome, Ok};
+ghost use Rattle.reg_heap.specs.declared.limits.TheConstants.{BINS_LIMIT};
+ghost use Rattle.reg_heap.specs.Paths.{Tree};
+ghost use Rattle.reg_arena.specs.Cells.{cell_at};
+ghost use Rattle.reg_shape.specs.Spelt.{spelt};
+ghost use Rattle.reg_shape.specs.Whole.{Whole};
+ghost use Rattle.reg_tree_image.specs.Images.{image_of, loaded};
+
+/// The image of a whole hive loads, and gives the tree that the hive spells, whatever moment and sequence number are written.
+pub fn image_of_a_whole_hive_loads()
+    ensures spells { (bins : List ℕ) → (root : ℕ) → (whole : Whole bins root) →
+        IsSome (spelt (length whole.cells) (cell_at bins) root) }
+    ensures loads { (bins : List ℕ) → (root : ℕ) → (whole : Whole bins root) → length bins ≤ BINS_LIMIT → (moment sequence : ℕ) →
+        (tree : Tree) → spelt (length whole.cells) (cell_at bins) root ≡ Some tree →
+        loaded (image_of bins root moment sequence) ≡ Ok tree }
+{}

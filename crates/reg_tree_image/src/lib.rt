@@ -1,0 +1,97 @@
+//! Images of hives: a base block, and the bins behind it.
+//!
+//! Its one contract: what loading makes of any bytes is one walk, a definition (`loaded`), which says the tree that an image holds
+//! or the first test that fails; the image of a whole hive loads, and gives the tree that the hive spells (`laws`); and each reader
+//! here is one step of that walk, over bytes that nobody vouches for.
+//!
+//! The definitions right in `specs/` are the rules' own: `WalkSteps` (a step meets a fault, or gives what it read), `LoadingWalk`
+//! (the walk, record by record), `BaseBlock` (the first 4,096 bytes), `Images` (an image as it is written, and as it is loaded), and
+//! `WalkedKeys` with `CrowdedBins` (the keys that the walk comes to, and that the new bins have no room for one).
+//! The readers keep a table of what is known of each cell (`CellTable`): whether it is allocated, and how it was named.
+//!
+//! It stands on reg_shape, whose readings and trees the walk spells, and on reg_records for the records. Its main type is
+//! [`LoadFault`].
+//!
+//! Suhanov, Windows registry file format specification, sections "Format of primary files", "Base block", "Hive bin" and "Cell".
+#![tactic(auto)]
+
+mod begin;
+mod big_data;
+mod block;
+mod built_keys;
+mod cells;
+mod data;
+mod first_keys;
+mod frames;
+mod input;
+mod key_parts;
+mod keys;
+pub mod laws;
+mod list_part;
+mod lists;
+mod loading;
+mod met_names;
+mod names;
+mod rows;
+mod scan;
+mod security;
+mod subkeys;
+mod table;
+mod tree_writing;
+mod value_lists;
+mod values;
+mod walk;
+mod writing;
+
+pub use block::checksum;
+pub use loading::{NumberedTree, load_numbered, load_tree};
+use thiserror::Error;
+pub use tree_writing::write_tree;
+pub use writing::{ImageFault, WriteFault, make_image, write_image};
+
+/// Why bytes are no image that is loaded: the first test that fails.
+#[derive(Clone, Copy, Debug, PartialEq, Eq, Error)]
+pub enum LoadFault {
+    /// The reader failed.
+    #[error("the image can't be read")]
+    Read,
+    /// The image ends too early.
+    #[error("the image ends too early")]
+    Short,
+    /// The image doesn't begin with `regf`.
+    #[error("the image has another signature")]
+    Signature,
+    /// A version, a file type or a file format that isn't read.
+    #[error("the image has a version that isn't supported")]
+    Version,
+    /// The checksum of the base block is another.
+    #[error("the checksum of the base block is wrong")]
+    Checksum,
+    /// The two sequence numbers differ: the image wasn't written to its end.
+    #[error("the image wasn't written to its end")]
+    Dirty,
+    /// The size of the bins, or the header of a bin, is bad.
+    #[error("a bin is bad")]
+    Bins,
+    /// The size of a cell is bad.
+    #[error("a cell is bad")]
+    Cells,
+    /// A record is bad, or stands in no allocated cell.
+    #[error("a record is bad")]
+    Record,
+    /// A key is below itself.
+    #[error("a key is below itself")]
+    Loop,
+    /// A cell is named twice, or a name stands twice in one key.
+    #[error("a cell or a name comes twice")]
+    Twice,
+    /// Something that isn't supported: a predefined handle, or a character.
+    #[error("the image has something that isn't supported")]
+    NotInProfile,
+    /// More than a hive may have.
+    #[error("a limit is passed")]
+    Limit,
+    /// Memory runs out.
+    #[error("memory runs out")]
+    Memory,
+}

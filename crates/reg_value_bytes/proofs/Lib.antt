@@ -1,4 +1,0 @@
-mod BytePieces
-mod ReadBytes
-mod SpeltBytes
-mod SeenPages

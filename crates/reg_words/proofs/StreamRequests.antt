@@ -1,0 +1,55 @@
+-- What is asked of files asks for nothing of the standard streams alone.
+use Rattle.std.proofs.Common.{◌≡◌, List, ℕ, codes, refl, subst, map}
+use Rattle.std.specs.Prelude.{Option, Some, None}
+use Rattle.clap.specs.Words.{Row, Text}
+use Rattle.reg_words.specs.StreamLines.{AsksOfStream}
+use Rattle.reg_words.specs.CommandLines.{found_in, Asks, AsksIn, AsksNoStream, IsCommandLine}
+use Rattle.reg_words.specs.Internal.Commands.{stream_of}
+use Rattle.reg_words.specs.declared.request.StreamRequest.{StreamRequest}
+use Rattle.reg_words.specs.declared.request.Request.{Request}
+use Rattle.reg_words.specs.declared.request.Request.TheVariants.{Stream, Dump, Check, Listing, Get, Find, Diff, Export, New, Edit, Import}
+use Rattle.reg_words.proofs.StreamWords.{other_stream, dump_of_file, check_of_files}
+
+pub of_files : (found : Text × List Row) (request : Request) (stream : StreamRequest) → stream_of request ≡ None → Asks found request →
+    AsksOfStream found stream → ⊥
+of_files found (Stream other) stream e h asks = cc
+of_files found (Dump file) stream e h asks = dump_of_file found file.now stream h.0 h.1 asks
+of_files found (Check files) stream e h asks = check_of_files found (map (λ file. file.now) files.items) stream h.0 h.1 asks
+of_files found (Listing file path is_whole) stream e h asks = other_stream found (codes "ls") stream h.0 refl refl refl refl asks
+of_files found (Get file path name is_raw) stream e h asks = other_stream found (codes "get") stream h.0 refl refl refl refl asks
+of_files found (Find file pattern places) stream e h asks = other_stream found (codes "find") stream h.0 refl refl refl refl asks
+of_files found (Diff old new) stream e h asks = other_stream found (codes "diff") stream h.0 refl refl refl refl asks
+of_files found (Export file path form) stream e h asks = other_stream found (codes "export") stream h.0 refl refl refl refl asks
+of_files found (New file name) stream e h asks = other_stream found (codes "new") stream h.0 refl refl refl refl asks
+of_files found (Edit edit keeps_going) stream e h asks = other_stream found (codes "edit") stream h.0 refl refl refl refl asks
+of_files found (Import edit) stream e h asks = other_stream found (codes "import") stream h.0 refl refl refl refl asks
+
+found_of_files : (found : Option (Text × List Row)) (request : Request) (stream : StreamRequest) → stream_of request ≡ None →
+    AsksIn found request → AsksIn found (Stream stream) → ⊥
+found_of_files None request stream e h asks = h
+found_of_files (Some found) request stream e h asks = of_files found request stream e h asks
+
+-- the words of such a request ask for nothing of the streams
+pub no_stream : (words : List (List ℕ)) (request : Request) (result : Option StreamRequest) → result ≡ stream_of request → result ≡ None →
+    IsCommandLine words request → AsksNoStream words
+no_stream words request result is none line stream other =
+    found_of_files (found_in words) request stream (subst (λ (o : Option StreamRequest). o ≡ None) is none) line.asks other.asks
+
+-- those of one of the streams' ask for that
+stream_is : (request : Request) (stream : StreamRequest) → stream_of request ≡ Some stream → request ≡ Stream stream
+stream_is (Stream other) stream e = cc
+stream_is (Dump file) stream e = cc
+stream_is (Check files) stream e = cc
+stream_is (Listing file path is_whole) stream e = cc
+stream_is (Get file path name is_raw) stream e = cc
+stream_is (Find file pattern places) stream e = cc
+stream_is (Diff old new) stream e = cc
+stream_is (Export file path form) stream e = cc
+stream_is (New file name) stream e = cc
+stream_is (Edit edit keeps_going) stream e = cc
+stream_is (Import edit) stream e = cc
+
+pub some_stream : (words : List (List ℕ)) (request : Request) (result : Option StreamRequest) (stream : StreamRequest) →
+    result ≡ stream_of request → result ≡ Some stream → IsCommandLine words request → IsCommandLine words (Stream stream)
+some_stream words request result stream is some line =
+    subst (IsCommandLine words) (stream_is request stream (subst (λ (o : Option StreamRequest). o ≡ Some stream) is some)) line

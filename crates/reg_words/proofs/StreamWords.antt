@@ -1,0 +1,69 @@
+-- What is asked of the standard streams.
+use Rattle.std.proofs.Common.{◌≡◌, ◌∙◌, List, ℕ, true, false, codes, sym, ap, refl, subst, bytes_eq}
+use Rattle.std.specs.Prelude.{Some, None}
+use Rattle.std.proofs.lemmas.Option.{same_Some}
+use Rattle.clap.specs.Words.{Row, Text, all_of, first_of, one_of}
+use Rattle.reg_words.specs.StreamLines.{IsNumber, AsksOfStream}
+use Rattle.reg_words.specs.declared.request.StreamRequest.{StreamRequest}
+use Rattle.reg_words.specs.declared.request.StreamRequest.TheVariants.{Run, Image, Dump, Check}
+
+-- two words that differ
+pub apart : (a b : List ℕ) → bytes_eq a b ≡ false → bytes_eq a a ≡ true → a ≡ b → ⊥
+apart a b differ same e = let bad : true ≡ false = sym same ∙ (ap (bytes_eq a) e ∙ differ) in cc
+
+-- the word of the subcommand that asks for something of the standard streams
+abbrev pub stream_word : StreamRequest → List ℕ
+stream_word Run = codes "run"
+stream_word (Image sequence) = codes "run"
+stream_word Dump = codes "dump"
+stream_word Check = codes "check"
+
+pub stream_named : (found : Text × List Row) (request : StreamRequest) → AsksOfStream found request → found.0 ≡ stream_word request
+stream_named found Run h = h.0
+stream_named found (Image sequence) h = h.0
+stream_named found Dump h = h.0
+stream_named found Check h = h.0
+
+-- a subcommand of another name asks for nothing of them
+pub stream_apart : (found : Text × List Row) (request : StreamRequest) → (found.0 ≡ codes "run" → ⊥) → (found.0 ≡ codes "dump" → ⊥) →
+    (found.0 ≡ codes "check" → ⊥) → AsksOfStream found request → ⊥
+stream_apart found Run run dump check h = run h.0
+stream_apart found (Image sequence) run dump check h = run h.0
+stream_apart found Dump run dump check h = dump h.0
+stream_apart found Check run dump check h = check h.0
+
+-- two names of one subcommand
+same_name : (found : Text × List Row) (word other : Text) → found.0 ≡ word → bytes_eq word word ≡ true → bytes_eq word other ≡ false →
+    found.0 ≡ other → ⊥
+same_name found word other is same differ e = apart word other differ same (sym is ∙ e)
+
+pub other_stream : (found : Text × List Row) (word : Text) (request : StreamRequest) → found.0 ≡ word → bytes_eq word word ≡ true →
+    bytes_eq word (codes "run") ≡ false → bytes_eq word (codes "dump") ≡ false → bytes_eq word (codes "check") ≡ false →
+    AsksOfStream found request → ⊥
+other_stream found word request is same run dump check h =
+    stream_apart found request (same_name found word (codes "run") is same run) (same_name found word (codes "dump") is same dump)
+    (same_name found word (codes "check") is same check) h
+
+-- where a file is named, or some
+pub dump_of_file : (found : Text × List Row) (file : Text) (request : StreamRequest) → found.0 ≡ codes "dump" →
+    first_of (codes "file") found.1 ≡ Some file → AsksOfStream found request → ⊥
+dump_of_file found file Run is some h = same_name found (codes "dump") (codes "run") is refl refl h.0
+dump_of_file found file (Image sequence) is some h = same_name found (codes "dump") (codes "run") is refl refl h.0
+dump_of_file found file Dump is some h = let bad : None ≡ Some file = sym h.1 ∙ some in cc
+dump_of_file found file Check is some h = same_name found (codes "dump") (codes "check") is refl refl h.0
+
+pub check_of_files : (found : Text × List Row) (files : List Text) (request : StreamRequest) → found.0 ≡ codes "check" →
+    all_of (codes "files") found.1 ≡ Some files → AsksOfStream found request → ⊥
+check_of_files found files Run is some h = same_name found (codes "check") (codes "run") is refl refl h.0
+check_of_files found files (Image sequence) is some h = same_name found (codes "check") (codes "run") is refl refl h.0
+check_of_files found files Dump is some h = same_name found (codes "check") (codes "dump") is refl refl h.0
+check_of_files found files Check is some h = let bad : None ≡ Some files = sym h.1 ∙ some in cc
+
+-- `run` with a number that is none
+pub no_running : (rows : List Row) (text : Text) → one_of (codes "image") rows ≡ Some text → ((number : ℕ) → IsNumber text number → ⊥) →
+    (request : StreamRequest) → AsksOfStream (codes "run", rows) request → ⊥
+no_running rows text some never Run h = let bad : None ≡ Some text = sym h.1 ∙ some in cc
+no_running rows text some never (Image sequence) h =
+    never sequence (subst (λ (u : Text). IsNumber u sequence) (same_Some h.1.0 text (sym h.1.1 ∙ some)) h.1.2)
+no_running rows text some never Dump h = apart (codes "run") (codes "dump") refl refl h.0
+no_running rows text some never Check h = apart (codes "run") (codes "check") refl refl h.0
