@@ -14,9 +14,9 @@ use Rattle.reg_script.specs.declared.engine.ScriptFault.{ScriptFault}
 use Rattle.reg_tree_image.specs.declared.LoadFault.{LoadFault}
 use Rattle.reg_tree_image.specs.Loads.{ReadsImage, MeetsFault}
 use Rattle.reg_command.specs.ScriptRuns.{RunsScript, LeadsTo, image_at}
-use Rattle.reg_command.specs.ImageRuns.{TellsImage, fault_line}
+use Rattle.reg_command.specs.ImageRuns.{WritesTreeText, fault_line}
 use Rattle.reg_command.specs.Failures.{ImageStops, TellStops, script_line}
-use Rattle.reg_command.specs.Internal.Steps.{SendStops, TellingStops, IsFaultTold}
+use Rattle.reg_command.specs.Internal.Steps.{SendStops, TreeTextStops, IsFaultReported}
 use Rattle.reg_command.specs.declared.failure.Stop.{Stop}
 use Rattle.reg_command.specs.declared.failure.Stop.TheVariants.{Script, Load, Write, Memory}
 
@@ -79,24 +79,24 @@ image_stops sequence last moment (Load fault) unread left before after leads h =
 -- ---- images
 
 module _ (text_of : Tree → List ℕ) (unread left before after : Option (List ℕ)) where
-  pub tells : (tree : Tree) → ReadsImage unread left tree → Appends before after (text_of tree) →
-      TellsImage text_of unread left before after
-  tells tree reads appended = record { tree = tree; reads = reads; appended = appended }
+  pub writes_text : (tree : Tree) → ReadsImage unread left tree → Appends before after (text_of tree) →
+      WritesTreeText text_of unread left before after
+  writes_text tree reads appended = record { tree = tree; reads = reads; appended = appended }
 
-  pub tell_stops : (tree : Tree) (stop : Stop) → ReadsImage unread left tree → TellingStops (text_of tree) stop before after
+  pub text_stops : (tree : Tree) (stop : Stop) → ReadsImage unread left tree → TreeTextStops (text_of tree) stop before after
       → TellStops text_of stop unread left before after
-  tell_stops tree (Write written) reads h = inl (tree, reads, h)
-  tell_stops tree Memory reads h = (tree, reads, h)
-  tell_stops tree (Script fault) reads h = absurd h
-  tell_stops tree (Load fault) reads h = absurd h
+  text_stops tree (Write written) reads h = inl (tree, reads, h)
+  text_stops tree Memory reads h = (tree, reads, h)
+  text_stops tree (Script fault) reads h = absurd h
+  text_stops tree (Load fault) reads h = absurd h
 
-  pub fault_told : (fault : LoadFault) (stop : Stop) → MeetsFault fault unread left → IsFaultTold fault stop before after
+  pub fault_reported : (fault : LoadFault) (stop : Stop) → MeetsFault fault unread left → IsFaultReported fault stop before after
       → TellStops text_of stop unread left before after
-  fault_told fault (Load told) meets h =
+  fault_reported fault (Load told) meets h =
       subst (λ (f : LoadFault). MeetsFault f unread left × Appends before after (fault_line f)) (sym h.0) (meets, h.1)
-  fault_told fault (Write written) meets h = inr (fault, meets, h)
-  fault_told fault (Script told) meets h = absurd h
-  fault_told fault Memory meets h = absurd h
+  fault_reported fault (Write written) meets h = inr (fault, meets, h)
+  fault_reported fault (Script told) meets h = absurd h
+  fault_reported fault Memory meets h = absurd h
 
 -- the line of a fault that is known
 pub line_at : (fault known : LoadFault) (line : List ℕ) → fault ≡ known → line ≡ fault_line known → line ≡ fault_line fault

@@ -16,7 +16,7 @@ use Rattle.reg_words.specs.declared.request.StreamRequest.{StreamRequest}
 use Rattle.reg_words.specs.declared.request.StreamRequest.TheVariants.{Run, Image, Dump, Check}
 use Rattle.reg_words.specs.declared.request.Request.TheVariants.{Stream}
 use Rattle.reg_command.specs.ScriptRuns.{RunsScript, LeadsTo, WritesImage, image_at}
-use Rattle.reg_command.specs.ImageRuns.{TellsImage, fault_line}
+use Rattle.reg_command.specs.ImageRuns.{WritesTreeText, fault_line}
 use Rattle.reg_command.specs.declared.failure.Stop.{Stop}
 use Rattle.reg_command.specs.declared.failure.Stop.TheVariants.{Script, Load, Write, Memory}
 
@@ -65,8 +65,8 @@ TellStops text_of (Script fault) unread left before after = ⊥
 abbrev pub Does : StreamRequest → (unread left before after : Option (List ℕ)) → Type 0
 Does Run unread left before after = RunsScript unread left before after
 Does (Image sequence) unread left before after = WritesImage sequence unread left before after
-Does Dump unread left before after = TellsImage dump_text unread left before after
-Does Check unread left before after = TellsImage check_text unread left before after
+Does Dump unread left before after = WritesTreeText dump_text unread left before after
+Does Check unread left before after = WritesTreeText check_text unread left before after
 
 -- what ended a request early
 abbrev pub Stops : StreamRequest → Stop → (unread left before after : Option (List ℕ)) → Type 0

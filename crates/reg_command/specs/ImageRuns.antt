@@ -9,7 +9,7 @@ use Rattle.reg_tree_image.specs.declared.LoadFault.TheVariants.{Memory}
 use Rattle.reg_tree_image.specs.Loads.{fault_number, ReadsImage}
 
 -- an image was read, and what was written is that text of its tree
-pub record TellsImage (text_of : Tree → List ℕ) (unread left before after : Option (List ℕ)) : Type 0 where
+pub record WritesTreeText (text_of : Tree → List ℕ) (unread left before after : Option (List ℕ)) : Type 0 where
   pub tree : Tree
   pub reads : ReadsImage unread left tree
   pub appended : Appends before after (text_of tree)

@@ -2,9 +2,9 @@
 ghost use Rattle.std.specs.Prelude.{◌≡◌, OnOk, IfOk, IfErr, string_bytes};
 ghost use Rattle.std.specs.Io.KnownBytes.{Appends};
 ghost use Rattle.reg_tree_text.specs.DumpTexts.{dump_text, check_text};
-ghost use Rattle.reg_command.specs.ImageRuns.{TellsImage, fault_line};
+ghost use Rattle.reg_command.specs.ImageRuns.{WritesTreeText, fault_line};
 ghost use Rattle.reg_command.specs.Failures.{TellStops};
-ghost use Rattle.reg_command.specs.Internal.Steps.{TellingStops, IsFaultTold};
+ghost use Rattle.reg_command.specs.Internal.Steps.{TreeTextStops, IsFaultReported};
 
 use crate::failure::Stop;
 use reg_tree::Tree;
@@ -37,7 +37,7 @@ fn line_of(fault: LoadFault) -> &'static [u8]
 
 /// Writes the line of a load fault. The answer is that fault, or the failed write.
 fn send_fault<W: Write>(fault: LoadFault, output: &mut W) -> Stop
-    ensures { IsFaultTold fault result (W.contents output.old) (W.contents output.new) }
+    ensures { IsFaultReported fault result (W.contents output.old) (W.contents output.new) }
 {
     match write_image(line_of(fault), output) {
         Ok(()) => Stop::Load(fault),
@@ -48,7 +48,7 @@ fn send_fault<W: Write>(fault: LoadFault, output: &mut W) -> Stop
 /// Writes the text of a tree.
 fn send_dump<W: Write>(alloc: Global, tree: &Tree, output: &mut W) -> Result<(), Stop>
     ensures ok { OnOk result (Appends (W.contents output.old) (W.contents output.new) (dump_text tree.now.tree)) }
-    ensures err { IfErr result (λ stop. TellingStops (dump_text tree.now.tree) stop (W.contents output.old) (W.contents output.new)) }
+    ensures err { IfErr result (λ stop. TreeTextStops (dump_text tree.now.tree) stop (W.contents output.old) (W.contents output.new)) }
 {
     match dump(alloc, tree, output) {
         Ok(()) => Ok(()),
@@ -68,7 +68,7 @@ fn counts_of(alloc: Global, tree: &Tree) -> Result<String, AllocError>
 /// Writes how many keys and values a tree has.
 fn send_counts<W: Write>(alloc: Global, tree: &Tree, output: &mut W) -> Result<(), Stop>
     ensures ok { OnOk result (Appends (W.contents output.old) (W.contents output.new) (check_text tree.now.tree)) }
-    ensures err { IfErr result (λ stop. TellingStops (check_text tree.now.tree) stop (W.contents output.old) (W.contents output.new)) }
+    ensures err { IfErr result (λ stop. TreeTextStops (check_text tree.now.tree) stop (W.contents output.old) (W.contents output.new)) }
 {
     let text = match counts_of(alloc, tree) {
         Ok(text) => text,
@@ -86,7 +86,7 @@ pub fn dump_image<R: Read, W: Write>(
     input: &mut R,
     output: &mut W,
 ) -> Result<(), Stop>
-    ensures ok { OnOk result (TellsImage dump_text (R.remaining input.old) (R.remaining input.new) (W.contents output.old)
+    ensures ok { OnOk result (WritesTreeText dump_text (R.remaining input.old) (R.remaining input.new) (W.contents output.old)
         (W.contents output.new)) }
     ensures err { IfErr result (λ stop. TellStops dump_text stop (R.remaining input.old) (R.remaining input.new) (W.contents output.old)
         (W.contents output.new)) }
@@ -103,7 +103,7 @@ pub fn check_image<R: Read, W: Write>(
     input: &mut R,
     output: &mut W,
 ) -> Result<(), Stop>
-    ensures ok { OnOk result (TellsImage check_text (R.remaining input.old) (R.remaining input.new) (W.contents output.old)
+    ensures ok { OnOk result (WritesTreeText check_text (R.remaining input.old) (R.remaining input.new) (W.contents output.old)
         (W.contents output.new)) }
     ensures err { IfErr result (λ stop. TellStops check_text stop (R.remaining input.old) (R.remaining input.new) (W.contents output.old)
         (W.contents output.new)) }

@@ -7,13 +7,13 @@
 //! fault. [`perform`] and [`report_stop`] are the two halves of [`serve_stream`]. It stands on reg_words, which reads the words by
 //! `clap`, and on reg_script, reg_image, reg_tree_text and reg_calls. Its one type is [`Stop`], what ended a request early.
 //!
-//! `scripts` has what `run` does, `images` what `dump` and `check` do, and `tellings` what is told on the side.
+//! `scripts` has what `run` does, `images` what `dump` and `check` do, and `reports` what is told on the side.
 #![tactic(auto)]
 
 mod failure;
 mod images;
+mod reports;
 mod scripts;
-mod tellings;
 
 ghost use Rattle.std.specs.Prelude.{◌≡◌, ◌≤◌, OnOk, IfErr};
 ghost use Rattle.reg_words.specs.CommandLines.{texts};
@@ -24,9 +24,9 @@ use crate::scripts::{run_script, run_to_image};
 pub use failure::Stop;
 use reg_text::Sink;
 use reg_words::{StreamRequest, read_stream_words};
+pub use reports::{refuse_words, report_stop};
 use std::alloc::Global;
 use std::io::{Read, Write};
-pub use tellings::{refuse_words, report_stop};
 
 /// Does what [`serve_stream`] does, but leaves it to the caller to say what ended it early ([`report_stop`]).
 pub fn perform<R: Read, W: Write>(

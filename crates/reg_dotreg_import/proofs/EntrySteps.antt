@@ -39,7 +39,7 @@ stopped asked moment line h e old v before change (Refused n status) calls led t
 stopped asked moment line h e old v before change Memory calls led tree asks f =
     record { tree = tree; before = before; others = change ∷ []; calls = calls; led = led }
 
--- the same of a later hive with the same callbacks, which a refusal left as it was
+-- by a call that was refused, told of the hive after the refusal, which is as it was and has the same callbacks
 pub stopped-later : {C : Type 0} (answers : C → Answers) (a b : TheCallbacks C) (moment line : ℕ) (h : Hands) (e : Entry) (old mid new : View)
     (before : List Change) (change : Change) (fault : ImportFault) → a ≡ b → new ≡ mid → calls_of_entry h e ≡ before ++ change ∷ [] →
     Accepts moment old before mid → mid.keys.tree ≡ h.stand.tree → IsAskedFor mid h.stand.here e change →

@@ -12,7 +12,7 @@ use Rattle.reg_model.proofs.HandlesUntilClosed.{numbered-more, numbered-others, 
 use Rattle.reg_dotreg_import.specs.declared.entries.TheConstants.{ALL_RIGHTS}
 use Rattle.reg_dotreg_import.specs.ImportStops.{IsOpenAt}
 
--- the same look-up by its number
+-- a handle stays open where the look-up by its number finds what it found
 open-same : (hs now : List Handle) (n : ℕ) (p : Path) → numbered n now ≡ numbered n hs → IsOpenAt hs n p → IsOpenAt now n p
 open-same hs now n p same o = record { handle = o.handle; found = ap (owned 0) same ∙ o.found; rights = o.rights; leads = o.leads }
 

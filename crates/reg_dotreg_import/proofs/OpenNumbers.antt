@@ -75,7 +75,7 @@ close-second before root key hs o other = record { below = o.below; own = inl (r
 pub close-first : (before : List ℕ) (root : ℕ) (hs : List Handle) → AreOpen before root root hs → numbers_of (closed root hs) ≡ before
 close-first before root hs o = numbers-closed root hs ∙ ap (without root) (only-root before root hs o) ∙ without-last root before o.below
 
--- the same handles by their numbers
+-- handles that have the same numbers as others are open as those are
 pub open-still : (before : List ℕ) (root key : ℕ) (hs now : List Handle) → numbers_of now ≡ numbers_of hs → AreOpen before root key hs → AreOpen before root key now
 open-still before root key hs now e o = record { below = o.below; own = by o.own }
   where

@@ -21,7 +21,7 @@ use Rattle.reg_script.specs.declared.failed.StrictFault.TheVariants.{Script as B
 use Rattle.reg_tree_image.specs.declared.LoadFault.{LoadFault}
 use Rattle.reg_tree_image.specs.Loads.{MeetsFault, IsRefused}
 use Rattle.reg_image.specs.Loads.{IsLoaded}
-use Rattle.reg_edits.specs.Edits.{Opens, Leads, IsHalted, RunStops, Edits, EditStops, IsReadBlamed, are_changed, next_sequence}
+use Rattle.reg_edits.specs.Edits.{Opens, Leads, IsHalted, RunStops, Edits, EditStops, EditBlames, are_changed, next_sequence}
 use Rattle.reg_edits.specs.declared.edits.Edited.{Edited}
 use Rattle.reg_edits.specs.declared.edits.EditFault.{EditFault}
 use Rattle.reg_edits.specs.declared.edits.EditFault.TheVariants.{Load, Script, Line}
@@ -101,7 +101,7 @@ stopped (Line line) keeps_going begin file file_left old sequence unread left be
 
 -- then no read of the file failed
 pub none_blamed : (fault : EditFault) (keeps_going : Bool) (begin : ℕ) (old : View) (unread left before after : Option (List ℕ)) (read now_read : Option ℕ) →
-    RunStops fault keeps_going begin old unread left before after → Stays read now_read → IsReadBlamed fault read now_read
+    RunStops fault keeps_going begin old unread left before after → Stays read now_read → EditBlames fault read now_read
 none_blamed (Load fault) keeps_going begin old unread left before after read now_read h stays = absurd h
 none_blamed (Script fault) keeps_going begin old unread left before after read now_read h stays = stays
 none_blamed (Line line) keeps_going begin old unread left before after read now_read h stays = stays

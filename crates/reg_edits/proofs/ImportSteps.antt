@@ -3,6 +3,9 @@ use Rattle.std.proofs.Common.{◌≡◌, ◌∙◌, List, ℕ, sym, subst}
 use Rattle.std.specs.Prelude.{Option, Some, Result, Ok, Err, IfErr}
 use Rattle.std.specs.Io.KnownBytes.{Consumes, IsAtEnd}
 use Rattle.reg_text.specs.Failures.{Stays}
+use Rattle.reg_text.proofs.FailureCounts.{stays-at}
+use Rattle.reg_tree_image.specs.declared.LoadFault.{LoadFault}
+use Rattle.reg_tree_image.specs.Loads.{IsBlamed}
 use Rattle.reg_dotreg_reader.specs.FileUnits.{units_of}
 use Rattle.reg_dotreg_reader.specs.EntryMeanings.{entries_in, IsRefused}
 use Rattle.reg_dotreg_reader.specs.declared.fault.ReadFault.{ReadFault}
@@ -15,7 +18,7 @@ use Rattle.reg_dotreg_import.specs.ImportCalls.{Accepts, import_calls}
 use Rattle.reg_dotreg_import.specs.ImportStops.{ImportStops}
 use Rattle.reg_dotreg_import.specs.declared.fault.ImportFault.{ImportFault}
 use Rattle.reg_edits.specs.Edits.{Opens, are_changed, next_sequence}
-use Rattle.reg_edits.specs.TextImports.{IsText, IsNoText, NoEntries, root_name, Applies, ApplyStops, ReadStops, IsReadBlamed, Imports, ImportEnds}
+use Rattle.reg_edits.specs.TextImports.{IsText, IsNoText, NoEntries, root_name, Applies, ApplyStops, ReadStops, TextBlames, Imports, ImportEnds, ImportBlames}
 use Rattle.reg_edits.specs.declared.edits.Edited.{Edited}
 use Rattle.reg_edits.specs.declared.importing.ImportEnd.{ImportEnd}
 use Rattle.reg_edits.specs.declared.importing.ImportEnd.TheVariants.{Load, Input, Text, Entry, Memory}
@@ -46,12 +49,12 @@ read_as unread left bytes text same h = subst (λ (w : List ℕ). Consumes unrea
 
 -- the text wasn't read to its end
 pub unread_ends : (fault : ImportEnd) (moment : ℕ) (file file_left unread left : Option (List ℕ)) (old : View) (sequence : ℕ) →
-    Opens file file_left old sequence → ReadStops fault → ImportEnds fault moment file file_left unread left
+    Opens file file_left old sequence → ReadStops fault unread left → ImportEnds fault moment file file_left unread left
 unread_ends (Load fault) moment file file_left unread left old sequence o h = absurd h
-unread_ends (Input error) moment file file_left unread left old sequence o h = (old, sequence, o)
+unread_ends (Input error) moment file file_left unread left old sequence o h = (old, sequence, h.0, o, h.1)
 unread_ends (Text fault) moment file file_left unread left old sequence o h = absurd h
 unread_ends (Entry fault) moment file file_left unread left old sequence o h = absurd h
-unread_ends Memory moment file file_left unread left old sequence o h = (old, sequence, o)
+unread_ends Memory moment file file_left unread left old sequence o h = (old, sequence, h.0, o, h.1)
 
 -- its entries weren't made
 pub apply_ends : (fault : ImportEnd) (moment : ℕ) (file file_left unread left : Option (List ℕ)) (text : List ℕ) (old : View) (sequence : ℕ) →
@@ -63,21 +66,29 @@ apply_ends (Text fault) moment file file_left unread left text old sequence o at
 apply_ends (Entry fault) moment file file_left unread left text old sequence o at_end consumed h = (old, sequence, text, o, at_end, consumed, h)
 apply_ends Memory moment file file_left unread left text old sequence o at_end consumed h = absurd h
 
--- then no read of the file failed
-pub unread_unblamed : (fault : ImportEnd) (before after : Option ℕ) → ReadStops fault → Stays before after → IsReadBlamed fault before after
-unread_unblamed (Load fault) before after h stays = absurd h
-unread_unblamed (Input error) before after h stays = stays
-unread_unblamed (Text fault) before after h stays = absurd h
-unread_unblamed (Entry fault) before after h stays = absurd h
-unread_unblamed Memory before after h stays = stays
+-- ---- which reads failed
 
-pub apply_unblamed : (fault : ImportEnd) (moment : ℕ) (text : List ℕ) (old : View) (before after : Option ℕ) → ApplyStops fault moment text old →
-    Stays before after → IsReadBlamed fault before after
-apply_unblamed (Load fault) moment text old before after h stays = absurd h
-apply_unblamed (Input error) moment text old before after h stays = absurd h
-apply_unblamed (Text fault) moment text old before after h stays = stays
-apply_unblamed (Entry fault) moment text old before after h stays = stays
-apply_unblamed Memory moment text old before after h stays = absurd h
+-- none of the text where the image doesn't load
+pub load_blames : (fault : LoadFault) (file file_after text : Option ℕ) → IsBlamed fault file file_after → ImportBlames (Load fault) file file_after text text
+load_blames fault file file_after text blamed = (blamed, stays-at text)
+
+-- none of the file where the text wasn't read to its end
+pub unread_blames : (fault : ImportEnd) (file file_after text text_after : Option ℕ) (unread left : Option (List ℕ)) → ReadStops fault unread left →
+    Stays file file_after → TextBlames fault text text_after → ImportBlames fault file file_after text text_after
+unread_blames (Load fault) file file_after text text_after unread left h stays blames = absurd h
+unread_blames (Input error) file file_after text text_after unread left h stays blames = (stays, blames)
+unread_blames (Text fault) file file_after text text_after unread left h stays blames = absurd h
+unread_blames (Entry fault) file file_after text text_after unread left h stays blames = absurd h
+unread_blames Memory file file_after text text_after unread left h stays blames = (stays, blames)
+
+-- none where its entries weren't made
+pub apply_blames : (fault : ImportEnd) (moment : ℕ) (bytes : List ℕ) (old : View) (file file_after text text_after : Option ℕ) →
+    ApplyStops fault moment bytes old → Stays file file_after → Stays text text_after → ImportBlames fault file file_after text text_after
+apply_blames (Load fault) moment bytes old file file_after text text_after h stays still = absurd h
+apply_blames (Input error) moment bytes old file file_after text text_after h stays still = absurd h
+apply_blames (Text fault) moment bytes old file file_after text text_after h stays still = (stays, still)
+apply_blames (Entry fault) moment bytes old file file_after text text_after h stays still = (stays, still)
+apply_blames Memory moment bytes old file file_after text text_after h stays still = absurd h
 
 -- the whole
 pub imports : (moment : ℕ) (edited : Edited) (file file_left unread left : Option (List ℕ)) (text : List ℕ) (old : View) (sequence : ℕ) →

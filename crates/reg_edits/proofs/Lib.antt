@@ -4,3 +4,4 @@ pub mod KeptKeys
 pub mod KeptByCalls
 pub mod EditSteps
 pub mod ImportSteps
+pub mod InputReads

@@ -96,9 +96,9 @@ EditStops fault keeps_going begin file file_left unread left before after =
     (old : View) × (sequence : ℕ) × Opens file file_left old sequence × RunStops fault keeps_going begin old unread left before after
 
 -- a read of the file failed where the load tells just this, and none else
-abbrev pub IsReadBlamed : EditFault → (before after : Option ℕ) → Type 0
-IsReadBlamed (Load fault) before after = IsBlamed fault before after
-IsReadBlamed fault before after = Stays before after
+abbrev pub EditBlames : EditFault → (before after : Option ℕ) → Type 0
+EditBlames (Load fault) before after = IsBlamed fault before after
+EditBlames fault before after = Stays before after
 
 -- a hive of one root of that name, at moment 0, and nothing else: its journal is empty, and its one bin has just the cells of a new hive
 pub record IsFreshHive (name : List ℕ) (hive : View) : Type 0 where

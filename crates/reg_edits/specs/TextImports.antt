@@ -1,5 +1,5 @@
 -- What an import of a .reg text makes of a file's hive (this project's own).
-use Rattle.std.specs.Prelude.{◌≡◌, ⊤, ℕ, List, [], Option, Some, Ok}
+use Rattle.std.specs.Prelude.{◌≡◌, ℕ, List, [], Option, Some, Ok}
 use Rattle.std.specs.Io.KnownBytes.{IsAtEnd, Consumes}
 use Rattle.std.specs.FinMap.{get}
 use Rattle.reg_model.specs.Callbacks.{no_callbacks}
@@ -13,7 +13,7 @@ use Rattle.reg_dotreg_import.specs.Imports.{imported, entries_of}
 use Rattle.reg_dotreg_import.specs.ImportCalls.{Accepts, import_calls}
 use Rattle.reg_dotreg_import.specs.ImportStops.{ImportStops}
 use Rattle.reg_calls.specs.HiveView.{view_of}
-use Rattle.reg_text.specs.Failures.{Stays}
+use Rattle.reg_text.specs.Failures.{Stays, Fails}
 use Rattle.reg_tree_image.specs.Loads.{MeetsFault, IsBlamed}
 use Rattle.reg_edits.specs.Edits.{next_sequence, Opens, IsChanged}
 use Rattle.reg_edits.specs.declared.edits.Edited.{Edited}
@@ -64,23 +64,31 @@ pub record Imports (moment : ℕ) (edited : Edited) (file file_left unread left 
   pub changed : IsChanged old (view_of edited.hive) edited.is_changed
   pub none_failed : edited.failed ≡ 0
 
--- why an input wasn't read to its end: its reader failed, or there was no memory for it
-abbrev pub ReadStops : ImportEnd → Type 0
-ReadStops (Input error) = ⊤
-ReadStops Memory = ⊤
-ReadStops fault = ⊥
+-- why an input wasn't read to its end, and how far it was: a read failed, or there was no memory for what comes
+abbrev pub ReadStops : ImportEnd → (unread left : Option (List ℕ)) → Type 0
+ReadStops (Input error) unread left = (read : List ℕ) × Consumes unread left read
+ReadStops Memory unread left = (read : List ℕ) × Consumes unread left read
+ReadStops fault unread left = ⊥
 
--- what ended an import before there was anything to save: the image doesn't load, and then nothing was read of the text; the text's reader
--- failed, or memory lacked for it; or the text wasn't understood, or an entry stopped it
+-- a read of the text failed where the fault is that of its reader, and none else
+abbrev pub TextBlames : ImportEnd → (before after : Option ℕ) → Type 0
+TextBlames (Input error) before after = Fails before after
+TextBlames fault before after = Stays before after
+
+-- what ended an import before there was anything to save: the image doesn't load, and then nothing was read of the text; a read of the text
+-- failed, or memory lacked for it, and then it was read so far; or the text wasn't understood, or an entry stopped it
 abbrev pub ImportEnds : ImportEnd → (moment : ℕ) → (file file_left unread left : Option (List ℕ)) → Type 0
 ImportEnds (Load fault) moment file file_left unread left = MeetsFault fault file file_left × (left ≡ unread)
-ImportEnds (Input error) moment file file_left unread left = (old : View) × (sequence : ℕ) × Opens file file_left old sequence
-ImportEnds Memory moment file file_left unread left = (old : View) × (sequence : ℕ) × Opens file file_left old sequence
+ImportEnds (Input error) moment file file_left unread left =
+    (old : View) × (sequence : ℕ) × (read : List ℕ) × Opens file file_left old sequence × Consumes unread left read
+ImportEnds Memory moment file file_left unread left =
+    (old : View) × (sequence : ℕ) × (read : List ℕ) × Opens file file_left old sequence × Consumes unread left read
 ImportEnds fault moment file file_left unread left =
     (old : View) × (sequence : ℕ) × (text : List ℕ) × Opens file file_left old sequence × IsAtEnd left × Consumes unread left text
     × ApplyStops fault moment text old
 
--- a read of the file failed where the load tells just this, and none else
-abbrev pub IsReadBlamed : ImportEnd → (before after : Option ℕ) → Type 0
-IsReadBlamed (Load fault) before after = IsBlamed fault before after
-IsReadBlamed fault before after = Stays before after
+-- a read of the file failed where the load tells just this, one of the text where the fault is that of its reader, and none else
+abbrev pub ImportBlames : ImportEnd → (file file_after text text_after : Option ℕ) → Type 0
+ImportBlames (Load fault) file file_after text text_after = IsBlamed fault file file_after × Stays text text_after
+ImportBlames (Input error) file file_after text text_after = Stays file file_after × Fails text text_after
+ImportBlames fault file file_after text text_after = Stays file file_after × Stays text text_after

@@ -5,7 +5,7 @@ ghost use Rattle.reg_names.specs.Names.{is_key_name};
 ghost use Rattle.reg_text.specs.Failures.{Stays};
 ghost use Rattle.reg_callbacks.specs.Lists.{rows_of};
 ghost use Rattle.reg_calls.specs.HiveView.{view_of, callbacks_of};
-ghost use Rattle.reg_edits.specs.Edits.{next_sequence as following, are_changed, Leads, RunStops, Edits, EditStops, IsReadBlamed, IsFreshHive};
+ghost use Rattle.reg_edits.specs.Edits.{next_sequence as following, are_changed, Leads, RunStops, Edits, EditStops, EditBlames, IsFreshHive};
 
 use reg_callbacks::{Callback, NoCallback};
 use reg_calls::{Hive, NewFault};
@@ -120,7 +120,7 @@ pub fn edit<F: Source, R: Read, W: Write>(
     ensures err { IfErr result (λ fault. EditStops fault keeps_going begin (F.remaining file.old) (F.remaining file.new)
         (R.remaining input.old) (R.remaining input.new) (W.contents output.old) (W.contents output.new)) }
     ensures failures { MatchResult result (λ _. Stays (F.failures file.old) (F.failures file.new))
-        (λ fault. IsReadBlamed fault (F.failures file.old) (F.failures file.new)) }
+        (λ fault. EditBlames fault (F.failures file.old) (F.failures file.new)) }
 {
     let NumberedHive { mut hive, sequence } = load_numbered::<F, NoCallback>(alloc, file)?;
     let ran = run_on(alloc, begin, keeps_going, &mut hive, input, output)?;

@@ -1,11 +1,11 @@
 //! What an import makes of a file's hive: a hive loaded, the entries of a .reg text made in it, and what its image is to be saved with.
 
-ghost use Rattle.std.specs.Prelude.{◌≡◌, [], IfOk, IfErr, OnOk, MatchResult};
+ghost use Rattle.std.specs.Prelude.{◌≡◌, ◌<◌, [], length, IfOk, IfErr, OnOk, MatchResult};
 ghost use Rattle.std.specs.Io.KnownBytes.{Consumes, IsAtEnd};
 ghost use Rattle.reg_text.specs.Failures.{Stays};
 ghost use Rattle.reg_callbacks.specs.Lists.{rows_of};
 ghost use Rattle.reg_calls.specs.HiveView.{view_of, callbacks_of};
-ghost use Rattle.reg_edits.specs.TextImports.{IsText, IsNoText, root_name, Applies, ApplyStops, Imports, ImportEnds, ReadStops, IsReadBlamed};
+ghost use Rattle.reg_edits.specs.TextImports.{IsText, IsNoText, root_name, Applies, ApplyStops, Imports, ImportEnds, ReadStops, TextBlames, ImportBlames};
 
 use crate::edits::{Edited, is_changed, next_sequence};
 use reg_callbacks::{Callback, NoCallback};
@@ -16,14 +16,16 @@ use reg_image::{LoadFault, NumberedHive, load_numbered};
 use reg_text::Source;
 use std::alloc::Global;
 use std::io;
-use std::io::{ErrorKind, Read};
+
+/// How many bytes of a text are asked for at once.
+const PART: usize = 65_536;
 
 /// What ended an import before there was anything to save.
 #[derive(Debug, Drop)]
 pub enum ImportEnd {
     /// The image doesn't load; nothing was read of the text.
     Load(LoadFault),
-    /// The text's reader failed.
+    /// A read of the text failed.
     Input(io::Error),
     /// A line of the text isn't understood, or the text is in no encoding that is read, or memory was refused for it.
     Text(ReadFault),
@@ -97,22 +99,49 @@ fn apply_text<C: Callback>(
     }
 }
 
-/// Reads an input to its end.
-fn read_whole<R: Read>(alloc: Global, input: &mut R) -> Result<Vec<u8>, ImportEnd>
+/// Reads an input to its end, `part` by `part`.
+fn read_parts<R: Source>(
+    alloc: Global,
+    input: &mut R,
+    part: &mut [u8],
+) -> Result<Vec<u8>, ImportEnd>
+    requires { 0 < length part.old }
     ensures ok { IfOk result (λ bytes. IsAtEnd (R.remaining input.new) × Consumes (R.remaining input.old) (R.remaining input.new) bytes.items) }
-    ensures err { IfErr result (λ fault. ReadStops fault) }
+    ensures err { IfErr result (λ fault. ReadStops fault (R.remaining input.old) (R.remaining input.new)) }
+    ensures failures { MatchResult result (λ _. Stays (R.failures input.old) (R.failures input.new))
+        (λ fault. TextBlames fault (R.failures input.old) (R.failures input.new)) }
 {
     let mut bytes = Vec::new(alloc);
-    match input.read_to_end(&mut bytes) {
-        Ok(_) => Ok(bytes),
-        Err(error) if error.kind() == ErrorKind::OutOfMemory => Err(ImportEnd::Memory),
-        Err(error) => Err(ImportEnd::Input(error)),
+    loop {
+        let count = match input.receive(part) {
+            Ok(0) => return Ok(bytes),
+            Ok(count) => count,
+            Err(error) => return Err(ImportEnd::Input(error)),
+        };
+        if bytes.extend_from_slice(&part[..count]).is_err() {
+            return Err(ImportEnd::Memory);
+        }
     }
+}
+
+/// Reads an input to its end. A read that fails, or is interrupted, isn't tried again.
+fn read_whole<R: Source>(alloc: Global, input: &mut R) -> Result<Vec<u8>, ImportEnd>
+    ensures ok { IfOk result (λ bytes. IsAtEnd (R.remaining input.new) × Consumes (R.remaining input.old) (R.remaining input.new) bytes.items) }
+    ensures err { IfErr result (λ fault. ReadStops fault (R.remaining input.old) (R.remaining input.new)) }
+    ensures failures { MatchResult result (λ _. Stays (R.failures input.old) (R.failures input.new))
+        (λ fault. TextBlames fault (R.failures input.old) (R.failures input.new)) }
+{
+    let Ok(mut part) = vec![in alloc; 0; PART] else {
+        return Err(ImportEnd::Memory);
+    };
+    read_parts(alloc, input, part.as_mut_slice())
 }
 
 /// Loads a hive from the image at the front of a file, makes in it the entries of the .reg text on an input, all at one moment, and
 /// answers the hive that they left, with that moment and the next sequence number.
-pub fn import<F: Source, R: Read>(
+///
+/// The input is read to its end before an entry is made; a read of it that fails, or is interrupted, isn't tried again.
+pub fn import<F: Source, R: Source>(
     alloc: Global,
     file: &mut F,
     moment: u64,
@@ -122,8 +151,9 @@ pub fn import<F: Source, R: Read>(
         (R.remaining input.old) (R.remaining input.new)) }
     ensures err { IfErr result (λ fault. ImportEnds fault moment (F.remaining file.old) (F.remaining file.new)
         (R.remaining input.old) (R.remaining input.new)) }
-    ensures failures { MatchResult result (λ _. Stays (F.failures file.old) (F.failures file.new))
-        (λ fault. IsReadBlamed fault (F.failures file.old) (F.failures file.new)) }
+    ensures failures { MatchResult result
+        (λ _. Stays (F.failures file.old) (F.failures file.new) × Stays (R.failures input.old) (R.failures input.new))
+        (λ fault. ImportBlames fault (F.failures file.old) (F.failures file.new) (R.failures input.old) (R.failures input.new)) }
 {
     let NumberedHive { mut hive, sequence } = load_numbered::<F, NoCallback>(alloc, file)?;
     let text = read_whole(alloc, input)?;

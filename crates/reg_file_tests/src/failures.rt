@@ -59,22 +59,27 @@ fn wanted_of_line(alloc: Global, reason: &str, reply: &str) -> Result<String, Al
     Ok(text)
 }
 
-/// A line of no form ends the script: it is reported with its number, its reply is the last, and nothing is saved.
+/// A line of no form ends the script: it is reported with its number and as it stands, spaces and all, its reply is the last, and nothing is
+/// saved.
 #[test]
 fn stops_at_a_bad_line(rt: HostRuntime) -> Result<(), Fail> {
-    let reason = "crate 0 =B 983103 is no line of a script";
-    let wanted = wanted_of_line(rt.alloc(), reason, "bad")?;
-    assert_report(report_of_line(&rt, "crate 0 =B 983103"), wanted.as_str())
+    for line in ["crate 0 =B 983103", "set 0  =A%20B 4 x01 "] {
+        let reason = format!(in rt.alloc(); "{line} is no line of a script")?;
+        let wanted = wanted_of_line(rt.alloc(), reason.as_str(), "bad")?;
+        assert_report(report_of_line(&rt, line), wanted.as_str())?;
+    }
+    Ok(())
 }
 
 /// A change that is refused does so, with its status.
 #[test]
 fn stops_at_a_refused_change(rt: HostRuntime) -> Result<(), Fail> {
     let rows = [
-        ("delkey 0 =None", "2", "(not found)"),
-        ("delvalue 0 =None", "2", "(not found)"),
-        ("deltree 0 =None", "2", "(not found)"),
-        ("open 0 =None 983103", "2", "(not found)"),
+        ("delkey 0 =None", "2", "(file not found)"),
+        ("delkey 0 =No%20one", "2", "(file not found)"),
+        ("delvalue 0 =None", "2", "(file not found)"),
+        ("deltree 0 =None", "2", "(file not found)"),
+        ("open 0 =None 983103", "2", "(file not found)"),
         ("delkey 0 =", "87", "(invalid parameter)"),
         ("create 0 =A\\\\B 983103", "87", "(invalid parameter)"),
         ("notify 0 0 0", "87", "(invalid parameter)"),
@@ -256,7 +261,7 @@ fn reports_the_names_of_statuses(rt: HostRuntime) -> Result<(), Fail> {
 fn sets_nothing_in_another_key(rt: HostRuntime) -> Result<(), Fail> {
     let script = "root 983103\nopen 0 =None 983103\ncreate 0 =B 983103\nset 1 =V 4 x01000000\n";
     let wanted =
-        "0;;|1;error line 2 of standard input: open 0 =None 983103 was refused with status 2 (not found)\n;\
+        "0;;|1;error line 2 of standard input: open 0 =None 983103 was refused with status 2 (file not found)\n;\
         0 handle 0\n2\n|same true|a |";
     assert_report(report_of_script(&rt, script), wanted)
 }

@@ -1,16 +1,26 @@
 -- What an edit or an import of a file left, put together.
-use Rattle.std.proofs.Common.{◌≡◌, ℕ, Bool, List, Option, inr}
-use Rattle.std.specs.Prelude.{Result, Ok, Err, OnOk}
+use Rattle.std.proofs.Common.{◌≡◌, ℕ, Bool, false, List, Option, inl, inr}
 use Rattle.reg_words.specs.declared.request.EditRequest.{EditRequest}
-use Rattle.reg_edits.specs.Edits.{Edits}
-use Rattle.reg_edits.specs.TextImports.{Imports}
+use Rattle.reg_edits.specs.Edits.{Edits, EditStops}
+use Rattle.reg_edits.specs.TextImports.{Imports, ImportEnds}
 use Rattle.reg_edits.specs.declared.edits.Edited.{Edited}
-use Rattle.reg_files.specs.Serving.{IsGiven, IsNone, EditsFile, StopsEditing, Enters}
+use Rattle.reg_edits.specs.declared.edits.EditFault.{EditFault}
+use Rattle.reg_edits.specs.declared.importing.ImportEnd.{ImportEnd}
+use Rattle.reg_files.specs.Cuts.{is_edit_cut}
+use Rattle.reg_files.specs.Serving.{IsGiven, IsNone, EditsFile, StopsEditing, Enters, StopsImporting}
 
--- what is so whatever is answered is so of what is done
-pub on_ok : {X E Q : Type 0} (r : Result X E) → Q → OnOk r Q
-on_ok (Ok v) q = q
-on_ok (Err e) q = tt
+module _ (edit : EditRequest) (begin : ℕ) (given : IsGiven edit.begin begin) where
+  -- something ended the script
+  pub edit_stopped : (keeps_going : Bool) (fault : EditFault) (cut : Bool) (file file_left unread left before after : Option (List ℕ)) →
+      cut ≡ is_edit_cut fault → EditStops fault keeps_going begin file file_left unread left before after →
+      StopsEditing edit keeps_going cut unread left before after
+  edit_stopped keeps_going fault cut file file_left unread left before after same h =
+      inr (inl (fault, same, (file, file_left, (begin, given, h))))
+
+  -- or the text
+  pub import_stopped : (fault : ImportEnd) (file file_left unread left : Option (List ℕ)) → ImportEnds fault begin file file_left unread left →
+      StopsImporting edit unread left
+  import_stopped fault file file_left unread left h = inr (inl (fault, (file, file_left, (begin, given, h))))
 
 module _ (edit : EditRequest) (begin : ℕ) (edited : Edited) (given : IsGiven edit.begin begin) where
   module _ (keeps_going : Bool) (file file_left unread left before after : Option (List ℕ))
@@ -20,8 +30,8 @@ module _ (edit : EditRequest) (begin : ℕ) (edited : Edited) (given : IsGiven e
     edited_well none = (file, file_left, (begin, edited, given, none, edits))
 
     -- lines failed, or saving was refused
-    pub edited_in_vain : StopsEditing edit keeps_going unread left before after
-    edited_in_vain = inr (inr (file, file_left, (begin, edited, given, tt, edits)))
+    pub edited_in_vain : (cut : Bool) → cut ≡ false → StopsEditing edit keeps_going cut unread left before after
+    edited_in_vain cut no_cut = inr (inr (no_cut, (file, file_left, (begin, edited, given, tt, edits))))
 
   pub entered : (file file_left unread left : Option (List ℕ)) → Imports begin edited file file_left unread left → Enters edit unread left
   entered file file_left unread left imports = (file, file_left, (begin, edited, given, imports))

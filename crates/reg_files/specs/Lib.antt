@@ -1,3 +1,5 @@
+pub mod Saves
 pub mod Serving
 pub mod Moments
+pub mod Cuts
 pub mod Internal

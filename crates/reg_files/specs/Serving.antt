@@ -1,5 +1,6 @@
 -- What the tool did with files (this project's own).
-use Rattle.std.specs.Prelude.{◌≡◌, ◌⊎◌, ℕ, zero, suc, max, nat_lt, List, [], ◌∷◌, ◌++◌, length, map, codes, Bool, true, false, Option, ⊤}
+use Rattle.std.specs.Prelude.{◌≡◌, ◌<◌, ◌⊎◌, ℕ, zero, suc, max, nat_lt, Bool, true, false, ◌&&◌, Option, ⊤}
+use Rattle.std.specs.Prelude.{List, [], ◌∷◌, ◌++◌, length, take, map, codes}
 use Rattle.std.specs.Io.KnownBytes.{Appends}
 use Rattle.reg_text.specs.Texts.{line_feed}
 use Rattle.reg_words.specs.CommandLines.{AsksNothing, IsCommandLine}
@@ -13,7 +14,7 @@ use Rattle.reg_words.specs.declared.request.StreamRequest.{StreamRequest}
 use Rattle.reg_words.specs.declared.request.StreamRequest.TheVariants as stream
 use Rattle.reg_words.specs.declared.request.Request.{Request}
 use Rattle.reg_words.specs.declared.request.Request.TheVariants.{Stream, Dump, Check, Listing, Get, Find, Diff, Export, New, Edit, Import}
-use Rattle.reg_command.specs.Failures.{Does, Stops, EndsEarly, IsFront, IsSaid, IsStopSaid, IsUntouched}
+use Rattle.reg_command.specs.Failures.{Does, Stops, EndsEarly, IsSaid, IsStopSaid, IsUntouched}
 use Rattle.reg_command.specs.declared.failure.Stop.{Stop}
 use Rattle.reg_command.specs.declared.failure.Stop.TheVariants as stop
 use Rattle.reg_find.specs.declared.scope.Scope.{Scope}
@@ -21,27 +22,36 @@ use Rattle.reg_tree_text.specs.PathQueries.{ListStops, GetStops}
 use Rattle.reg_tables.specs.Tables.{json_text, csv_text, TableStops}
 use Rattle.reg_queries.specs.Queries.{Lists, Gets, Tabulates, QueryStops}
 use Rattle.reg_queries.specs.Finds.{Finds, FindStops}
-use Rattle.reg_queries.specs.Differs.{Differs}
+use Rattle.reg_queries.specs.Differs.{Differs, DiffStops}
 use Rattle.reg_queries.specs.ImageExports.{Exports, ExportEnds}
 use Rattle.reg_queries.specs.declared.fault.QueryFault.{QueryFault}
 use Rattle.reg_queries.specs.declared.fault.FindFault.{FindFault}
+use Rattle.reg_queries.specs.declared.fault.DiffFault.{DiffFault}
 use Rattle.reg_queries.specs.declared.fault.ExportEnd.{ExportEnd}
 use Rattle.reg_edits.specs.Edits.{Edits, EditStops}
-use Rattle.reg_edits.specs.TextImports.{Imports}
+use Rattle.reg_edits.specs.TextImports.{Imports, ImportEnds}
 use Rattle.reg_edits.specs.declared.edits.Edited.{Edited}
 use Rattle.reg_edits.specs.declared.edits.EditFault.{EditFault}
+use Rattle.reg_edits.specs.declared.importing.ImportEnd.{ImportEnd}
+use Rattle.reg_files.specs.Cuts.{is_query_cut, is_find_cut, is_diff_cut, is_end_cut, is_edit_cut}
 
 -- the moment at which an edit begins: that of the clock, which may be any, or the one that is asked for
 abbrev pub IsGiven : Begin → ℕ → Type 0
 IsGiven Now moment = ⊤
 IsGiven (At asked) moment = moment ≡ asked
 
--- a line was written that says what was refused or faulty, or a front of it, where the writer failed; or none was, of a write that failed
--- since nobody reads the output any more
-abbrev pub IsReported : (closed : Bool) → (told told_after : Option (List ℕ)) → (failed now_failed : Option ℕ) → Type 0
-IsReported closed told told_after failed now_failed =
+-- a line was written that says what was refused or faulty, or a front of it, where the writer failed; or none was, where none need be: a
+-- write of the output failed, and nobody reads that any more
+abbrev pub IsReported : (may_be_silent : Bool) → (told told_after : Option (List ℕ)) → (failed now_failed : Option ℕ) → Type 0
+IsReported may_be_silent told told_after failed now_failed =
     ((what : List ℕ) × IsSaid (codes "error " ++ (what ++ line_feed)) told told_after failed now_failed)
-    ⊎ ((closed ≡ true) × (told_after ≡ told))
+    ⊎ ((may_be_silent ≡ true) × (told_after ≡ told))
+
+-- a text wasn't written to its end: so many of its first bytes were
+pub record IsCutShort (text : List ℕ) (before after : Option (List ℕ)) : Type 0 where
+  pub count : ℕ
+  pub short : count < length text
+  pub appended : Appends before after (take count text)
 
 -- what ended a request of the standard streams was reported as there; or it is such a write, and nothing was
 abbrev pub StopReported : (closed : Bool) → Stop → (told told_after : Option (List ℕ)) → (failed now_failed : Option ℕ) → Type 0
@@ -76,11 +86,17 @@ abbrev pub Counts : (is_named : Bool) → (file : List ℕ) → (before after to
 Counts is_named file before after told told_after =
     (named : Option (List ℕ)) × Appends before named (name_before is_named file) × Answers stream.Check named after told told_after
 
--- a file wasn't: its name was written at most, and that reported; or something ended the count, behind its name
+-- why a file's line wasn't begun: its name was cut by a failed write; or the file wasn't opened, or there was no memory for its name, and
+-- nothing was written
+abbrev pub NameStops : (cut : Bool) → (name : List ℕ) → (before after : Option (List ℕ)) → Type 0
+NameStops true name before after = IsCutShort name before after
+NameStops false name before after = after ≡ before
+
+-- a file wasn't: its line wasn't begun, and that reported; or something ended the count, behind its name
 abbrev pub Misses : (is_named : Bool) → (file : List ℕ) → (closed : Bool) → (before after told told_after : Option (List ℕ)) →
     (failed now_failed : Option ℕ) → Type 0
 Misses is_named file closed before after told told_after failed now_failed =
-    (IsFront (name_before is_named file) before after × IsReported closed told told_after failed now_failed)
+    ((cut : Bool) × NameStops cut (name_before is_named file) before after × IsReported (closed && cut) told told_after failed now_failed)
     ⊎ ((named : Option (List ℕ)) × Appends before named (name_before is_named file)
     × AnswerStops stream.Check closed named after told told_after failed now_failed)
 
@@ -124,6 +140,12 @@ AreSame before after =
     (written : Option (List ℕ)) × OfFile (λ old old_left. OfFile (λ new new_left. Differs old old_left new new_left true before written))
     × Appends written after (codes "same\n")
 
+-- they are the same, and a write of that failed
+abbrev pub AreSameCut : (before after : Option (List ℕ)) → Type 0
+AreSameCut before after =
+    (written : Option (List ℕ)) × OfFile (λ old old_left. OfFile (λ new new_left. Differs old old_left new new_left true before written))
+    × IsCutShort (codes "same\n") written after
+
 -- they were compared, and aren't the same: how they differ was written
 abbrev pub AreOther : (before after : Option (List ℕ)) → Type 0
 AreOther before after = OfFile (λ old old_left. OfFile (λ new new_left. Differs old old_left new new_left false before after))
@@ -145,50 +167,77 @@ abbrev pub Enters : EditRequest → (unread left : Option (List ℕ)) → Type 0
 Enters edit unread left =
     OfFile (λ file file_left. (begin : ℕ) × (edited : Edited) × IsGiven edit.begin begin × Imports begin edited file file_left unread left)
 
--- why a key wasn't listed, or not to the end: the file wasn't opened, and nothing was written; or what ended it
-abbrev pub StopsListing : (path : List ℕ) → (is_whole : Bool) → (before after : Option (List ℕ)) → Type 0
-StopsListing path is_whole before after =
-    (after ≡ before) ⊎ ((fault : QueryFault)
+-- why a key wasn't listed, or not to the end: the file wasn't opened, and nothing was written; or what ended it. Here and below `cut` says
+-- whether that was a failed write of the output
+abbrev pub StopsListing : (cut : Bool) → (path : List ℕ) → (is_whole : Bool) → (before after : Option (List ℕ)) → Type 0
+StopsListing cut path is_whole before after =
+    ((cut ≡ false) × (after ≡ before))
+    ⊎ ((fault : QueryFault) × (cut ≡ is_query_cut fault)
     × OfFile (λ unread left. QueryStops fault unread left (λ tree stopped. ListStops stopped tree path is_whole before after) before after))
 
 -- why a value wasn't written
-abbrev pub StopsGetting : (path name : List ℕ) → (is_raw : Bool) → (before after : Option (List ℕ)) → Type 0
-StopsGetting path name is_raw before after =
-    (after ≡ before) ⊎ ((fault : QueryFault)
+abbrev pub StopsGetting : (cut : Bool) → (path name : List ℕ) → (is_raw : Bool) → (before after : Option (List ℕ)) → Type 0
+StopsGetting cut path name is_raw before after =
+    ((cut ≡ false) × (after ≡ before))
+    ⊎ ((fault : QueryFault) × (cut ≡ is_query_cut fault)
     × OfFile (λ unread left. QueryStops fault unread left (λ tree stopped. GetStops stopped tree path name is_raw before after) before after))
 
 -- why a search wasn't made, or not to the end
-abbrev pub StopsFinding : (pattern : List ℕ) → Scope → (before after : Option (List ℕ)) → Type 0
-StopsFinding pattern scope before after =
-    (after ≡ before) ⊎ ((fault : FindFault) × OfFile (λ unread left. FindStops fault unread left pattern scope before after))
+abbrev pub StopsFinding : (cut : Bool) → (pattern : List ℕ) → Scope → (before after : Option (List ℕ)) → Type 0
+StopsFinding cut pattern scope before after =
+    ((cut ≡ false) × (after ≡ before))
+    ⊎ ((fault : FindFault) × (cut ≡ is_find_cut fault) × OfFile (λ unread left. FindStops fault unread left pattern scope before after))
+
+-- why it wasn't written how two files differ, or that they are the same, or not to the end: one of them wasn't opened, and nothing was
+-- written; or what ended it; or a write that they are the same
+abbrev pub StopsDiffing : (cut : Bool) → (before after : Option (List ℕ)) → Type 0
+StopsDiffing cut before after =
+    ((cut ≡ false) × (after ≡ before))
+    ⊎ ((fault : DiffFault) × (cut ≡ is_diff_cut fault)
+    × OfFile (λ old old_left. OfFile (λ new new_left. DiffStops fault old old_left new new_left before after)))
+    ⊎ ((cut ≡ true) × AreSameCut before after)
 
 -- what ended the writing of a key of an image's tree in a form of text
-abbrev pub WriteStops : Form → (unread left : Option (List ℕ)) → (path : List ℕ) → (before after : Option (List ℕ)) → Type 0
-WriteStops (Reg is_utf8) unread left path before after = (fault : ExportEnd) × ExportEnds fault unread left path is_utf8 before after
-WriteStops Json unread left path before after =
-    (fault : QueryFault) × QueryStops fault unread left (λ tree stopped. TableStops stopped tree path (json_text tree) before after) before after
-WriteStops Csv unread left path before after =
-    (fault : QueryFault) × QueryStops fault unread left (λ tree stopped. TableStops stopped tree path (csv_text tree) before after) before after
+abbrev pub WriteStops : Form → (cut : Bool) → (unread left : Option (List ℕ)) → (path : List ℕ) → (before after : Option (List ℕ)) → Type 0
+WriteStops (Reg is_utf8) cut unread left path before after =
+    (fault : ExportEnd) × (cut ≡ is_end_cut fault) × ExportEnds fault unread left path is_utf8 before after
+WriteStops Json cut unread left path before after =
+    (fault : QueryFault) × (cut ≡ is_query_cut fault)
+    × QueryStops fault unread left (λ tree stopped. TableStops stopped tree path (json_text tree) before after) before after
+WriteStops Csv cut unread left path before after =
+    (fault : QueryFault) × (cut ≡ is_query_cut fault)
+    × QueryStops fault unread left (λ tree stopped. TableStops stopped tree path (csv_text tree) before after) before after
 
 -- and of a key that wasn't written, or not to the end
-abbrev pub StopsWriting : Form → (path : List ℕ) → (before after : Option (List ℕ)) → Type 0
-StopsWriting form path before after = (after ≡ before) ⊎ OfFile (λ unread left. WriteStops form unread left path before after)
+abbrev pub StopsWriting : Form → (cut : Bool) → (path : List ℕ) → (before after : Option (List ℕ)) → Type 0
+StopsWriting form cut path before after =
+    ((cut ≡ false) × (after ≡ before)) ⊎ OfFile (λ unread left. WriteStops form cut unread left path before after)
 
--- any count of failed lines, or none failed
+-- any number of lines failed
 abbrev pub IsAny : ℕ → Type 0
 IsAny failed = ⊤
 
+-- no line failed
 abbrev pub IsNone : ℕ → Type 0
 IsNone failed = failed ≡ 0
 
 -- why an edit didn't end well: it wasn't begun, and nothing was read or written; or what ended the script on the hive in some file; or the
 -- script was run to its end, and lines of it failed, or saving was refused
-abbrev pub StopsEditing : EditRequest → (keeps_going : Bool) → (unread left before after : Option (List ℕ)) → Type 0
-StopsEditing edit keeps_going unread left before after =
-    IsUntouched unread left before after
-    ⊎ ((fault : EditFault) × OfFile (λ file file_left. (begin : ℕ) × IsGiven edit.begin begin
+abbrev pub StopsEditing : EditRequest → (keeps_going : Bool) → (cut : Bool) → (unread left before after : Option (List ℕ)) → Type 0
+StopsEditing edit keeps_going cut unread left before after =
+    ((cut ≡ false) × IsUntouched unread left before after)
+    ⊎ ((fault : EditFault) × (cut ≡ is_edit_cut fault) × OfFile (λ file file_left. (begin : ℕ) × IsGiven edit.begin begin
     × EditStops fault keeps_going begin file file_left unread left before after))
-    ⊎ EditsFile edit keeps_going IsAny unread left before after
+    ⊎ ((cut ≡ false) × EditsFile edit keeps_going IsAny unread left before after)
+
+-- why an import didn't end well: it wasn't begun, and nothing was read; or what ended it on the hive in some file; or the entries were made,
+-- and saving was refused
+abbrev pub StopsImporting : EditRequest → (unread left : Option (List ℕ)) → Type 0
+StopsImporting edit unread left =
+    (left ≡ unread)
+    ⊎ ((fault : ImportEnd) × OfFile (λ file file_left. (begin : ℕ) × IsGiven edit.begin begin
+    × ImportEnds fault begin file file_left unread left))
+    ⊎ Enters edit unread left
 
 -- what a request did with the input and the output, where the status is 0: one of the standard streams was answered; an edit ran the script
 -- on the hive in some file, and no line failed; a key or a value of some file's tree was written, or each of some files counted; and all but
@@ -213,8 +262,8 @@ Serves (Edit edit keeps_going) unread left before after told told_after = EditsF
 Serves (Import edit) unread left before after told told_after = Enters edit unread left × (after ≡ before)
 
 -- what it did where the status is 1: one of the standard streams ended early; `diff` wrote that the trees of some files differ; or something
--- was refused or faulty, and that reported. What was read and written by then is what ended it left: but for `diff`, and for an import's
--- reading, of which nothing is said. `closed` says whether a write failed since nobody reads the output any more
+-- was refused or faulty, and that reported. What was read and written by then is what ended it left. `closed` says whether a write failed
+-- since nobody reads the output any more: then that needn't be reported, but all else must
 abbrev pub Fails : Request → (closed : Bool) → (unread left before after told told_after : Option (List ℕ)) → (failed now_failed : Option ℕ) → Type 0
 Fails (Stream request) closed unread left before after told told_after failed now_failed =
     EndsEarly request unread left before after told told_after failed now_failed
@@ -223,21 +272,26 @@ Fails (Dump file) closed unread left before after told told_after failed now_fai
 Fails (Check files) closed unread left before after told told_after failed now_failed =
     (left ≡ unread) × ChecksFiles (map (λ file. file.now) files.items) 1 closed before after told told_after failed now_failed
 Fails (Diff old new) closed unread left before after told told_after failed now_failed =
-    (left ≡ unread) × ((AreOther before after × (told_after ≡ told)) ⊎ IsReported closed told told_after failed now_failed)
+    (left ≡ unread) × ((AreOther before after × (told_after ≡ told))
+    ⊎ ((cut : Bool) × StopsDiffing cut before after × IsReported (closed && cut) told told_after failed now_failed))
 Fails (New file name) closed unread left before after told told_after failed now_failed =
     IsUntouched unread left before after × IsReported false told told_after failed now_failed
 Fails (Edit edit keeps_going) closed unread left before after told told_after failed now_failed =
-    StopsEditing edit keeps_going unread left before after × IsReported closed told told_after failed now_failed
+    (cut : Bool) × StopsEditing edit keeps_going cut unread left before after × IsReported (closed && cut) told told_after failed now_failed
 Fails (Import edit) closed unread left before after told told_after failed now_failed =
-    (after ≡ before) × IsReported false told told_after failed now_failed
+    StopsImporting edit unread left × (after ≡ before) × IsReported false told told_after failed now_failed
 Fails (Listing file path is_whole) closed unread left before after told told_after failed now_failed =
-    (left ≡ unread) × StopsListing path.now is_whole before after × IsReported closed told told_after failed now_failed
+    (left ≡ unread) × ((cut : Bool) × StopsListing cut path.now is_whole before after
+    × IsReported (closed && cut) told told_after failed now_failed)
 Fails (Get file path name is_raw) closed unread left before after told told_after failed now_failed =
-    (left ≡ unread) × StopsGetting path.now name.now is_raw before after × IsReported closed told told_after failed now_failed
+    (left ≡ unread) × ((cut : Bool) × StopsGetting cut path.now name.now is_raw before after
+    × IsReported (closed && cut) told told_after failed now_failed)
 Fails (Find file pattern places) closed unread left before after told told_after failed now_failed =
-    (left ≡ unread) × StopsFinding pattern.now (scope_of places) before after × IsReported closed told told_after failed now_failed
+    (left ≡ unread) × ((cut : Bool) × StopsFinding cut pattern.now (scope_of places) before after
+    × IsReported (closed && cut) told told_after failed now_failed)
 Fails (Export file path form) closed unread left before after told told_after failed now_failed =
-    (left ≡ unread) × StopsWriting form path.now before after × IsReported closed told told_after failed now_failed
+    (left ≡ unread) × ((cut : Bool) × StopsWriting form cut path.now before after
+    × IsReported (closed && cut) told told_after failed now_failed)
 
 -- what the words ask for was done, and nothing was reported
 pub record IsServed (words : List (List ℕ)) (unread left before after told told_after : Option (List ℕ)) : Type 0 where

@@ -1,13 +1,17 @@
 //! The commands that save files.
 
-ghost use Rattle.std.specs.Prelude.{OnOk, OnErr, IfOk};
-ghost use Rattle.reg_files.specs.Serving.{IsGiven, IsNone, EditsFile, StopsEditing, Enters};
+ghost use Rattle.std.specs.Prelude.{OnOk, OnErr, IfOk, IfErr};
+ghost use Rattle.reg_files.specs.Saves.{IsToSave, IsToMake};
+ghost use Rattle.reg_files.specs.Serving.{IsGiven, IsNone, EditsFile, StopsEditing, Enters, StopsImporting};
+ghost use Rattle.reg_files.specs.Internal.Cuts.{is_save_end_cut};
 
 use crate::device::Device;
-use crate::fault::{Fault, Step, taken};
+use crate::fault::{Fault, SaveEnd, Step, taken};
 use crate::locks::{Lockable, open_locked, real_path};
 use crate::moments::moment_at;
 use crate::saving::{Saved, create, replace};
+use reg_callbacks::NoCallback;
+use reg_calls::Hive;
 use reg_edits::{Edited, edit, fresh_hive, import};
 use reg_words::{Begin, EditRequest};
 use std::alloc::Global;
@@ -27,6 +31,31 @@ fn begin_at<H: Clock>(host: &H, begin: Begin) -> Result<u64, Fault>
     }
 }
 
+/// What is to be saved of an edited hive: nothing where no call may have changed a key, or where the words ask for a dry run.
+fn to_save<'a>(request: EditRequest<'_>, edited: &'a Edited) -> Option<Saved<'a>>
+    ensures { IsToSave request.entry edited.now result }
+{
+    if !edited.is_changed || request.dry_run {
+        return None;
+    }
+    Some(Saved {
+        hive: &edited.hive,
+        moment: edited.moment,
+        sequence: edited.sequence,
+    })
+}
+
+/// A new file's hive as it is saved: at moment 0, with the first sequence number.
+fn to_make(hive: &Hive<NoCallback>) -> Saved<'_>
+    ensures { IsToMake hive.now result }
+{
+    Saved {
+        hive,
+        moment: 0,
+        sequence: FIRST_SEQUENCE,
+    }
+}
+
 /// Saves what a command made of a file's hive, if it is to be saved: in the file's place, or in another file, which is made anew.
 fn save<H: Files>(
     alloc: Global,
@@ -35,13 +64,8 @@ fn save<H: Files>(
     path: &str,
     edited: &Edited,
 ) -> Result<(), Fault> {
-    if !edited.is_changed || request.dry_run {
+    let Some(saved) = to_save(request, edited) else {
         return Ok(());
-    }
-    let saved = Saved {
-        hive: &edited.hive,
-        moment: edited.moment,
-        sequence: edited.sequence,
     };
     match request.output {
         Some(target) => create(host, target, saved),
@@ -84,21 +108,25 @@ pub fn edit_file<H: Files + Clock, R: Read, W: Write>(
     keeps_going: bool,
     input: &mut R,
     output: &mut W,
-) -> Result<(), Fault>
+) -> Result<(), SaveEnd>
 where
     H::File: Lockable,
     ensures ok { OnOk result (EditsFile request.entry keeps_going IsNone (R.remaining input.old) (R.remaining input.new) (W.contents output.old) (W.contents output.new)) }
-    ensures err { OnErr result (StopsEditing request.entry keeps_going (R.remaining input.old) (R.remaining input.new) (W.contents output.old) (W.contents output.new)) }
+    ensures err { IfErr result (λ end. StopsEditing request.entry keeps_going (is_save_end_cut end) (R.remaining input.old) (R.remaining input.new)
+        (W.contents output.old) (W.contents output.new)) }
 {
     let begin = begin_at(host, request.begin)?;
     let mut opened = open_for(alloc, host, request)?;
     let edited = match edit(alloc, &mut opened.file, begin, keeps_going, input, output) {
         Ok(edited) => edited,
-        Err(fault) => return Err(Fault::from(fault).of_file(&mut opened.file)),
+        Err(fault) => {
+            let fault = Fault::from(fault).of_file(&mut opened.file);
+            return Err(SaveEnd::Hive(fault));
+        }
     };
     save(alloc, host, request, opened.path.as_str(), &edited)?;
     if edited.failed > 0 {
-        return Err(Fault::Failed(edited.failed));
+        return Err(SaveEnd::Hive(Fault::Failed(edited.failed)));
     }
     Ok(())
 }
@@ -109,27 +137,27 @@ pub fn import_text<H: Files + Clock, R: Read>(
     host: &H,
     request: EditRequest<'_>,
     input: &mut R,
-) -> Result<(), Fault>
+) -> Result<(), SaveEnd>
 where
     H::File: Lockable,
-    ensures { OnOk result (Enters request.entry (R.remaining input.old) (R.remaining input.new)) }
+    ensures ok { OnOk result (Enters request.entry (R.remaining input.old) (R.remaining input.new)) }
+    ensures err { OnErr result (StopsImporting request.entry (R.remaining input.old) (R.remaining input.new)) }
 {
     let begin = begin_at(host, request.begin)?;
     let mut opened = open_for(alloc, host, request)?;
     let imported = match import(alloc, &mut opened.file, begin, input) {
         Ok(imported) => imported,
-        Err(fault) => return Err(Fault::from(fault).of_file(&mut opened.file)),
+        Err(fault) => {
+            let fault = Fault::from(fault).of_file(&mut opened.file);
+            return Err(SaveEnd::Hive(fault));
+        }
     };
-    save(alloc, host, request, opened.path.as_str(), &imported)
+    save(alloc, host, request, opened.path.as_str(), &imported)?;
+    Ok(())
 }
 
 /// Makes a file with a fresh hive.
 pub fn new_file<H: Files>(alloc: Global, host: &H, file: &str, name: &str) -> Result<(), Fault> {
     let hive = fresh_hive(alloc, name.as_bytes())?;
-    let saved = Saved {
-        hive: &hive,
-        moment: 0,
-        sequence: FIRST_SEQUENCE,
-    };
-    create(host, file, saved)
+    create(host, file, to_make(&hive))
 }

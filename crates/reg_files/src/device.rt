@@ -1,6 +1,8 @@
 //! Readers and writers that keep why their last call failed: the libraries say only that one did.
 
-ghost use Rattle.std.specs.Prelude.{◌≡◌, Bool};
+ghost use Rattle.std.specs.Prelude.{◌≡◌, ◌≢◌, Bool, true, false, Some, IfSome};
+ghost use Rattle.std.specs.IoError.{error_kind};
+ghost use Rattle.std.specs.declared.io.ErrorKind.TheVariants.{BrokenPipe};
 
 use std::io;
 use std::io::{ErrorKind, Read, Write};
@@ -26,7 +28,12 @@ struct Failures {
 
 impl Failures {
     /// Keeps an error, and answers one of its kind.
-    fn keep(&mut self, error: io::Error) -> io::Error {
+    fn keep(&mut self, error: io::Error) -> io::Error
+        ensures kept { self.new.error ≡ Some error }
+        ensures kind { error_kind result ≡ error_kind error }
+        ensures closes { error_kind error ≡ BrokenPipe → self.new.is_closed ≡ true }
+        ensures stays { error_kind error ≢ BrokenPipe → self.new.is_closed ≡ self.old.is_closed }
+    {
         let kind = error.kind();
         if kind == ErrorKind::BrokenPipe {
             self.is_closed = true;
@@ -45,7 +52,10 @@ pub struct Device<D> {
 
 impl<D> Device<D> {
     /// A reader or a writer, none of whose calls failed.
-    pub fn new(device: D) -> Device<D> {
+    pub fn new(device: D) -> Device<D>
+        ensures device { result.device ≡ device }
+        ensures open { result.failures.is_closed ≡ false }
+    {
         Device {
             device,
             failures: Failures {
@@ -56,12 +66,18 @@ impl<D> Device<D> {
     }
 
     /// The reader or the writer itself.
-    pub fn inner(&self) -> &D {
+    pub fn inner(&self) -> &D
+        ensures { result.now ≡ self.now.device }
+    {
         &self.device
     }
 
-    /// The error of the last call that failed, of another kind where it was taken out before.
-    pub fn take_error(&mut self) -> io::Error {
+    /// The error of the last call that failed, of another kind where it was taken out before. It is taken out; nothing else changes.
+    pub fn take_error(&mut self) -> io::Error
+        ensures error { IfSome self.old.failures.error (λ error. result ≡ error) }
+        ensures device { self.new.device ≡ self.old.device }
+        ensures closed { self.new.failures.is_closed ≡ self.old.failures.is_closed }
+    {
         self.failures
             .error
             .take()

@@ -1,5 +1,12 @@
 //! What ends a command on a file, and its text.
 
+ghost use Rattle.std.specs.Prelude.{◌≡◌, ◌≢◌, false, Ok, IfErr, IsErr, MatchResult};
+ghost use Rattle.std.specs.IoError.{error_kind};
+ghost use Rattle.std.specs.declared.io.ErrorKind.TheVariants.{OutOfMemory};
+ghost use Rattle.reg_files.specs.Saves.{is_of_saving};
+ghost use Rattle.reg_files.specs.Cuts.{is_dump_cut, is_path_cut, is_query_cut, is_find_cut, is_diff_cut, is_end_cut, is_edit_cut};
+ghost use Rattle.reg_files.specs.Internal.Cuts.{is_cut, is_diff_end_cut, IsOfStep};
+
 use crate::device::Device;
 use reg_dotreg_import::ImportFault;
 use reg_dotreg_reader::ReadFault;
@@ -39,7 +46,9 @@ pub enum Step {
 
 impl Step {
     /// Whether it is a step of saving, on the file that is written.
-    pub fn saves(self) -> bool {
+    pub fn saves(self) -> bool
+        ensures { result ≡ is_of_saving self }
+    {
         match self {
             Step::Clock | Step::Find | Step::Open | Step::Lock | Step::Read => false,
             Step::Create
@@ -127,6 +136,8 @@ pub enum Fault {
 }
 
 impl From<EditFault> for Fault {
+    ghost from_gives = { λ fault made. is_cut made ≡ is_edit_cut fault };
+
     fn from(fault: EditFault) -> Fault {
         match fault {
             EditFault::Load(fault) => Fault::Load(fault),
@@ -137,6 +148,8 @@ impl From<EditFault> for Fault {
 }
 
 impl From<PathFault> for Fault {
+    ghost from_gives = { λ fault made. is_cut made ≡ is_path_cut fault };
+
     fn from(fault: PathFault) -> Fault {
         match fault {
             PathFault::NoKey => Fault::NoKey,
@@ -147,6 +160,8 @@ impl From<PathFault> for Fault {
 }
 
 impl From<QueryFault> for Fault {
+    ghost from_gives = { λ fault made. is_cut made ≡ is_query_cut fault };
+
     fn from(fault: QueryFault) -> Fault {
         match fault {
             QueryFault::Load(fault) => Fault::Load(fault),
@@ -156,6 +171,8 @@ impl From<QueryFault> for Fault {
 }
 
 impl From<DumpFault> for Fault {
+    ghost from_gives = { λ fault made. is_cut made ≡ is_dump_cut fault };
+
     fn from(fault: DumpFault) -> Fault {
         match fault {
             DumpFault::Write { written } => Fault::Cut(written),
@@ -165,6 +182,8 @@ impl From<DumpFault> for Fault {
 }
 
 impl From<FindFault> for Fault {
+    ghost from_gives = { λ fault made. is_cut made ≡ is_find_cut fault };
+
     fn from(fault: FindFault) -> Fault {
         match fault {
             FindFault::Pattern(PatternFault::Memory) => Fault::Memory,
@@ -176,6 +195,8 @@ impl From<FindFault> for Fault {
 }
 
 impl From<ExportEnd> for Fault {
+    ghost from_gives = { λ fault made. is_cut made ≡ is_end_cut fault };
+
     fn from(fault: ExportEnd) -> Fault {
         match fault {
             ExportEnd::Load(fault) => Fault::Load(fault),
@@ -190,6 +211,7 @@ impl From<ImportEnd> for Fault {
     fn from(fault: ImportEnd) -> Fault {
         match fault {
             ImportEnd::Load(fault) => Fault::Load(fault),
+            ImportEnd::Input(error) if error.kind() == ErrorKind::OutOfMemory => Fault::Memory,
             ImportEnd::Input(error) => Fault::Input(error),
             ImportEnd::Text(ReadFault::Memory) => Fault::Memory,
             ImportEnd::Text(fault) => Fault::Text(fault),
@@ -209,12 +231,33 @@ pub enum DiffEnd {
 }
 
 impl From<DiffFault> for DiffEnd {
+    ghost from_gives = { λ fault made. is_diff_end_cut made ≡ is_diff_cut fault };
+
     fn from(fault: DiffFault) -> DiffEnd {
         match fault {
             DiffFault::Old(fault) => DiffEnd::Old(Fault::Load(fault)),
             DiffFault::New(fault) => DiffEnd::New(Fault::Load(fault)),
             DiffFault::Stopped(fault) => DiffEnd::Old(Fault::from(fault)),
         }
+    }
+}
+
+/// What ended a command that saves a file early. A script on the hive writes to the output, and a step on the files doesn't.
+#[derive(Debug, Drop)]
+pub enum SaveEnd {
+    /// The image doesn't load, or what was to be made of its hive was ended, or lines of the script failed.
+    Hive(Fault),
+    /// A step on the files, or the clock, was refused, or memory for it: before the image was read, or as it was saved.
+    Files(Fault),
+}
+
+impl From<Fault> for SaveEnd {
+    ghost use Rattle.reg_files.specs.declared.fault.SaveEnd.{SaveEnd};
+
+    ghost from_gives = { λ fault made. made ≡ SaveEnd.Files fault };
+
+    fn from(fault: Fault) -> SaveEnd {
+        SaveEnd::Files(fault)
     }
 }
 
@@ -233,18 +276,37 @@ impl From<AllocError> for Fault {
     }
 }
 
+/// The fault of a step that the system refused.
+pub fn refused(step: Step, error: io::Error) -> Fault
+    ensures memory { error_kind error ≡ OutOfMemory → result ≡ Fault.Memory }
+    ensures step { error_kind error ≢ OutOfMemory → result ≡ Fault.Step step error }
+    ensures of_step { IsOfStep step result }
+    ensures cut { is_cut result ≡ false }
+{
+    if error.kind() == ErrorKind::OutOfMemory {
+        return Fault::Memory;
+    }
+    Fault::Step { step, error }
+}
+
 /// What a step gave, or the fault that it is refused.
-pub fn taken<T>(step: Step, answer: io::Result<T>) -> Result<T, Fault> {
+pub fn taken<T>(step: Step, answer: io::Result<T>) -> Result<T, Fault>
+    ensures given { MatchResult answer (λ value. result ≡ Ok value) (λ _. IsErr result) }
+    ensures of_step { IfErr result (λ fault. IsOfStep step fault) }
+    ensures err { IfErr result (λ fault. is_cut fault ≡ false) }
+{
     match answer {
         Ok(value) => Ok(value),
-        Err(error) if error.kind() == ErrorKind::OutOfMemory => Err(Fault::Memory),
-        Err(error) => Err(Fault::Step { step, error }),
+        Err(error) => Err(refused(step, error)),
     }
 }
 
 impl Fault {
     /// The fault of a call that read a file: where a read failed, with the system's error.
-    pub fn of_file<D>(self, file: &mut Device<D>) -> Fault {
+    pub fn of_file<D>(self, file: &mut Device<D>) -> Fault
+        ensures other { self ≢ Fault.Load LoadFault.Read → result ≡ self }
+        ensures cut { is_cut result ≡ is_cut self }
+    {
         match self {
             Fault::Load(LoadFault::Read) => Fault::Step {
                 step: Step::Read,

@@ -1,6 +1,6 @@
 //! A file opened for one edit at a time.
 
-use crate::fault::{Fault, Step, taken};
+use crate::fault::{Fault, Step, refused, taken};
 use std::alloc::Global;
 use std::fs;
 use std::fs::{File, Metadata, OpenFile, OpenOptions, TryLockError};
@@ -39,7 +39,7 @@ where
     match file.try_lock() {
         Ok(()) => {}
         Err(TryLockError::WouldBlock) => return Err(Fault::Busy),
-        Err(TryLockError::Error(error)) => return taken(Step::Lock, Err(error)),
+        Err(TryLockError::Error(error)) => return Err(refused(Step::Lock, error)),
     }
     let locked = taken(Step::Lock, file.metadata())?;
     if !locked.is_file() {

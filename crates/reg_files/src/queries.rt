@@ -1,10 +1,11 @@
 //! The commands that only look into files.
 
-ghost use Rattle.std.specs.Prelude.{◌≡◌, ◌≤◌, ℕ, List, Option, IfOk, OnOk, OnErr};
+ghost use Rattle.std.specs.Prelude.{◌≡◌, ◌≤◌, ℕ, List, Option, false, IfOk, IfErr, OnOk};
 ghost use Rattle.reg_queries.specs.Queries.{Lists, Gets};
 ghost use Rattle.reg_queries.specs.Finds.{Finds};
 ghost use Rattle.reg_files.specs.Serving.{scope_of, AreSame, AreOther, WritesAs};
-ghost use Rattle.reg_files.specs.Serving.{StopsListing, StopsGetting, StopsFinding, WriteStops, StopsWriting};
+ghost use Rattle.reg_files.specs.Serving.{StopsListing, StopsGetting, StopsFinding, StopsDiffing, WriteStops, StopsWriting};
+ghost use Rattle.reg_files.specs.Internal.Cuts.{is_cut, is_diff_end_cut};
 
 use crate::device::Device;
 use crate::fault::{DiffEnd, Fault, Step, taken};
@@ -22,7 +23,9 @@ use std::rt::Files;
 const SAME: &[u8] = b"same\n";
 
 /// Opens a file to be read.
-pub fn open<H: Files>(host: &H, file: &str) -> Result<Device<H::File>, Fault> {
+pub fn open<H: Files>(host: &H, file: &str) -> Result<Device<H::File>, Fault>
+    ensures err { IfErr result (λ fault. is_cut fault ≡ false) }
+{
     Ok(Device::new(taken(Step::Open, File::open(host, file))?))
 }
 
@@ -37,7 +40,7 @@ pub fn list_key<H: Files, W: Write>(
 ) -> Result<(), Fault>
     ensures ok { OnOk result ((unread : Option (List ℕ)) × (left : Option (List ℕ))
         × Lists unread left path.now is_whole (W.contents output.old) (W.contents output.new)) }
-    ensures err { OnErr result (StopsListing path.now is_whole (W.contents output.old) (W.contents output.new)) }
+    ensures err { IfErr result (λ fault. StopsListing (is_cut fault) path.now is_whole (W.contents output.old) (W.contents output.new)) }
 {
     let mut image = open(host, file)?;
     match list(alloc, &mut image, path.as_bytes(), is_whole, output) {
@@ -58,7 +61,7 @@ pub fn get_value<H: Files, W: Write>(
 ) -> Result<(), Fault>
     ensures ok { OnOk result ((unread : Option (List ℕ)) × (left : Option (List ℕ))
         × Gets unread left path.now name.now is_raw (W.contents output.old) (W.contents output.new)) }
-    ensures err { OnErr result (StopsGetting path.now name.now is_raw (W.contents output.old) (W.contents output.new)) }
+    ensures err { IfErr result (λ fault. StopsGetting (is_cut fault) path.now name.now is_raw (W.contents output.old) (W.contents output.new)) }
 {
     let mut image = open(host, file)?;
     match get(
@@ -85,7 +88,7 @@ pub fn find_in<H: Files, W: Write>(
 ) -> Result<(), Fault>
     ensures ok { OnOk result ((unread : Option (List ℕ)) × (left : Option (List ℕ))
         × Finds unread left pattern.now (scope_of places) (W.contents output.old) (W.contents output.new)) }
-    ensures err { OnErr result (StopsFinding pattern.now (scope_of places) (W.contents output.old) (W.contents output.new)) }
+    ensures err { IfErr result (λ fault. StopsFinding (is_cut fault) pattern.now (scope_of places) (W.contents output.old) (W.contents output.new)) }
 {
     let mut image = open(host, file)?;
     let scope = Scope {
@@ -109,8 +112,8 @@ fn export_as<R: Source, W: Write>(
 ) -> Result<(), Fault>
     ensures ok { OnOk result (WritesAs form (R.remaining image.old) (R.remaining image.new) path.now (W.contents output.old)
         (W.contents output.new)) }
-    ensures err { OnErr result (WriteStops form (R.remaining image.old) (R.remaining image.new) path.now (W.contents output.old)
-        (W.contents output.new)) }
+    ensures err { IfErr result (λ fault. WriteStops form (is_cut fault) (R.remaining image.old) (R.remaining image.new) path.now
+        (W.contents output.old) (W.contents output.new)) }
 {
     match form {
         Form::Reg { is_utf8 } => export(alloc, image, path, is_utf8, output)?,
@@ -131,7 +134,7 @@ pub fn export_key<H: Files, W: Write>(
 ) -> Result<(), Fault>
     ensures ok { OnOk result ((unread : Option (List ℕ)) × (left : Option (List ℕ))
         × WritesAs form unread left path.now (W.contents output.old) (W.contents output.new)) }
-    ensures err { OnErr result (StopsWriting form path.now (W.contents output.old) (W.contents output.new)) }
+    ensures err { IfErr result (λ fault. StopsWriting form (is_cut fault) path.now (W.contents output.old) (W.contents output.new)) }
 {
     let mut image = open(host, file)?;
     match export_as(alloc, &mut image, path.as_bytes(), form, output) {
@@ -150,6 +153,7 @@ fn compare<R: Source, S: Source, W: Write>(
     ensures status { IfOk result (λ status. status ≤ 1) }
     ensures same { IfOk result (λ status. status ≡ 0 → AreSame (W.contents output.old) (W.contents output.new)) }
     ensures other { IfOk result (λ status. status ≡ 1 → AreOther (W.contents output.old) (W.contents output.new)) }
+    ensures err { IfErr result (λ end. StopsDiffing (is_diff_end_cut end) (W.contents output.old) (W.contents output.new)) }
 {
     match diff(alloc, old, new, output) {
         Ok(true) => match write_text(SAME, output) {
@@ -172,9 +176,16 @@ pub fn diff_files<H: Files, W: Write>(
     ensures status { IfOk result (λ status. status ≤ 1) }
     ensures same { IfOk result (λ status. status ≡ 0 → AreSame (W.contents output.old) (W.contents output.new)) }
     ensures other { IfOk result (λ status. status ≡ 1 → AreOther (W.contents output.old) (W.contents output.new)) }
+    ensures err { IfErr result (λ end. StopsDiffing (is_diff_end_cut end) (W.contents output.old) (W.contents output.new)) }
 {
-    let mut old = open(host, old).map_err(DiffEnd::Old)?;
-    let mut new = open(host, new).map_err(DiffEnd::New)?;
+    let mut old = match open(host, old) {
+        Ok(old) => old,
+        Err(fault) => return Err(DiffEnd::Old(fault)),
+    };
+    let mut new = match open(host, new) {
+        Ok(new) => new,
+        Err(fault) => return Err(DiffEnd::New(fault)),
+    };
     match compare(alloc, &mut old, &mut new, output) {
         Ok(status) => Ok(status),
         Err(DiffEnd::Old(fault)) => Err(DiffEnd::Old(fault.of_file(&mut old))),

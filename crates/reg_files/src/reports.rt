@@ -1,18 +1,24 @@
 //! What ended a command on a file, reported.
 
-ghost use Rattle.std.specs.Prelude.{◌≡◌, ◌++◌, false, IfOk, MatchResult, codes, string_bytes, List, ℕ};
+ghost use Rattle.std.specs.Prelude.{◌≡◌, ◌++◌, false, ◌&&◌, IfOk, MatchResult, codes, string_bytes, List, ℕ};
 ghost use Rattle.reg_text.specs.Texts.{line_feed};
 ghost use Rattle.reg_command.specs.Failures.{IsSaid};
 ghost use Rattle.reg_files.specs.Serving.{IsReported};
+ghost use Rattle.reg_files.specs.Internal.Cuts.{is_cut, is_diff_end_cut, is_save_end_cut};
 ghost use Rattle.reg_files.specs.Internal.Outcomes.{Settles};
 
-use crate::fault::{DiffEnd, Fault};
+use crate::fault::{DiffEnd, Fault, SaveEnd};
 use reg_dotreg_reader::ReadFault;
+use reg_model::statuses::{
+    ACCESS_DENIED, FILE_NOT_FOUND, INVALID_HANDLE, INVALID_PARAMETER, KEY_DELETED,
+    NO_SYSTEM_RESOURCES, NOT_ENOUGH_MEMORY,
+};
 use reg_script::{FailedLine, ScriptFault};
 use reg_text::{Sink, write_counted, write_escaped};
 use reg_tree_image::LoadFault;
 use reg_words::EditRequest;
 use std::alloc::{AllocError, Global};
+use std::slice::from_ref;
 
 /// How many bytes of a line of a script are reported.
 const LINE_FRONT: usize = 100;
@@ -25,18 +31,30 @@ fn line_break_text(alloc: Global, file: &str, key: &[u8]) -> Result<String, Allo
     Ok(text)
 }
 
-/// The name of a status of a call that was refused, where it is one of the registry's.
+/// The name of a status by which a call that changes something is refused.
 fn status_name(status: u32) -> &'static str {
     match status {
-        2 => " (not found)",
-        5 => " (access denied)",
-        6 => " (invalid handle)",
-        8 => " (not enough memory)",
-        87 => " (invalid parameter)",
-        1018 => " (key deleted)",
-        1450 => " (no system resources)",
+        FILE_NOT_FOUND => " (file not found)",
+        ACCESS_DENIED => " (access denied)",
+        INVALID_HANDLE => " (invalid handle)",
+        NOT_ENOUGH_MEMORY => " (not enough memory)",
+        INVALID_PARAMETER => " (invalid parameter)",
+        KEY_DELETED => " (key deleted)",
+        NO_SYSTEM_RESOURCES => " (no system resources)",
         _ => "",
     }
+}
+
+/// Appends the front of a line of a script as it stands, with `%` and two digits in the place of what isn't printable.
+fn push_front(text: &mut String, line: &[u8]) -> Result<(), AllocError> {
+    for byte in line {
+        if byte.is_ascii_graphic() || *byte == b' ' {
+            text.push(char::from(*byte))?;
+        } else {
+            write_escaped(text, from_ref(byte))?;
+        }
+    }
+    Ok(())
 }
 
 /// What is reported of a line of a script that failed: its number, its call, and why.
@@ -44,15 +62,8 @@ fn failed_line_text(alloc: Global, line: &FailedLine) -> Result<String, AllocErr
     let number = line.number;
     let mut text = format!(in alloc; "line {number} of standard input: ")?;
     let front = LINE_FRONT.min(line.text.len());
-    for word in line.text.as_slice()[..front].split(|byte| *byte == b' ') {
-        if !word.is_empty() {
-            write_escaped(&mut text, word)?;
-            text.push_str(" ")?;
-        }
-    }
-    if front < line.text.len() {
-        text.push_str(".. ")?;
-    }
+    push_front(&mut text, &line.text.as_slice()[..front])?;
+    text.push_str(if front < line.text.len() { " .. " } else { " " })?;
     let reason = match line.status {
         Some(status) => {
             let name = status_name(status);
@@ -132,7 +143,7 @@ pub fn settle<E: Sink>(
     is_closed: bool,
     done: Result<(), Fault>,
 ) -> u8
-    ensures { Settles is_closed done result (E.contents errors.old) (E.contents errors.new) (E.failures errors.old) (E.failures errors.new) }
+    ensures { Settles is_cut is_closed done result (E.contents errors.old) (E.contents errors.new) (E.failures errors.old) (E.failures errors.new) }
 {
     match done {
         Ok(()) => 0,
@@ -152,20 +163,22 @@ fn blamed<'a>(edit: &EditRequest<'a>, fault: &Fault) -> &'a str {
     }
 }
 
-/// Ends a command that saves a file, and answers its status. What ended it early is reported of the file that it is about.
+/// Ends a command that saves a file, and answers its status. What ended it early is reported of the file that it is about, save that a write
+/// failed since nobody reads the output any more.
 pub fn settle_save<E: Sink>(
     alloc: Global,
     errors: &mut E,
     edit: &EditRequest<'_>,
     is_closed: bool,
-    done: Result<(), Fault>,
+    done: Result<(), SaveEnd>,
 ) -> u8
-    ensures { Settles is_closed done result (E.contents errors.old) (E.contents errors.new) (E.failures errors.old) (E.failures errors.new) }
+    ensures { Settles is_save_end_cut is_closed done result (E.contents errors.old) (E.contents errors.new)
+        (E.failures errors.old) (E.failures errors.new) }
 {
     match done {
         Ok(()) => 0,
-        Err(Fault::Script(ScriptFault::Write { .. })) if is_closed => 1,
-        Err(fault) => {
+        Err(SaveEnd::Hive(Fault::Script(ScriptFault::Write { .. }))) if is_closed => 1,
+        Err(SaveEnd::Hive(fault)) | Err(SaveEnd::Files(fault)) => {
             report(alloc, errors, blamed(edit, &fault), &fault);
             1
         }
@@ -182,7 +195,8 @@ pub fn settle_diff<E: Sink>(
     done: Result<u8, DiffEnd>,
 ) -> u8
     ensures { MatchResult done (λ status. (result ≡ status) × (E.contents errors.new ≡ E.contents errors.old))
-        (λ _. (result ≡ 1) × IsReported is_closed (E.contents errors.old) (E.contents errors.new) (E.failures errors.old) (E.failures errors.new)) }
+        (λ end. (result ≡ 1) × IsReported (is_closed && is_diff_end_cut end) (E.contents errors.old) (E.contents errors.new)
+        (E.failures errors.old) (E.failures errors.new)) }
 {
     match done {
         Ok(status) => status,

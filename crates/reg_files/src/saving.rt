@@ -1,7 +1,13 @@
 //! Hives written to files, whole or not at all.
 
+ghost use Rattle.std.specs.Prelude.{OnOk, OnErr, IfErr};
+ghost use Rattle.std.specs.Io.KnownBytes.{Appends};
+ghost use Rattle.reg_command.specs.Failures.{IsFront};
+ghost use Rattle.reg_files.specs.Internal.Cuts.{IsOfStep};
+ghost use Rattle.reg_files.specs.Saves.{image_to_save};
+
 use crate::device::Device;
-use crate::fault::{Fault, Step, taken};
+use crate::fault::{Fault, Step, refused, taken};
 use reg_callbacks::NoCallback;
 use reg_calls::Hive;
 use reg_image::write_hive;
@@ -47,10 +53,10 @@ fn create_beside<H: Files>(
         match made {
             Ok(file) => return Ok((file, name)),
             Err(error) if error.kind() == ErrorKind::AlreadyExists => {}
-            Err(error) => return taken(Step::Create, Err(error)),
+            Err(error) => return Err(refused(Step::Create, error)),
         }
     }
-    taken(Step::Create, Err(ErrorKind::AlreadyExists.into()))
+    Err(refused(Step::Create, ErrorKind::AlreadyExists.into()))
 }
 
 /// Gives a new file the owner and the group of another one, as far as the system allows it, and answers the bits of that one's mode
@@ -83,13 +89,23 @@ fn permit<H: Files>(
     taken(Step::Permit, file.set_permissions(permissions))
 }
 
+/// Writes the image of a hive to a file, or a front of it where a write is refused.
+fn write_image<F: Write>(device: &mut Device<F>, saved: Saved<'_>) -> Result<(), Fault>
+    ensures ok { OnOk result (Appends (F.contents device.old.device) (F.contents device.new.device) (image_to_save saved.entry)) }
+    ensures err { OnErr result (IsFront (image_to_save saved.entry) (F.contents device.old.device) (F.contents device.new.device)) }
+    ensures of_step { IfErr result (λ fault. IsOfStep Step.Write fault) }
+{
+    match write_hive(saved.hive, saved.moment, saved.sequence, device) {
+        Ok(()) => Ok(()),
+        Err(_) => Err(refused(Step::Write, device.take_error())),
+    }
+}
+
 /// Writes the image of a hive to a new file, and has the system keep it.
 fn fill<F: Write + OpenFile + Drop>(file: F, saved: Saved<'_>) -> Result<(), Fault> {
     let mut device = Device::new(file);
-    match write_hive(saved.hive, saved.moment, saved.sequence, &mut device) {
-        Ok(()) => taken(Step::Sync, device.inner().sync_all()),
-        Err(_) => taken(Step::Write, Err(device.take_error())),
-    }
+    write_image(&mut device, saved)?;
+    taken(Step::Sync, device.inner().sync_all())
 }
 
 /// Has the system keep the names in the folder of a path.

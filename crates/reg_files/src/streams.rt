@@ -1,9 +1,11 @@
 //! What is asked of the standard streams, asked of files.
 
-ghost use Rattle.std.specs.Prelude.{◌≡◌, ◌≤◌, MatchResult, map};
+ghost use Rattle.std.specs.Prelude.{◌≡◌, ◌≤◌, true, MatchResult, map};
 ghost use Rattle.std.specs.Io.KnownBytes.{Appends};
-ghost use Rattle.reg_command.specs.Failures.{IsFront};
-ghost use Rattle.reg_files.specs.Serving.{name_before, Answers, AnswerStops, StopReported, DumpStops, Checks, ChecksEach, ChecksFiles};
+ghost use Rattle.reg_files.specs.Serving.{IsCutShort, name_before, NameStops, Answers, AnswerStops, StopReported, DumpStops};
+ghost use Rattle.reg_files.specs.Serving.{Checks, ChecksEach, ChecksFiles};
+ghost use Rattle.reg_text.specs.Failures.{Stays, Fails};
+ghost use Rattle.reg_files.specs.Internal.Cuts.{is_cut, CutBlames};
 ghost use Rattle.reg_words.specs.declared.request.StreamRequest.{StreamRequest};
 
 use crate::device::Output;
@@ -73,10 +75,12 @@ pub fn dump_file<H: Files, W: Output, E: Sink>(
     }
 }
 
-/// Writes a text; `Cut` after a front of it.
-pub fn write_text<W: Write>(text: &[u8], output: &mut W) -> Result<(), Fault>
-    ensures { MatchResult result (λ _. Appends (W.contents output.old) (W.contents output.new) text.now)
-        (λ _. IsFront text.now (W.contents output.old) (W.contents output.new)) }
+/// Writes a text; `Cut` after a front of it, where a write failed.
+pub fn write_text<W: Sink>(text: &[u8], output: &mut W) -> Result<(), Fault>
+    ensures written { MatchResult result (λ _. Appends (W.contents output.old) (W.contents output.new) text.now)
+        (λ fault. (is_cut fault ≡ true) × IsCutShort text.now (W.contents output.old) (W.contents output.new)) }
+    ensures failures { MatchResult result (λ _. Stays (W.failures output.old) (W.failures output.new))
+        (λ _. Fails (W.failures output.old) (W.failures output.new)) }
 {
     let written = write_counted(output, text);
     if written < text.len() {
@@ -86,14 +90,16 @@ pub fn write_text<W: Write>(text: &[u8], output: &mut W) -> Result<(), Fault>
 }
 
 /// Writes what stands before what is written of a file: its name, where it is named.
-fn write_name<W: Write>(
+fn write_name<W: Sink>(
     alloc: Global,
     file: &str,
     is_named: bool,
     output: &mut W,
 ) -> Result<(), Fault>
-    ensures { MatchResult result (λ _. Appends (W.contents output.old) (W.contents output.new) (name_before is_named file.now))
-        (λ _. IsFront (name_before is_named file.now) (W.contents output.old) (W.contents output.new)) }
+    ensures written { MatchResult result (λ _. Appends (W.contents output.old) (W.contents output.new) (name_before is_named file.now))
+        (λ fault. NameStops (is_cut fault) (name_before is_named file.now) (W.contents output.old) (W.contents output.new)) }
+    ensures failures { MatchResult result (λ _. Stays (W.failures output.old) (W.failures output.new))
+        (λ fault. CutBlames (is_cut fault) (W.failures output.old) (W.failures output.new)) }
 {
     if !is_named {
         return Ok(());

@@ -1,8 +1,10 @@
 -- How two images differ, put together of what was read of the old one and what was written of the new one.
 use Rattle.std.proofs.Common.{List, ℕ, Bool}
-use Rattle.std.specs.Prelude.{Option, Result, Ok, Err, IfOk, IfErr}
+use Rattle.std.specs.Prelude.{Option, Result, Ok, Err, IfOk, IfErr, MatchResult}
+use Rattle.reg_text.specs.Failures.{Stays}
 use Rattle.reg_heap.specs.Paths.{Tree}
 use Rattle.reg_tree_image.specs.Loads.{ReadsImage}
+use Rattle.reg_queries.specs.Blames.{NoneFailed, DiffFromBlames, DiffBlames}
 use Rattle.reg_queries.specs.Differs.{Differs, DiffersFrom, DiffStops, DiffFromStops}
 use Rattle.reg_queries.specs.declared.fault.DiffFault.{DiffFault}
 use Rattle.reg_queries.specs.declared.fault.DiffFault.TheVariants.{Old, New, Stopped}
@@ -24,3 +26,17 @@ module _ (unread_old left_old unread_new left_new : Option (List ℕ)) (old : Tr
       IfErr r (λ fault. DiffStops fault unread_old left_old unread_new left_new before after)
   stopped (Ok v) h = h
   stopped (Err fault) h = stops fault h
+
+-- the old image was read, and of its reader no call failed
+module _ (read now_read new now_new written now_written : Option ℕ) (unfailed : Stays read now_read) where
+  blames : (fault : DiffFault) → DiffFromBlames fault new now_new written now_written → DiffBlames fault read now_read new now_new written now_written
+  blames (Old fault) h = absurd h
+  blames (New fault) h = (unfailed, h.0, h.1)
+  blames (Stopped fault) h = (unfailed, h.0, h.1)
+
+  pub blamed : {T : Type 0} (r : Result T DiffFault) →
+      MatchResult r (λ _. NoneFailed new now_new written now_written) (λ fault. DiffFromBlames fault new now_new written now_written) →
+      MatchResult r (λ _. Stays read now_read × NoneFailed new now_new written now_written)
+      (λ fault. DiffBlames fault read now_read new now_new written now_written)
+  blamed (Ok v) h = (unfailed, h)
+  blamed (Err fault) h = blames fault h

@@ -1,3 +1,4 @@
+pub mod Blames
 pub mod Queries
 pub mod Finds
 pub mod Differs

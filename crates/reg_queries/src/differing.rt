@@ -1,17 +1,18 @@
 //! Two trees loaded from images, and how they differ written.
 
-ghost use Rattle.std.specs.Prelude.{IfOk, IfErr};
+ghost use Rattle.std.specs.Prelude.{IfOk, OnOk, IfErr, MatchResult};
+ghost use Rattle.reg_text.specs.Failures.{Stays};
+ghost use Rattle.reg_queries.specs.Blames.{NoneFailed, DiffFromBlames, DiffBlames};
 ghost use Rattle.reg_queries.specs.Differs.{Differs, DiffersFrom, DiffStops, DiffFromStops};
 
 use crate::DiffFault;
-use reg_text::Source;
+use reg_text::{Sink, Source};
 use reg_tree::Tree;
 use reg_tree_image::load_tree;
 use std::alloc::Global;
-use std::io::Write;
 
 /// Loads a new tree from an image and writes how it differs from an old one.
-fn diff_from<R: Source, W: Write>(
+fn diff_from<R: Source, W: Sink>(
     alloc: Global,
     old: &Tree,
     new: &mut R,
@@ -21,6 +22,10 @@ fn diff_from<R: Source, W: Write>(
         (W.contents output.old) (W.contents output.new)) }
     ensures err { IfErr result (λ fault. DiffFromStops fault old.now.tree (R.remaining new.old) (R.remaining new.new)
         (W.contents output.old) (W.contents output.new)) }
+    ensures flushed { OnOk result (W.is_flushed output.new) }
+    ensures failures { MatchResult result
+        (λ _. NoneFailed (R.failures new.old) (R.failures new.new) (W.failures output.old) (W.failures output.new))
+        (λ fault. DiffFromBlames fault (R.failures new.old) (R.failures new.new) (W.failures output.old) (W.failures output.new)) }
 {
     let tree = match load_tree(alloc, new) {
         Ok(tree) => tree,
@@ -37,7 +42,7 @@ fn diff_from<R: Source, W: Write>(
 ///
 /// `Old` where the old image doesn't load, and then nothing was read of the new one; else `New` where the new one doesn't. With either
 /// nothing was written. Else `Stopped` after a front of the text.
-pub fn diff<R: Source, S: Source, W: Write>(
+pub fn diff<R: Source, S: Source, W: Sink>(
     alloc: Global,
     old: &mut R,
     new: &mut S,
@@ -47,6 +52,12 @@ pub fn diff<R: Source, S: Source, W: Write>(
         is_same (W.contents output.old) (W.contents output.new)) }
     ensures err { IfErr result (λ fault. DiffStops fault (R.remaining old.old) (R.remaining old.new)
         (S.remaining new.old) (S.remaining new.new) (W.contents output.old) (W.contents output.new)) }
+    ensures flushed { OnOk result (W.is_flushed output.new) }
+    ensures failures { MatchResult result
+        (λ _. Stays (R.failures old.old) (R.failures old.new)
+        × NoneFailed (S.failures new.old) (S.failures new.new) (W.failures output.old) (W.failures output.new))
+        (λ fault. DiffBlames fault (R.failures old.old) (R.failures old.new) (S.failures new.old) (S.failures new.new)
+        (W.failures output.old) (W.failures output.new)) }
 {
     let tree = match load_tree(alloc, old) {
         Ok(tree) => tree,

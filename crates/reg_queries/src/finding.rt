@@ -1,17 +1,17 @@
 //! A tree loaded from an image, and what a pattern finds in it written.
 
-ghost use Rattle.std.specs.Prelude.{OnOk, IfErr};
+ghost use Rattle.std.specs.Prelude.{OnOk, IfErr, MatchResult};
 ghost use Rattle.reg_queries.specs.Finds.{Finds, FindsBy, FindStops, SearchStops};
+ghost use Rattle.reg_queries.specs.Blames.{NoneFailed, FindBlames};
 
 use crate::FindFault;
 use reg_find::{Pattern, PatternFault, Scope, compile};
-use reg_text::Source;
+use reg_text::{Sink, Source};
 use reg_tree_image::load_tree;
 use std::alloc::Global;
-use std::io::Write;
 
 /// Loads a tree from an image and writes what a pattern finds in it.
-fn search<R: Source, P: Pattern, W: Write>(
+fn search<R: Source, P: Pattern, W: Sink>(
     alloc: Global,
     image: &mut R,
     pattern: &mut P,
@@ -22,6 +22,10 @@ fn search<R: Source, P: Pattern, W: Write>(
         (W.contents output.old) (W.contents output.new)) }
     ensures err { IfErr result (λ fault. SearchStops fault (R.remaining image.old) (R.remaining image.new) (P.matches pattern.old) scope
         (W.contents output.old) (W.contents output.new)) }
+    ensures flushed { OnOk result (W.is_flushed output.new) }
+    ensures failures { MatchResult result
+        (λ _. NoneFailed (R.failures image.old) (R.failures image.new) (W.failures output.old) (W.failures output.new))
+        (λ fault. FindBlames fault (R.failures image.old) (R.failures image.new) (W.failures output.old) (W.failures output.new)) }
 {
     let tree = match load_tree(alloc, image) {
         Ok(tree) => tree,
@@ -37,7 +41,7 @@ fn search<R: Source, P: Pattern, W: Write>(
 ///
 /// `Pattern` where the text is none, or too large a one, or memory was refused for it, and then nothing was read; else `Load` where
 /// the image doesn't load. With either nothing was written. Else `Stopped` after a front of the text.
-pub fn find<R: Source, W: Write>(
+pub fn find<R: Source, W: Sink>(
     alloc: Global,
     image: &mut R,
     pattern: &str,
@@ -48,6 +52,10 @@ pub fn find<R: Source, W: Write>(
         (W.contents output.old) (W.contents output.new)) }
     ensures err { IfErr result (λ fault. FindStops fault (R.remaining image.old) (R.remaining image.new) pattern.now scope
         (W.contents output.old) (W.contents output.new)) }
+    ensures flushed { OnOk result (W.is_flushed output.new) }
+    ensures failures { MatchResult result
+        (λ _. NoneFailed (R.failures image.old) (R.failures image.new) (W.failures output.old) (W.failures output.new))
+        (λ fault. FindBlames fault (R.failures image.old) (R.failures image.new) (W.failures output.old) (W.failures output.new)) }
 {
     let regex = match compile(alloc, pattern) {
         Ok(regex) => regex,

@@ -1,18 +1,18 @@
 //! A tree loaded from an image, and a key of it listed, or a value of a key written.
 
-ghost use Rattle.std.specs.Prelude.{OnOk, IfErr};
+ghost use Rattle.std.specs.Prelude.{OnOk, IfErr, MatchResult};
 ghost use Rattle.reg_tree_text.specs.PathQueries.{ListStops, GetStops};
 ghost use Rattle.reg_queries.specs.Queries.{Lists, Gets, QueryStops};
+ghost use Rattle.reg_queries.specs.Blames.{NoneFailed, QueryBlames};
 
 use crate::QueryFault;
-use reg_text::Source;
+use reg_text::{Sink, Source};
 use reg_tree_image::load_tree;
 use reg_tree_text::{get_at, list_at};
 use std::alloc::Global;
-use std::io::Write;
 
 /// Loads a tree from an image and lists the key at a path, with all that is below it or without.
-pub fn list<R: Source, W: Write>(
+pub fn list<R: Source, W: Sink>(
     alloc: Global,
     image: &mut R,
     path: &[u8],
@@ -24,6 +24,10 @@ pub fn list<R: Source, W: Write>(
     ensures err { IfErr result (λ fault. QueryStops fault (R.remaining image.old) (R.remaining image.new)
         (λ tree ended. ListStops ended tree path.now is_whole (W.contents output.old) (W.contents output.new))
         (W.contents output.old) (W.contents output.new)) }
+    ensures flushed { OnOk result (W.is_flushed output.new) }
+    ensures failures { MatchResult result
+        (λ _. NoneFailed (R.failures image.old) (R.failures image.new) (W.failures output.old) (W.failures output.new))
+        (λ fault. QueryBlames fault (R.failures image.old) (R.failures image.new) (W.failures output.old) (W.failures output.new)) }
 {
     let tree = match load_tree(alloc, image) {
         Ok(tree) => tree,
@@ -36,7 +40,7 @@ pub fn list<R: Source, W: Write>(
 }
 
 /// Loads a tree from an image and writes the value of a name of the key at a path.
-pub fn get<R: Source, W: Write>(
+pub fn get<R: Source, W: Sink>(
     alloc: Global,
     image: &mut R,
     path: &[u8],
@@ -49,6 +53,10 @@ pub fn get<R: Source, W: Write>(
     ensures err { IfErr result (λ fault. QueryStops fault (R.remaining image.old) (R.remaining image.new)
         (λ tree ended. GetStops ended tree path.now name.now is_raw (W.contents output.old) (W.contents output.new))
         (W.contents output.old) (W.contents output.new)) }
+    ensures flushed { OnOk result (W.is_flushed output.new) }
+    ensures failures { MatchResult result
+        (λ _. NoneFailed (R.failures image.old) (R.failures image.new) (W.failures output.old) (W.failures output.new))
+        (λ fault. QueryBlames fault (R.failures image.old) (R.failures image.new) (W.failures output.old) (W.failures output.new)) }
 {
     let tree = match load_tree(alloc, image) {
         Ok(tree) => tree,

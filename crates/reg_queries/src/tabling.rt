@@ -1,17 +1,17 @@
 //! A tree loaded from an image, and a key of it written as JSON or CSV.
 
-ghost use Rattle.std.specs.Prelude.{OnOk, IfErr};
+ghost use Rattle.std.specs.Prelude.{OnOk, IfErr, MatchResult};
 ghost use Rattle.reg_tables.specs.Tables.{json_text, csv_text, TableStops};
 ghost use Rattle.reg_queries.specs.Queries.{Tabulates, QueryStops};
+ghost use Rattle.reg_queries.specs.Blames.{NoneFailed, QueryBlames};
 
 use crate::QueryFault;
-use reg_text::Source;
+use reg_text::{Sink, Source};
 use reg_tree_image::load_tree;
 use std::alloc::Global;
-use std::io::Write;
 
 /// Loads a tree from an image and writes the key at a path with all below it as JSON ([`reg_tables::export_json`]).
-pub fn export_json<R: Source, W: Write>(
+pub fn export_json<R: Source, W: Sink>(
     alloc: Global,
     image: &mut R,
     path: &[u8],
@@ -22,6 +22,10 @@ pub fn export_json<R: Source, W: Write>(
     ensures err { IfErr result (λ fault. QueryStops fault (R.remaining image.old) (R.remaining image.new)
         (λ tree ended. TableStops ended tree path.now (json_text tree) (W.contents output.old) (W.contents output.new))
         (W.contents output.old) (W.contents output.new)) }
+    ensures flushed { OnOk result (W.is_flushed output.new) }
+    ensures failures { MatchResult result
+        (λ _. NoneFailed (R.failures image.old) (R.failures image.new) (W.failures output.old) (W.failures output.new))
+        (λ fault. QueryBlames fault (R.failures image.old) (R.failures image.new) (W.failures output.old) (W.failures output.new)) }
 {
     let tree = match load_tree(alloc, image) {
         Ok(tree) => tree,
@@ -34,7 +38,7 @@ pub fn export_json<R: Source, W: Write>(
 }
 
 /// Loads a tree from an image and writes the key at a path with all below it as CSV ([`reg_tables::export_csv`]).
-pub fn export_csv<R: Source, W: Write>(
+pub fn export_csv<R: Source, W: Sink>(
     alloc: Global,
     image: &mut R,
     path: &[u8],
@@ -45,6 +49,10 @@ pub fn export_csv<R: Source, W: Write>(
     ensures err { IfErr result (λ fault. QueryStops fault (R.remaining image.old) (R.remaining image.new)
         (λ tree ended. TableStops ended tree path.now (csv_text tree) (W.contents output.old) (W.contents output.new))
         (W.contents output.old) (W.contents output.new)) }
+    ensures flushed { OnOk result (W.is_flushed output.new) }
+    ensures failures { MatchResult result
+        (λ _. NoneFailed (R.failures image.old) (R.failures image.new) (W.failures output.old) (W.failures output.new))
+        (λ fault. QueryBlames fault (R.failures image.old) (R.failures image.new) (W.failures output.old) (W.failures output.new)) }
 {
     let tree = match load_tree(alloc, image) {
         Ok(tree) => tree,

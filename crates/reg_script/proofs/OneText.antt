@@ -194,7 +194,7 @@ notice_same a b v w m m' h k s =
 same_along : (a b x y : Stand) → a ≡ x → b ≡ y → Same x y → Same a b
 same_along a b x y e f s = subst (λ (p : Stand). Same p b) (sym e) (subst (λ (q : Stand). Same x q) (sym f) s)
 
--- the same settings, and hives where replies are the same
+-- where two scripts stand alike, they still do on other hives that give the same replies
 same_then : (a b a' b' : Stand) → a' ≡ record a { hive = a'.hive } → b' ≡ record b { hive = b'.hive } → Same a b →
     a'.hive.origin ≡ b'.hive.origin → a'.hive.journal ≡ b'.hive.journal →
     ((x : ℕ) → taken_in a'.hive x ≡ taken_in b'.hive x) → Same a' b'

@@ -126,8 +126,8 @@ or_true : (other : Bool) → (other || true) ≡ true
 or_true true = refl
 or_true false = refl
 
--- the same handle may not set a descriptor nor read one; an empty one is refused before its rights are asked, for a key to be made too; a
--- room of `-`, and an empty word where a descriptor may stand
+-- a handle with the mask 1 may not set a descriptor nor read one; an empty descriptor is refused before its rights are asked,
+-- for a key to be made too; a room of `-` and an empty word where a descriptor may stand are bad
 refused_securities : (hive : View) → IsHive (opened hive) →
     Lines no_callbacks (begun hive) (codes "root 1\nsetsec 0 x0102\nsetsec 0 x\ngetsec 0 1\ncreate 0 =K 1 x\ngetsec 0 -\ncreate 0 =K 1 ")
     (codes "0 handle 0\n5\n87\n5\n87\nbad\nbad\n") (opened hive)

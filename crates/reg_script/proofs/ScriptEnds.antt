@@ -65,13 +65,13 @@ IsWhole begin callbacks hive new moment failed unread left before after =
     (script : List ℕ) × (text : List ℕ) × Consumes unread left script × LinesFrom begin callbacks hive script text new moment × Appends before after text ×
     AreWithin (lines_of script) × HaveFailed failed (lines_of script) hive new
 
--- the same without how many failed
+-- what was written is the script's lines, the last of which left the moment so
 abbrev pub IsRunTo : ℕ → Callbacks → View → View → ℕ → Option (List ℕ) → Option (List ℕ) → Option (List ℕ) → Option (List ℕ) → Type 0
 IsRunTo begin callbacks hive new moment unread left before after =
     (script : List ℕ) × (text : List ℕ) × Consumes unread left script × LinesFrom begin callbacks hive script text new moment × Appends before after text ×
     AreWithin (lines_of script)
 
--- and without the moment
+-- what was written is the script's lines
 abbrev pub IsRun : Callbacks → View → View → Option (List ℕ) → Option (List ℕ) → Option (List ℕ) → Option (List ℕ) → Type 0
 IsRun callbacks hive new unread left before after =
     (script : List ℕ) × (text : List ℕ) × Consumes unread left script × Lines callbacks hive script text new × Appends before after text ×

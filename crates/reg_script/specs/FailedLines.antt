@@ -17,6 +17,7 @@ use Rattle.reg_script.specs.ReplyTexts.{outcome_text}
 use Rattle.reg_script.specs.Lines.{Stand, begins_at, AreSaid}
 use Rattle.reg_script.specs.Stops.{HasNoFeed, AreWithin, IsTaken, EndsWithFeed, StopsFrom}
 
+-- whether a call asks for a change
 abbrev pub is_change : Call → Bool
 is_change (Change change) = true
 is_change (Query query) = false
@@ -31,6 +32,7 @@ wants_entry (asks call) = is_change call
 wants_entry takes_notice = false
 wants_entry bad = true
 
+-- one where a test holds, and none where it doesn't
 abbrev pub one_if : Bool → ℕ
 one_if test = if test then 1 else 0
 

@@ -58,12 +58,13 @@ abbrev pub Lines : Callbacks → View → List ℕ → List ℕ → View → Typ
 Lines callbacks old script text new =
     (last : Stand) × AreSaid (lines_of script) (begins callbacks old) text last × (last.hive ≡ new)
 
--- the same from this moment on, where that is the moment of the last line that sets one
+-- a script that begins at one moment may write this text, leave the hive so, and end at another: that of the last line that sets one, if any
 abbrev pub LinesFrom : ℕ → Callbacks → View → List ℕ → List ℕ → View → ℕ → Type 0
 LinesFrom begin callbacks old script text new moment =
     (last : Stand) × AreSaid (lines_of script) (begins_at begin callbacks old) text last × (last.hive ≡ new)
     × (last.moment ≡ moment)
 
+-- a script that begins at the moment 0 may write this text, leave the hive so, and end at this moment
 abbrev pub LinesTo : Callbacks → View → List ℕ → List ℕ → View → ℕ → Type 0
 LinesTo callbacks old script text new moment = LinesFrom 0 callbacks old script text new moment
 

@@ -21,10 +21,11 @@ fault_number (Write written) = 2
 fault_number TooLong = 3
 fault_number Memory = 4
 
--- the longest line of a script, in bytes without its LF, and how many lines it has at most
+-- the longest line of a script, in bytes without its LF
 unfoldable pub longest_line : ℕ
 longest_line = LINE_LIMIT
 
+-- how many lines a script has at most
 unfoldable pub most_lines : ℕ
 most_lines = LINES_LIMIT
 
@@ -91,6 +92,7 @@ pub record StopsFrom (begin : ℕ) (fault : ScriptFault) (unread left : Option (
   pub hive : new ≡ last.hive
   pub written : AreWritten fault text before after
 
+-- a script that began at the moment 0 ended with a fault
 abbrev pub Stops : ScriptFault → (unread left : Option (List ℕ)) → Callbacks → (old new : View) → (before after : Option (List ℕ)) → Type 0
 Stops fault unread left callbacks old new before after = StopsFrom 0 fault unread left callbacks old new before after
 

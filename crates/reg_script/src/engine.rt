@@ -369,11 +369,10 @@ fn run_script<R: Read, W: Write, C: Callback>(
 }
 
 /// Runs a script of registry calls on a hive and writes the replies, each on a line of its own; they are passed on before each read, so
-/// that calls can be made one by one. Where it succeeds, what
-/// was written is what the rules give for all that was read. A fault says what ended it early ([`ScriptFault`]); the
-/// replies to the lines before it stand, after `Write` just as many of their bytes as the writer took. Only lines that ended were
-/// answered: by an LF, or by the reader's end; after `Read` all of these. The hive is as those lines left it: no change is made
-/// and no notice taken whose reply lacks memory.
+/// that calls can be made one by one. Where it succeeds, what was written is what the rules give for all that was read. A fault says what
+/// ended it early ([`ScriptFault`]); the replies to the lines before it stand, after `Write` just as many of their bytes as the writer
+/// took. Only lines that ended were answered: by an LF, or by the reader's end; after `Read` all of these. The hive is as those lines left
+/// it: no change is made and no notice taken whose reply lacks memory.
 pub fn run<R: Read, W: Write, C: Callback>(
     alloc: Global,
     reader: &mut R,

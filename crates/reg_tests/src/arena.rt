@@ -72,7 +72,7 @@ fn four_cells_in(alloc: Global, arena: &mut Arena) -> Result<String, Fail> {
     Ok(format!(in alloc; "{offsets:?} {}", cells.as_str())?)
 }
 
-// The same of a new arena.
+// Four cells carved together in a new arena: their offsets, and all its cells.
 fn four_cells(alloc: Global) -> Result<String, Fail> {
     let mut arena = Arena::new(alloc);
     four_cells_in(alloc, &mut arena)
@@ -97,7 +97,7 @@ fn carved_in_a_hole_in(alloc: Global, arena: &mut Arena) -> Result<String, Fail>
     Ok(format!(in alloc; "{apart:?} {}", cells.as_str())?)
 }
 
-// The same of a new arena.
+// Two cells carved each by itself in a new arena with a hole that the second fits: their offsets, and all its cells.
 fn carved_in_a_hole(alloc: Global) -> Result<String, Fail> {
     let mut arena = Arena::new(alloc);
     carved_in_a_hole_in(alloc, &mut arena)
@@ -119,7 +119,7 @@ fn carved_in_bins_in(alloc: Global, arena: &mut Arena) -> Result<String, Fail> {
     Ok(format!(in alloc; "{apart:?} {}", cells.as_str())?)
 }
 
-// The same of a new arena.
+// Two cells carved each by itself in a new arena, each in a bin of its own: their offsets, and all its cells.
 fn carved_in_bins(alloc: Global) -> Result<String, Fail> {
     let mut arena = Arena::new(alloc);
     carved_in_bins_in(alloc, &mut arena)
@@ -150,7 +150,7 @@ fn carved_in_turn_in(alloc: Global, arena: &mut Arena) -> Result<String, Fail> {
     Ok(format!(in alloc; "{offsets:?} {}", cells.as_str())?)
 }
 
-// The same of a new arena.
+// Cells carved in four calls in a new arena: their offsets, and all its cells.
 fn carved_in_turn(alloc: Global) -> Result<String, Fail> {
     let mut arena = Arena::new(alloc);
     carved_in_turn_in(alloc, &mut arena)
@@ -184,7 +184,7 @@ fn filled_in(alloc: Global, arena: &mut Arena) -> Result<String, Fail> {
     )?)
 }
 
-// The same of a new arena.
+// How many cells of the largest size a new arena has room for, and what it answers then.
 fn filled(alloc: Global) -> Result<String, Fail> {
     let mut arena = Arena::new(alloc);
     filled_in(alloc, &mut arena)
@@ -203,7 +203,7 @@ fn three_freed_in(alloc: Global, arena: &mut Arena) -> Result<String, Fail> {
     shown(alloc, arena)
 }
 
-// The same of a new arena.
+// The cells of a new arena after four were carved and three of them freed.
 fn three_freed(alloc: Global) -> Result<String, Fail> {
     let mut arena = Arena::new(alloc);
     three_freed_in(alloc, &mut arena)
@@ -226,7 +226,7 @@ fn two_freed_in(alloc: Global, arena: &mut Arena) -> Result<String, Fail> {
     shown(alloc, arena)
 }
 
-// The same of a new arena.
+// The cells of a new arena whose two bins are each one freed cell.
 fn two_freed(alloc: Global) -> Result<String, Fail> {
     let mut arena = Arena::new(alloc);
     two_freed_in(alloc, &mut arena)
@@ -244,7 +244,7 @@ fn larger_carved_in(alloc: Global, arena: &mut Arena) -> Result<String, Fail> {
     shown(alloc, arena)
 }
 
-// The same of a new arena.
+// The cells of a new arena after a larger one was carved than either of its two freed bins has room for.
 fn larger_carved(alloc: Global) -> Result<String, Fail> {
     let mut arena = Arena::new(alloc);
     larger_carved_in(alloc, &mut arena)
@@ -276,7 +276,7 @@ fn carved_at_last_in(alloc: Global, arena: &mut Arena) -> Result<String, Fail> {
     Ok(text)
 }
 
-// The same of a new arena.
+// A cell that needs a new bin, carved in a new arena, and once more where memory was refused: what the last carve told.
 fn carved_at_last(alloc: Global) -> Result<String, Fail> {
     let mut arena = Arena::new(alloc);
     carved_at_last_in(alloc, &mut arena)

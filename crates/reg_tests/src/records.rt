@@ -148,7 +148,7 @@ fn list_put_in(alloc: Global, arena: &mut Arena) -> Result<Vec<u8>, Fail> {
     Ok(Vec::from_slice(alloc, arena.content(cell))?)
 }
 
-// The same in a new arena.
+// What a cell of a new arena holds once the list was put into it.
 fn list_put(alloc: Global) -> Result<Vec<u8>, Fail> {
     let mut arena = Arena::new(alloc);
     list_put_in(alloc, &mut arena)
@@ -175,7 +175,7 @@ fn planned_in(alloc: Global, arena: &Arena, name: &[u8], size: u32) -> Result<St
     Ok(format!(in alloc; "{sizes:?}")?)
 }
 
-// The same in a new arena, for a name of four characters.
+// The sizes of the cells that a first value of a name of four characters takes in a new arena.
 fn planned(alloc: Global, size: u32) -> Result<String, Fail>
     requires { size ≤ 1048576 }
 {

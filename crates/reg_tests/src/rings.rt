@@ -24,7 +24,7 @@ fn first_in(alloc: Global, arena: &mut Arena, table: &mut SecurityTable) -> Resu
     Ok(format!(in alloc; "{found:?} {:?}", arena.content(cell))?)
 }
 
-// The same of a new arena.
+// The first security of a new arena's ring: what its cell holds, and where its descriptor is found.
 fn first_security(alloc: Global) -> Result<String, Fail> {
     let mut arena = Arena::new(alloc);
     let mut table = SecurityTable::new(alloc);

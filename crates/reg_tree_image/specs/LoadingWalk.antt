@@ -168,7 +168,7 @@ module _ (heap : Heap) where
     name ← key_name key
     give (key, name)
 
-  -- the same, with no sibling of that name before it; `here` gives the path of a key of a name
+  -- a key's record and its name, which no sibling before it has; `here` gives the path of a key of a name
   abbrev pub head_from : List ℕ → (List ℕ → Path) → ℕ → Step (KeyRecord × List ℕ)
   head_from path here offset = do
     head ← named_key path offset

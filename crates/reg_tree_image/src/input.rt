@@ -42,7 +42,6 @@ pub fn fill<R: Source>(input: &mut R, buffer: &mut [u8]) -> Result<(), LoadFault
 }
 
 /// Reads so many bytes, part by part. The room for them grows with what comes, so that an image that ends too early costs no more than
-/// Reads so many bytes, part by part. The room for them grows with what comes, so that an image that ends too early costs no more than
 /// twice what it has and two parts, whatever size it tells.
 pub fn read_bytes<R: Source>(
     alloc: Global,

@@ -21,30 +21,31 @@ use Rattle.reg_words.specs.declared.request.Request.TheVariants.{Stream, Dump, C
 abbrev pub texts : {A : Type 0} → List (String A) → List (List ℕ)
 texts words = map string_bytes words
 
--- `clap`'s command `regtool`, one of whose subcommands must be there: `run` with the option `--image` of a number of 32 bits, which may be
--- left out; `dump`, which may have a file, and `check`, which may have files; `ls` with a file, a path that may be left out, and the flag
--- `--tree`; `get` with a file, a path, a value's name that may be left out, and the flag `--raw`; `find` with a file, a pattern and the
--- option `--in`; `diff` with two files; `export` with a file, a path that may be left out, the option `--as`, which must be given, and the
--- flag `--utf8`; `new` with a file and the option `--name`; and `edit` and `import`, each with a file, the options `--output` and `--at`,
--- which is a number of 64 bits, and the flags `--now` and `--dry-run`, and `edit` with the flag `--keep-going`
+-- a command one of whose subcommands must be given
 abbrev pub required : App → App
 required a = record a { top = record a.top { subcommand_required = true } }
 
+-- an option by its name, with one value
 abbrev pub option_rule : Text → Rule
 option_rule name = record (new_rule name) { long = Some name; value_names = 1 }
 
+-- an option with one value, which must be given
 abbrev pub required_rule : Text → Rule
 required_rule name = record (option_rule name) { required = true }
 
+-- an option without a value
 abbrev pub flag_rule : Text → Rule
 flag_rule name = record (new_rule name) { long = Some name; action = Some action.SetTrue }
 
+-- an argument by its place, which must be given or may be left out
 abbrev pub place_rule : Text → Bool → Rule
 place_rule name is_required = record (new_rule name) { value_names = 1; required = is_required }
 
+-- a file, by its place
 abbrev pub file_rule : Bool → Rule
 file_rule is_required = place_rule (codes "file") is_required
 
+-- files by their places: one or more where any is given
 abbrev pub files_rule : Rule
 files_rule = record (new_rule (codes "files")) {
   value_names = 1;
@@ -52,44 +53,55 @@ files_rule = record (new_rule (codes "files")) {
   range = Some (record { start_inclusive = 1; end_inclusive = usize_max });
 }
 
+-- the option `--at`: a moment, a number of 64 bits
 abbrev pub at_rule : Rule
 at_rule = record (option_rule (codes "at")) { parser = Some (parser.Unsigned 0 18446744073709551615) }
 
+-- the option `--image`: a sequence number, of 32 bits
 abbrev pub image_rule : Rule
 image_rule = record (option_rule (codes "image")) { parser = Some (parser.Signed (pos 0) (pos 4294967295)) }
 
+-- `run`, which may be asked for an image
 abbrev pub run_command : App
 run_command = with_rule (new_app (codes "run")) image_rule
 
+-- `dump`, of a file or of the standard input
 abbrev pub dump_command : App
 dump_command = with_rule (new_app (codes "dump")) (file_rule false)
 
+-- `check`, of files or of the standard input
 abbrev pub check_command : App
 check_command = with_rule (new_app (codes "check")) files_rule
 
+-- `ls`, of a file, with a path that may be left out, and whether the whole tree is listed
 abbrev pub list_command : App
 list_command =
     with_rule (with_rule (with_rule (new_app (codes "ls")) (file_rule true)) (place_rule (codes "path") false)) (flag_rule (codes "tree"))
 
+-- `get`, of a file and a path, with a value's name that may be left out, and whether the value's bytes alone are written
 abbrev pub get_command : App
 get_command =
     with_rule
     (with_rule (with_rule (with_rule (new_app (codes "get")) (file_rule true)) (place_rule (codes "path") true)) (place_rule (codes "value") false))
     (flag_rule (codes "raw"))
 
+-- `find`, of a file and a pattern, and where it is looked for
 abbrev pub find_command : App
 find_command =
     with_rule (with_rule (with_rule (new_app (codes "find")) (file_rule true)) (place_rule (codes "pattern") true)) (option_rule (codes "in"))
 
+-- `diff`, of an old file and a new one
 abbrev pub diff_command : App
 diff_command = with_rule (with_rule (new_app (codes "diff")) (place_rule (codes "old") true)) (place_rule (codes "new") true)
 
+-- `export`, of a file, with a path that may be left out, the form to write, and whether a `.reg` text is UTF-8
 abbrev pub export_command : App
 export_command =
     with_rule
     (with_rule (with_rule (with_rule (new_app (codes "export")) (file_rule true)) (place_rule (codes "path") false)) (required_rule (codes "as")))
     (flag_rule (codes "utf8"))
 
+-- `new`, of a file, and the name of its root
 abbrev pub new_command : App
 new_command = with_rule (with_rule (new_app (codes "new")) (file_rule true)) (option_rule (codes "name"))
 
@@ -100,16 +112,18 @@ saving_command name =
     (with_rule (with_rule (with_rule (with_rule (new_app name) (file_rule true)) (option_rule (codes "output"))) (flag_rule (codes "now"))) at_rule)
     (flag_rule (codes "dry-run"))
 
+-- `edit`, which saves a file, and whether it goes on after lines that fail
 abbrev pub edit_command : App
 edit_command = with_rule (saving_command (codes "edit")) (flag_rule (codes "keep-going"))
 
--- the commands that work on the standard streams, these with those that look into a file, and all
+-- the tool's command with the subcommands that work on the standard streams
 abbrev pub stream_commands : App
 stream_commands =
     with_subcommand
     (with_subcommand (with_subcommand (required (new_app (codes "regtool"))) run_command.top) dump_command.top)
     check_command.top
 
+-- the tool's command with the subcommands that look into a file too
 abbrev pub looking_commands : App
 looking_commands =
     with_subcommand
@@ -118,6 +132,12 @@ looking_commands =
     diff_command.top)
     export_command.top
 
+-- `clap`'s command `regtool`, one of whose subcommands must be there: `run` with the option `--image` of a number of 32 bits, which may be
+-- left out; `dump`, which may have a file, and `check`, which may have files; `ls` with a file, a path that may be left out, and the flag
+-- `--tree`; `get` with a file, a path, a value's name that may be left out, and the flag `--raw`; `find` with a file, a pattern and the
+-- option `--in`; `diff` with two files; `export` with a file, a path that may be left out, the option `--as`, which must be given, and the
+-- flag `--utf8`; `new` with a file and the option `--name`; and `edit` and `import`, each with a file, the options `--output` and `--at`,
+-- which is a number of 64 bits, and the flags `--now` and `--dry-run`, and `edit` with the flag `--keep-going`
 unfoldable pub regtool : App
 regtool =
     with_subcommand
@@ -155,11 +175,12 @@ pub record AsksToEdit (rows : List Row) (edit : EditRequest) : Type 0 where
   pub begin : AsksToBegin rows edit.begin
   pub dry_run : (edit.dry_run ≡ true) ↔ IsSet (codes "dry-run") rows
 
--- the places that the matches of `find` ask for: those that `--in` names, and all where nothing is said
+-- the places that a text after `--in` names, if it names some, and all where nothing is said
 abbrev pub places_asked : Option Text → Option Places
 places_asked None = Some (record { keys = true; names = true; texts = true })
 places_asked (Some text) = places_in text
 
+-- the places that the matches of `find` ask for
 abbrev pub AsksForPlaces : List Row → Places → Type 0
 AsksForPlaces rows places = places_asked (first_of (codes "in") rows) ≡ Some places
 

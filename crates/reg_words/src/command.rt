@@ -8,7 +8,7 @@ ghost use Rattle.reg_words.specs.CommandLines.{run_command as run_shape, edit_co
 ghost use Rattle.reg_words.specs.CommandLines.{dump_command as dump_shape, check_command as check_shape, list_command as list_shape};
 ghost use Rattle.reg_words.specs.CommandLines.{get_command as get_shape, find_command as find_shape, diff_command as diff_shape};
 ghost use Rattle.reg_words.specs.CommandLines.{export_command as export_shape, new_command as new_shape, saving_command as saving_shape};
-ghost use Rattle.reg_words.specs.CommandLines.{stream_commands as stream_shape, looking_commands as looking_shape, regtool as regstream_shape};
+ghost use Rattle.reg_words.specs.CommandLines.{stream_commands as stream_shape, looking_commands as looking_shape, regtool as regtool_shape};
 ghost use Rattle.reg_words.specs.Internal.Commands.{IsRule, IsCommand};
 
 use clap::{Arg, ArgAction, Command};
@@ -367,7 +367,7 @@ fn looking_commands<'a>(alloc: Global) -> Result<Command<'a>, AllocError>
 
 /// The whole command.
 pub fn whole_command<'a>(alloc: Global) -> Result<Command<'a>, AllocError>
-    ensures { IfOk result (λ command. IsCommand regstream_shape command) }
+    ensures { IfOk result (λ command. IsCommand regtool_shape command) }
 {
     let making = with_made(looking_commands(alloc)?, new_command(alloc))?;
     let editing = with_made(making, edit_command(alloc))?;

@@ -24,15 +24,15 @@ SendStops text (Script fault) before after = ⊥
 SendStops text (Load fault) before after = ⊥
 
 -- what ended the telling of a tree: a failed write, or want of memory, when a front was written
-abbrev pub TellingStops : List ℕ → Stop → (before after : Option (List ℕ)) → Type 0
-TellingStops text (Write written) before after = IsCut text written before after
-TellingStops text Memory before after = IsFront text before after
-TellingStops text (Script fault) before after = ⊥
-TellingStops text (Load fault) before after = ⊥
+abbrev pub TreeTextStops : List ℕ → Stop → (before after : Option (List ℕ)) → Type 0
+TreeTextStops text (Write written) before after = IsCut text written before after
+TreeTextStops text Memory before after = IsFront text before after
+TreeTextStops text (Script fault) before after = ⊥
+TreeTextStops text (Load fault) before after = ⊥
 
 -- the line of a load fault was written, or a front of it
-abbrev pub IsFaultTold : LoadFault → Stop → (before after : Option (List ℕ)) → Type 0
-IsFaultTold fault (Load told) before after = (told ≡ fault) × Appends before after (fault_line fault)
-IsFaultTold fault (Write written) before after = IsCut (fault_line fault) written before after
-IsFaultTold fault (Script told) before after = ⊥
-IsFaultTold fault Memory before after = ⊥
+abbrev pub IsFaultReported : LoadFault → Stop → (before after : Option (List ℕ)) → Type 0
+IsFaultReported fault (Load told) before after = (told ≡ fault) × Appends before after (fault_line fault)
+IsFaultReported fault (Write written) before after = IsCut (fault_line fault) written before after
+IsFaultReported fault (Script told) before after = ⊥
+IsFaultReported fault Memory before after = ⊥

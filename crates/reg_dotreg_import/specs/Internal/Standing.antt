@@ -61,7 +61,7 @@ pub record IsEntryMade (moment : ℕ) (h : Hands) (e : Entry) (old new : View) (
   pub led : Accepts moment old (calls_of_entry h e) new
   pub last_is : last ≡ hands_after moment h e
 
--- the same of entries, one after another
+-- entries were made, one after another, by their calls, and left an import standing there
 pub record AreEntriesMade (moment : ℕ) (h : Hands) (entries : List Entry) (old new : View) (last : Hands) : Type 0 where
   pub led : Accepts moment old (calls_of moment h entries) new
   pub last_is : last ≡ hands_behind moment h entries

@@ -1,13 +1,15 @@
 -- What a status says of a request, and of a private call (this project's own).
-use Rattle.std.specs.Prelude.{◌≡◌, ℕ, zero, suc, Bool, List, Option, Result, Ok, Err}
+use Rattle.std.specs.Prelude.{◌≡◌, ℕ, zero, suc, Bool, ◌&&◌, List, Option, Result, Ok, Err}
 use Rattle.reg_words.specs.declared.request.Request.{Request}
 use Rattle.reg_files.specs.Serving.{Fails, Serves, IsReported}
 
--- the status of what is done or not: 0 where nothing is reported, 1 where its fault is
-abbrev pub Settles : {A E : Type 0} → (closed : Bool) → Result A E → (status : ℕ) → (told told_after : Option (List ℕ)) →
+-- the status of what is done or not: 0 where nothing is reported, 1 where its fault is, save that it may be a failed write of an output
+-- that is closed
+abbrev pub Settles : {A E : Type 0} → (is_cut : E → Bool) → (closed : Bool) → Result A E → (status : ℕ) → (told told_after : Option (List ℕ)) →
     (failed now_failed : Option ℕ) → Type 0
-Settles closed (Ok a) status told told_after failed now_failed = (status ≡ 0) × (told_after ≡ told)
-Settles closed (Err e) status told told_after failed now_failed = (status ≡ 1) × IsReported closed told told_after failed now_failed
+Settles is_cut closed (Ok a) status told told_after failed now_failed = (status ≡ 0) × (told_after ≡ told)
+Settles is_cut closed (Err e) status told told_after failed now_failed =
+    (status ≡ 1) × IsReported (closed && is_cut e) told told_after failed now_failed
 
 -- what a status says of a request
 abbrev pub Outcome : Request → (status : ℕ) → (closed : Bool) → (unread left before after told told_after : Option (List ℕ)) →

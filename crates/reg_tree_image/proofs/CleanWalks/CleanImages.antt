@@ -83,7 +83,8 @@ walked : (bytes : List ℕ) (size root : ℕ) (seen : Seen) → IsBlock bytes si
 unfolding image_walk
 walked bytes size root seen b =
     pass Short _ _ seen (less 4096 (length bytes) b.long)
-    ∙ (ap (onward (λ (block : BaseBlock). check Short (nat_le (4096 + block.size) (length bytes)) >> bins_walk (take block.size (drop 4096 bytes)) block.minor block.root)) (block-walked bytes size root seen b)
+    ∙ (ap (onward (λ (block : BaseBlock). check Short (nat_le (4096 + block.size) (length bytes))
+    >> bins_walk (take block.size (drop 4096 bytes)) block.minor block.root)) (block-walked bytes size root seen b)
     ∙ pass Short _ _ seen (less _ _ b.enough))
 
 -- ---- the law, for bytes that are an image

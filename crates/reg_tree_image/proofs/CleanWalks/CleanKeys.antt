@@ -26,7 +26,8 @@ use Rattle.reg_shape.proofs.Refinement.RefinementAtPath.{name-written}
 use Rattle.reg_shape.proofs.Wholeness.ShapeCounts.{tally-append}
 use Rattle.reg_tree_image.specs.declared.LoadFault.TheVariants.{Record, Twice, NotInProfile, Limit}
 use Rattle.reg_tree_image.specs.WalkSteps.{Seen, Step, ◌>>=◌, ◌>>◌, onward, give, check, tell, cell}
-use Rattle.reg_tree_image.specs.LoadingWalk.{read, name_in, key_name, is_free, no_sibling, named_key, head_from, parts_from, rest_from, class_from, descriptor_from, values_from, subkeys_from, key_from}
+use Rattle.reg_tree_image.specs.LoadingWalk.{read, name_in, key_name, is_free, no_sibling, named_key, head_from, parts_from, rest_from}
+use Rattle.reg_tree_image.specs.LoadingWalk.{class_from, descriptor_from, values_from, subkeys_from, key_from}
 use Rattle.reg_tree_image.proofs.CleanWalks.CleanSteps.{IsFresh, fresh-first, fresh-then, named_too, Reads, reads-give, reads-bind, reads-check, reads-read, reads-cell}
 use Rattle.reg_tree_image.proofs.CleanWalks.CleanValues.{class-clean, descriptor-clean, values-clean, ok-from}
 

@@ -76,7 +76,7 @@ reads-read path r f x y ys e b seen h = ap (λ c. onward f (read c seen)) e ∙ 
 pub reads-one : {A : Type 0} (path : List ℕ) (fault : LoadFault) (o : Option A) (x : A) → o ≡ Some x → Reads path (given fault o) x []
 reads-one path fault o x e seen h = ap (λ c. given fault c seen) e ∙ reads-give path x seen h
 
--- the same result and records
+-- a step that reads so reads any result and records that are equal to its own
 pub reads-as : {A : Type 0} (path : List ℕ) (s : Step A) (x y : A) (xs ys : List Found) → x ≡ y → xs ≡ ys → Reads path s x xs → Reads path s y ys
 reads-as path s x y xs ys e d r seen h = r seen (subst (IsFresh path seen.found) (sym d) h) ∙ (ap (λ z. Ok (z, named_too seen xs)) e ∙ ap (λ zs. Ok (y, named_too seen zs)) d)
 

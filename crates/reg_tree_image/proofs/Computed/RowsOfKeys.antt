@@ -50,7 +50,7 @@ plain-name : key_from (lone 32 (82 ∷ 97 ∷ [])) 5 513 [] root_path 32 nothing
 unfolding key_from nk_of sk_of vk_of list_of row_in half word long
 plain-name = refl
 
--- the same in UTF-16LE
+-- a name in UTF-16LE
 wide-name : key_from (lone 0 (82 ∷ 0 ∷ 97 ∷ 0 ∷ [])) 5 513 [] root_path 32 nothing ≡ Ok (tt, lone_seen (82 ∷ 97 ∷ []) 0)
 unfolding key_from nk_of sk_of vk_of list_of row_in half word long
 wide-name = refl

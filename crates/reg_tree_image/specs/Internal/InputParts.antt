@@ -15,7 +15,7 @@ IsCut Read size piece left = length piece < size
 IsCut Short size piece left = (length piece < size) × IsAtEnd left
 IsCut fault size piece left = ⊥
 
--- the same, or there was no memory for what comes
+-- a read failed before so many bytes were read, or the reader came to its end, or there was no memory for what comes
 abbrev pub IsGivenUp : LoadFault → ℕ → List ℕ → Option (List ℕ) → Type 0
 IsGivenUp Memory size piece left = length piece ≤ size
 IsGivenUp fault size piece left = IsCut fault size piece left

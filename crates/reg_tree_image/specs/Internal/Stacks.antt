@@ -32,7 +32,7 @@ pub record Shows (keys : Keys) (key : KeyFrame) (f : Frame) : Type 0 where
   pub entries : entries_in key.leaf ≡ f.entries
   pub lists : entries_in key.lists ≡ f.lists
 
--- the same of each, the lowest key first; each path goes on from the next one's
+-- each frame of the code shows what is left of its key, the lowest key first; each path goes on from the next one's
 abbrev pub AreShown : Keys → List KeyFrame → List Frame → Type 0
 AreShown keys [] [] = ⊤
 AreShown keys [] (f ∷ frames) = ⊥
@@ -77,7 +77,7 @@ abbrev pub ComesCrowded : Heap → ℕ → ℕ → List ℕ → (List ℕ → Pa
 ComesCrowded heap minor levels path here offset seen =
     (after : Seen) × Comes heap minor after levels path here offset seen × IsCrowded after
 
--- the same of the walk from the root at an offset on
+-- the walk from the root at an offset on comes to a key that the new bins have no room for
 abbrev pub IsRootCrowded : Heap → ℕ → ℕ → Type 0
 IsRootCrowded heap minor root = ComesCrowded heap minor (suc PATH_LIMIT) [] root_path root nothing
 

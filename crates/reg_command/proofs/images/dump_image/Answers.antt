@@ -1,15 +1,15 @@
 use Rattle.std.proofs.lemmas.Result.{IfErr-weaker, IfOk-weaker}
 use Rattle.reg_tree_text.specs.DumpTexts.{dump_text}
-use Rattle.reg_command.proofs.CommandSteps.{tells, tell_stops, fault_told}
+use Rattle.reg_command.proofs.CommandSteps.{writes_text, text_stops, fault_reported}
 use Rattle.reg_command.proofs.images.dump_image.Goals as goal
 
 pub returns-in-Ok-clause-ok : goal.returns-in-Ok-clause-ok
 returns-in-Ok-clause-ok g c =
-    IfOk-weaker c.send_dump.result _ _ (λ done sent. tells dump_text _ _ _ _ _ c.in-Ok.ensures.ok sent) c.send_dump.ensures.ok
+    IfOk-weaker c.send_dump.result _ _ (λ done sent. writes_text dump_text _ _ _ _ _ c.in-Ok.ensures.ok sent) c.send_dump.ensures.ok
 
 pub returns-in-Ok-clause-err : goal.returns-in-Ok-clause-err
 returns-in-Ok-clause-err g c =
-    IfErr-weaker c.send_dump.result _ _ (λ stop ended. tell_stops dump_text _ _ _ _ _ stop c.in-Ok.ensures.ok ended) c.send_dump.ensures.err
+    IfErr-weaker c.send_dump.result _ _ (λ stop ended. text_stops dump_text _ _ _ _ _ stop c.in-Ok.ensures.ok ended) c.send_dump.ensures.err
 
 pub returns-in-Err-clause-err : goal.returns-in-Err-clause-err
-returns-in-Err-clause-err g c = fault_told dump_text _ _ _ _ c.in-Err.fault c.send_fault.result c.in-Err.ensures.err c.send_fault.ensures
+returns-in-Err-clause-err g c = fault_reported dump_text _ _ _ _ c.in-Err.fault c.send_fault.result c.in-Err.ensures.err c.send_fault.ensures

@@ -1,5 +1,6 @@
 use Rattle.std.proofs.Common.{refl}
 use Rattle.reg_words.specs.declared.request.Request.TheVariants.{Export}
+use Rattle.reg_files.specs.Internal.Cuts.{is_cut}
 use Rattle.reg_files.proofs.Outcomes.{settled, reported_as}
 use Rattle.reg_files.proofs.answers.export_asked.Goals as goal
 
@@ -8,6 +9,6 @@ returns g c =
     λ unread. settled (Export c.args.file c.args.path c.args.form) (g.W.Output.closed c.export_key-done.new.output) unread unread
     (g.W.Write.contents c.args.output.now) (g.W.Write.contents c.export_key-done.new.output)
     (g.E.Sink.contents c.args.errors.now) (g.E.Sink.contents c.settle.new.errors)
-    (g.E.Sink.failures c.args.errors.now) (g.E.Sink.failures c.settle.new.errors) _ _ c.is_closed.result c.export_key-done.result c.settle.result
+    (g.E.Sink.failures c.args.errors.now) (g.E.Sink.failures c.settle.new.errors) is_cut _ _ c.is_closed.result c.export_key-done.result c.settle.result
     c.settle.ensures c.export_key-done.ensures.ok c.export_key-done.ensures.err (λ done. (refl, done))
-    (λ stops told. (refl, stops, reported_as _ _ _ _ _ _ c.is_closed.ensures told))
+    (λ fault stops told. (refl, (is_cut fault, stops, reported_as _ _ _ _ _ _ _ c.is_closed.ensures told)))

@@ -1,5 +1,6 @@
 use Rattle.std.proofs.Common.{refl}
 use Rattle.reg_words.specs.declared.request.Request.TheVariants.{Find}
+use Rattle.reg_files.specs.Internal.Cuts.{is_cut}
 use Rattle.reg_files.proofs.Outcomes.{settled, reported_as}
 use Rattle.reg_files.proofs.answers.find_asked.Goals as goal
 
@@ -8,6 +9,6 @@ returns g c =
     λ unread. settled (Find c.args.file c.args.pattern c.args.places) (g.W.Output.closed c.find_in-done.new.output) unread unread
     (g.W.Write.contents c.args.output.now) (g.W.Write.contents c.find_in-done.new.output)
     (g.E.Sink.contents c.args.errors.now) (g.E.Sink.contents c.settle.new.errors)
-    (g.E.Sink.failures c.args.errors.now) (g.E.Sink.failures c.settle.new.errors) _ _ c.is_closed.result c.find_in-done.result c.settle.result
+    (g.E.Sink.failures c.args.errors.now) (g.E.Sink.failures c.settle.new.errors) is_cut _ _ c.is_closed.result c.find_in-done.result c.settle.result
     c.settle.ensures c.find_in-done.ensures.ok c.find_in-done.ensures.err (λ done. (refl, done))
-    (λ stops told. (refl, stops, reported_as _ _ _ _ _ _ c.is_closed.ensures told))
+    (λ fault stops told. (refl, (is_cut fault, stops, reported_as _ _ _ _ _ _ _ c.is_closed.ensures told)))

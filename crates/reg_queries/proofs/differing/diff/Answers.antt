@@ -1,5 +1,6 @@
 use Rattle.std.proofs.Common.{refl}
-use Rattle.reg_queries.proofs.DiffSteps.{differ, stopped}
+use Rattle.reg_text.proofs.FailureCounts.{stays-at}
+use Rattle.reg_queries.proofs.DiffSteps.{differ, stopped, blamed}
 use Rattle.reg_queries.proofs.differing.diff.Goals as goal
 
 pub returns-in-Err-clause-err : goal.returns-in-Err-clause-err
@@ -10,3 +11,9 @@ returns-clause-ok g c = differ _ _ _ _ _ c.in-Ok.ensures.ok _ _ c.diff_from.resu
 
 pub returns-clause-err : goal.returns-clause-err
 returns-clause-err g c = stopped _ _ _ _ _ c.in-Ok.ensures.ok _ _ c.diff_from.result c.diff_from.ensures.err
+
+pub returns-in-Err-clause-failures : goal.returns-in-Err-clause-failures
+returns-in-Err-clause-failures g c = (c.in-Err.ensures.failures, (stays-at _, stays-at _))
+
+pub returns-clause-failures : goal.returns-clause-failures
+returns-clause-failures g c = blamed _ _ _ _ _ _ c.in-Ok.ensures.failures c.diff_from.result c.diff_from.ensures.failures

@@ -1,4 +1,5 @@
 use Rattle.std.proofs.Common.{refl}
+use Rattle.reg_text.proofs.FailureCounts.{stays-at}
 use Rattle.reg_queries.proofs.differing.diff_from.Goals as goal
 
 pub returns-in-Err-clause-err : goal.returns-in-Err-clause-err
@@ -14,3 +15,12 @@ returns-in-Ok-diff-clause-ok g c = record {
 
 pub returns-clause-err : goal.returns-clause-err
 returns-clause-err g c = (c.in-Ok.tree.tree, c.in-Ok.ensures.ok, c.in-Err-diff.ensures.err)
+
+pub returns-in-Err-clause-failures : goal.returns-in-Err-clause-failures
+returns-in-Err-clause-failures g c = (c.in-Err.ensures.failures, stays-at _)
+
+pub returns-in-Ok-diff-clause-failures : goal.returns-in-Ok-diff-clause-failures
+returns-in-Ok-diff-clause-failures g c = (c.in-Ok.ensures.failures, c.in-Ok-diff.ensures.failures)
+
+pub returns-clause-failures : goal.returns-clause-failures
+returns-clause-failures g c = (c.in-Ok.ensures.failures, c.in-Err-diff.ensures.failures)

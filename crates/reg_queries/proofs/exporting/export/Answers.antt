@@ -1,4 +1,5 @@
 use Rattle.std.proofs.Common.{refl}
+use Rattle.reg_text.proofs.FailureCounts.{stays-at}
 use Rattle.reg_queries.proofs.exporting.export.Goals as goal
 
 pub returns-in-Err-clause-err : goal.returns-in-Err-clause-err
@@ -16,3 +17,12 @@ returns-in-Ok-export-clause-ok g c = record {
 
 pub returns-clause-err : goal.returns-clause-err
 returns-clause-err g c = (c.in-Ok.tree.tree, c.in-Ok.ensures.ok, c.in-Err-export.ensures.err)
+
+pub returns-in-Err-clause-failures : goal.returns-in-Err-clause-failures
+returns-in-Err-clause-failures g c = (c.in-Err.ensures.failures, stays-at _)
+
+pub returns-in-Ok-export-clause-failures : goal.returns-in-Ok-export-clause-failures
+returns-in-Ok-export-clause-failures g c = (c.in-Ok.ensures.failures, c.in-Ok-export.ensures.failures)
+
+pub returns-clause-failures : goal.returns-clause-failures
+returns-clause-failures g c = (c.in-Ok.ensures.failures, c.in-Err-export.ensures.failures)

@@ -1,4 +1,5 @@
 use Rattle.std.proofs.Common.{ap}
+use Rattle.reg_text.proofs.FailureCounts.{stays-at}
 use Rattle.std.specs.Prelude.{is_some}
 use Rattle.regex.specs.Patterns.{find}
 use Rattle.reg_queries.proofs.FindSteps.{found_by, stopped_by}
@@ -13,3 +14,9 @@ pub returns-in-Ok-matcher-clause-err : goal.returns-in-Ok-matcher-clause-err
 returns-in-Ok-matcher-clause-err g c =
     stopped_by _ _ c.args.pattern.now c.args.scope _ c.in-Ok.ensures.ok _
     (ap (λ p. λ text. is_some (find p text 0)) c.in-Ok-matcher.ensures.pattern) _ _ c.search.result c.search.ensures.err
+
+pub returns-in-Err-clause-failures : goal.returns-in-Err-clause-failures
+returns-in-Err-clause-failures g c = (stays-at _, stays-at _)
+
+pub returns-clause-failures : goal.returns-clause-failures
+returns-clause-failures g c = (stays-at _, stays-at _)

@@ -1,4 +1,5 @@
 use Rattle.std.proofs.Common.{refl}
+use Rattle.reg_text.proofs.FailureCounts.{stays-at}
 use Rattle.reg_queries.proofs.tabling.export_json.Goals as goal
 
 pub returns-in-Err-clause-err : goal.returns-in-Err-clause-err
@@ -9,3 +10,12 @@ returns-in-Ok-export_json-clause-ok g c = record { tree = c.in-Ok.tree.tree; rea
 
 pub returns-clause-err : goal.returns-clause-err
 returns-clause-err g c = (c.in-Ok.tree.tree, c.in-Ok.ensures.ok, c.in-Err-export_json.ensures.err)
+
+pub returns-in-Err-clause-failures : goal.returns-in-Err-clause-failures
+returns-in-Err-clause-failures g c = (c.in-Err.ensures.failures, stays-at _)
+
+pub returns-in-Ok-export_json-clause-failures : goal.returns-in-Ok-export_json-clause-failures
+returns-in-Ok-export_json-clause-failures g c = (c.in-Ok.ensures.failures, c.in-Ok-export_json.ensures.failures)
+
+pub returns-clause-failures : goal.returns-clause-failures
+returns-clause-failures g c = (c.in-Ok.ensures.failures, c.in-Err-export_json.ensures.failures)

@@ -15,7 +15,9 @@ returns-in-Ok-None c =
 pub returns-in-Ok-Some : goal.returns-in-Ok-Some
 returns-in-Ok-Some c = (
   (λ set. let bad : c.is_set-is_now.result ≡ true = c.is_set-is_now.ensures.1 set in search (rules, bad)),
-  asked_at (codes "at") IsMoment _ (rows_of (found_of c.args.matches.now)) c.try_get_one.result (Ok (Some c.in-Ok-Some.moment)) (c.in-Ok-Some.is ∙ ap Ok (c.in-Ok-Some.field-0-is ∙ ap Some c.in-Ok-Some.moment-is))
+  asked_at (codes "at") IsMoment _ (rows_of (found_of c.args.matches.now))
+      c.try_get_one.result (Ok (Some c.in-Ok-Some.moment))
+      (c.in-Ok-Some.is ∙ ap Ok (c.in-Ok-Some.field-0-is ∙ ap Some c.in-Ok-Some.moment-is))
       (option_asked (codes "at") IsMoment _ (λ bs r. ParsesUnsigned 64 10 bs r × ExplainsUnsignedError 10 bs r × HasUnsignedDigitsIfOk bs r)
       (found_of c.args.matches.now) c.try_get_one.result (λ u x g. moment_read _ u x g.0) c.try_get_one.ensures.none c.try_get_one.ensures.value),
 )
@@ -24,7 +26,9 @@ pub returns-in_default : goal.returns-in_default
 returns-in_default c =
     let set : c.is_set-is_now.result ≡ true = search rules in
     let asked =
-    asked_at (codes "at") IsMoment _ (rows_of (found_of c.args.matches.now)) c.try_get_one.result (Ok (Some c.in-Ok-Some.moment)) (c.in-Ok-Some.is ∙ ap Ok (c.in-Ok-Some.field-0-is ∙ ap Some c.in-Ok-Some.moment-is))
+    asked_at (codes "at") IsMoment _ (rows_of (found_of c.args.matches.now))
+    c.try_get_one.result (Ok (Some c.in-Ok-Some.moment))
+    (c.in-Ok-Some.is ∙ ap Ok (c.in-Ok-Some.field-0-is ∙ ap Some c.in-Ok-Some.moment-is))
     (option_asked (codes "at") IsMoment _ (λ bs r. ParsesUnsigned 64 10 bs r × ExplainsUnsignedError 10 bs r × HasUnsignedDigitsIfOk bs r)
     (found_of c.args.matches.now) c.try_get_one.result (λ u x g. moment_read _ u x g.0) c.try_get_one.ensures.none c.try_get_one.ensures.value)
     in two_moments (rows_of (found_of c.args.matches.now)) asked.0 (c.is_set-is_now.ensures.0 set) asked.1

@@ -1,7 +1,7 @@
 use Rattle.std.proofs.Common.{refl}
 use Rattle.std.specs.Fmt.{digits}
 use Rattle.reg_command.proofs.CommandSteps.{script_line_at}
-use Rattle.reg_command.proofs.tellings.line_of.Goals as goal
+use Rattle.reg_command.proofs.reports.line_of.Goals as goal
 
 pub returns-in-Read : goal.returns-in-Read
 unfolding digits

@@ -1,0 +1,38 @@
+-- Which ends of a command are a failed write of the output (this project's own).
+use Rattle.std.specs.Prelude.{◌≡◌, ℕ, Bool, true, false, Option, ⊤}
+use Rattle.reg_text.specs.Failures.{Stays, Fails}
+use Rattle.reg_files.specs.Cuts.{is_script_cut}
+use Rattle.reg_files.specs.declared.fault.Fault.{Fault}
+use Rattle.reg_files.specs.declared.fault.Fault.TheVariants as fault
+use Rattle.reg_files.specs.declared.fault.Step.{Step}
+use Rattle.reg_files.specs.declared.fault.DiffEnd.{DiffEnd}
+use Rattle.reg_files.specs.declared.fault.DiffEnd.TheVariants as diff
+use Rattle.reg_files.specs.declared.fault.SaveEnd.{SaveEnd}
+use Rattle.reg_files.specs.declared.fault.SaveEnd.TheVariants as save
+
+-- a write of a text, or of a script's replies
+abbrev pub is_cut : Fault → Bool
+is_cut (fault.Cut written) = true
+is_cut (fault.Script ended) = is_script_cut ended
+is_cut other = false
+
+-- of a comparison, whichever file it is about
+abbrev pub is_diff_end_cut : DiffEnd → Bool
+is_diff_end_cut (diff.Old ended) = is_cut ended
+is_diff_end_cut (diff.New ended) = is_cut ended
+
+-- of a command that saves: never in a step on the files
+abbrev pub is_save_end_cut : SaveEnd → Bool
+is_save_end_cut (save.Hive ended) = is_cut ended
+is_save_end_cut (save.Files ended) = false
+
+-- just one call of the output failed where its write was cut short, and else none
+abbrev pub CutBlames : (cut : Bool) → (before after : Option ℕ) → Type 0
+CutBlames true before after = Fails before after
+CutBlames false before after = Stays before after
+
+-- the fault of a step that was refused, or want of memory for it
+abbrev pub IsOfStep : Step → Fault → Type 0
+IsOfStep step (fault.Step refused error) = refused ≡ step
+IsOfStep step fault.Memory = ⊤
+IsOfStep step other = ⊥
