@@ -21,8 +21,8 @@ use reg_model::{AnswerBody, Bytes};
 use reg_tree::{Node, Tree};
 use std::alloc::Global;
 
-/// A key's descriptor as it is told: short where the room is below its size, for which no memory is taken.
-fn told(alloc: Global, tree: &Tree, node: Node, room: u32) -> AnswerBody
+/// The answer to a question for a key's descriptor: short where the room is below its size, for which no memory is taken.
+fn descriptor_answer(alloc: Global, tree: &Tree, node: Node, room: u32) -> AnswerBody
     requires { IsThere tree.now node }
     ensures { (p : Path) → IsAt tree.now p node → IsTold (security_told (descriptor_of (get tree.now.tree p)) room) result }
 {
@@ -70,5 +70,5 @@ pub fn answer<C: Callback>(
         Ok(()) => {}
         Err(status) => return AnswerBody::Refused { status },
     }
-    told(alloc, &store.tree, key.node, room)
+    descriptor_answer(alloc, &store.tree, key.node, room)
 }

@@ -23,8 +23,8 @@ use reg_names::check_value_name;
 use reg_tree::{Node, Tree, ValueFound};
 use std::alloc::Global;
 
-/// A value of a key as it is told: short where the room is below its size.
-fn told(alloc: Global, tree: &Tree, node: Node, value: ValueFound, room: Option<u32>) -> AnswerBody
+/// The answer to a question for a value of a key: short where the room is below its size.
+fn value_answer(alloc: Global, tree: &Tree, node: Node, value: ValueFound, room: Option<u32>) -> AnswerBody
     requires { (p : Path) × IsAt tree.now p node × (value.index < length (values_at tree.now.tree p)) }
     ensures { (p : Path) → IsAt tree.now p node → (member : Member) →
         slice_get (values_at tree.now.tree p) value.index ≡ Some member → value.kind ≡ member.kind →
@@ -89,7 +89,7 @@ pub fn answer<C: Callback>(
         Err(status) => return AnswerBody::Refused { status },
     }
     match store.tree.find_value(key.node, name) {
-        Some(value) => told(alloc, &store.tree, key.node, value, room),
+        Some(value) => value_answer(alloc, &store.tree, key.node, value, room),
         None => AnswerBody::Refused {
             status: FILE_NOT_FOUND,
         },

@@ -15,7 +15,7 @@ use Rattle.reg_tree_image.specs.declared.LoadFault.{LoadFault}
 use Rattle.reg_tree_image.specs.Loads.{ReadsImage, MeetsFault}
 use Rattle.reg_command.specs.ScriptRuns.{RunsScript, LeadsTo, image_at}
 use Rattle.reg_command.specs.ImageRuns.{WritesTreeText, fault_line}
-use Rattle.reg_command.specs.Failures.{ImageStops, TellStops, script_line}
+use Rattle.reg_command.specs.Failures.{ImageStops, TextStops, script_line}
 use Rattle.reg_command.specs.Internal.Steps.{SendStops, TreeTextStops, IsFaultReported}
 use Rattle.reg_command.specs.declared.failure.Stop.{Stop}
 use Rattle.reg_command.specs.declared.failure.Stop.TheVariants.{Script, Load, Write, Memory}
@@ -84,14 +84,14 @@ module _ (text_of : Tree → List ℕ) (unread left before after : Option (List 
   writes_text tree reads appended = record { tree = tree; reads = reads; appended = appended }
 
   pub text_stops : (tree : Tree) (stop : Stop) → ReadsImage unread left tree → TreeTextStops (text_of tree) stop before after
-      → TellStops text_of stop unread left before after
+      → TextStops text_of stop unread left before after
   text_stops tree (Write written) reads h = inl (tree, reads, h)
   text_stops tree Memory reads h = (tree, reads, h)
   text_stops tree (Script fault) reads h = absurd h
   text_stops tree (Load fault) reads h = absurd h
 
   pub fault_reported : (fault : LoadFault) (stop : Stop) → MeetsFault fault unread left → IsFaultReported fault stop before after
-      → TellStops text_of stop unread left before after
+      → TextStops text_of stop unread left before after
   fault_reported fault (Load told) meets h =
       subst (λ (f : LoadFault). MeetsFault f unread left × Appends before after (fault_line f)) (sym h.0) (meets, h.1)
   fault_reported fault (Write written) meets h = inr (fault, meets, h)

@@ -53,13 +53,13 @@ ImageStops sequence (Load fault) unread left before after = ⊥
 
 -- what ended the telling of an image: a load fault, whose line was written; a failed write, of that line or of the image's text; or want
 -- of memory for the text, of which a front may have been written
-abbrev pub TellStops : (Tree → List ℕ) → Stop → (unread left before after : Option (List ℕ)) → Type 0
-TellStops text_of (Load fault) unread left before after = MeetsFault fault unread left × Appends before after (fault_line fault)
-TellStops text_of (Write written) unread left before after =
+abbrev pub TextStops : (Tree → List ℕ) → Stop → (unread left before after : Option (List ℕ)) → Type 0
+TextStops text_of (Load fault) unread left before after = MeetsFault fault unread left × Appends before after (fault_line fault)
+TextStops text_of (Write written) unread left before after =
     ((tree : Tree) × ReadsImage unread left tree × IsCut (text_of tree) written before after)
     ⊎ ((fault : LoadFault) × MeetsFault fault unread left × IsCut (fault_line fault) written before after)
-TellStops text_of Memory unread left before after = (tree : Tree) × ReadsImage unread left tree × IsFront (text_of tree) before after
-TellStops text_of (Script fault) unread left before after = ⊥
+TextStops text_of Memory unread left before after = (tree : Tree) × ReadsImage unread left tree × IsFront (text_of tree) before after
+TextStops text_of (Script fault) unread left before after = ⊥
 
 -- what a request did, by the rules of each
 abbrev pub Does : StreamRequest → (unread left before after : Option (List ℕ)) → Type 0
@@ -72,8 +72,8 @@ Does Check unread left before after = WritesTreeText check_text unread left befo
 abbrev pub Stops : StreamRequest → Stop → (unread left before after : Option (List ℕ)) → Type 0
 Stops Run stop unread left before after = RunStops stop unread left before after
 Stops (Image sequence) stop unread left before after = ImageStops sequence stop unread left before after
-Stops Dump stop unread left before after = TellStops dump_text stop unread left before after
-Stops Check stop unread left before after = TellStops check_text stop unread left before after
+Stops Dump stop unread left before after = TextStops dump_text stop unread left before after
+Stops Check stop unread left before after = TextStops check_text stop unread left before after
 
 -- a line was told; or a front of it, where the writer failed
 pub record IsSaid (line : List ℕ) (before after : Option (List ℕ)) (failed now_failed : Option ℕ) : Type 0 where

@@ -3,7 +3,7 @@ ghost use Rattle.std.specs.Prelude.{◌≡◌, OnOk, IfOk, IfErr, string_bytes};
 ghost use Rattle.std.specs.Io.KnownBytes.{Appends};
 ghost use Rattle.reg_tree_text.specs.DumpTexts.{dump_text, check_text};
 ghost use Rattle.reg_command.specs.ImageRuns.{WritesTreeText, fault_line};
-ghost use Rattle.reg_command.specs.Failures.{TellStops};
+ghost use Rattle.reg_command.specs.Failures.{TextStops};
 ghost use Rattle.reg_command.specs.Internal.Steps.{TreeTextStops, IsFaultReported};
 
 use crate::failure::Stop;
@@ -88,7 +88,7 @@ pub fn dump_image<R: Read, W: Write>(
 ) -> Result<(), Stop>
     ensures ok { OnOk result (WritesTreeText dump_text (R.remaining input.old) (R.remaining input.new) (W.contents output.old)
         (W.contents output.new)) }
-    ensures err { IfErr result (λ stop. TellStops dump_text stop (R.remaining input.old) (R.remaining input.new) (W.contents output.old)
+    ensures err { IfErr result (λ stop. TextStops dump_text stop (R.remaining input.old) (R.remaining input.new) (W.contents output.old)
         (W.contents output.new)) }
 {
     match load_tree(alloc, input) {
@@ -105,7 +105,7 @@ pub fn check_image<R: Read, W: Write>(
 ) -> Result<(), Stop>
     ensures ok { OnOk result (WritesTreeText check_text (R.remaining input.old) (R.remaining input.new) (W.contents output.old)
         (W.contents output.new)) }
-    ensures err { IfErr result (λ stop. TellStops check_text stop (R.remaining input.old) (R.remaining input.new) (W.contents output.old)
+    ensures err { IfErr result (λ stop. TextStops check_text stop (R.remaining input.old) (R.remaining input.new) (W.contents output.old)
         (W.contents output.new)) }
 {
     match load_tree(alloc, input) {

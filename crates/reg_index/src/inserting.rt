@@ -14,7 +14,7 @@ ghost use Rattle.reg_index.specs.Subkeys.{exchanged, index_under, lists_with, na
 ghost use Rattle.reg_index.specs.Internal.IndexLists.{AreExchanged, HasOneMore, HasRoomAt, HasRoomForTwo, IsOnce, grown, halves};
 
 use crate::leaf::{put_first, put_in_leaf};
-use crate::look::{count_lists, leaf_at, name_of};
+use crate::finding::{count_lists, leaf_at, name_of};
 use crate::root::{put_halves, put_over, put_two};
 use crate::splitting::split;
 use crate::{IndexCells, Place, SubkeysIndex};

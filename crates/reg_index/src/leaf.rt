@@ -12,7 +12,7 @@ ghost use Rattle.reg_index.specs.Subkeys.{KeepsCells, Moves, taken, with_one, wi
 ghost use Rattle.reg_index.specs.Internal.HashLeaves.{IsLeaf, HasGap};
 ghost use Rattle.reg_index.specs.Internal.IndexLists.{HasRoomFor};
 
-use crate::look::count_entries;
+use crate::finding::count_entries;
 use reg_arena::Arena;
 use reg_records::{ListEntry, ListForm, ListHead, put_entry, put_head};
 

@@ -13,17 +13,17 @@
 
 ghost use Rattle.std.specs.Prelude.{◌≡◌};
 
+mod finding;
 mod inserting;
 mod leaf;
-mod look;
 mod order;
 mod plan;
 mod removing;
 mod root;
 mod splitting;
 
+pub use finding::{at, at_place, behind, find, find_key, key_behind, place_behind};
 pub use inserting::insert;
-pub use look::{at, at_place, behind, find, find_key, key_behind, place_behind};
 pub use plan::{FIRST_HALF, FIRST_LIST_SIZE, SECOND_HALF, plan_insert};
 pub use removing::remove;
 

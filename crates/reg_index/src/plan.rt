@@ -9,7 +9,7 @@ ghost use Rattle.reg_index.specs.Subkeys.{AreSubkeys, IsPlaceIn, grown_size, ind
 ghost use Rattle.reg_index.specs.Internal.HashLeaves.{IsLeaf};
 ghost use Rattle.reg_index.specs.Internal.IndexLists.{HasLists};
 
-use crate::look::{count_entries, count_lists, leaf_at};
+use crate::finding::{count_entries, count_lists, leaf_at};
 use crate::{IndexCells, Place, SubkeysIndex};
 use reg_arena::{Arena, cell_size};
 use reg_heap::limits::LEAF_LIMIT;

@@ -8,7 +8,7 @@ ghost use Rattle.reg_index.specs.Subkeys.{AreSubkeys, KeepsCells, Moves, StandsI
 ghost use Rattle.reg_index.specs.Internal.IndexLists.{AreExchanged, HasLists, IsOnce, StandsAmong, cells_under};
 
 use crate::leaf::close;
-use crate::look::{count_entries, count_lists, leaf_at};
+use crate::finding::{count_entries, count_lists, leaf_at};
 use crate::root::take_out;
 use crate::{Place, SubkeysIndex};
 use reg_arena::Arena;

@@ -29,7 +29,7 @@ DiffFromStops (New fault) old unread left before after = MeetsFault fault unread
 DiffFromStops (Stopped fault) old unread left before after =
     (tree : Tree) × ReadsImage unread left tree × IsStopped before after (diff_text old tree) fault
 
--- the same of two images: the old one doesn't load, and nothing of the new one was read, and nothing written; or it does, and the new one
+-- why two images weren't compared, or not to the end: the old one doesn't load, and nothing of the new one was read, and nothing written; or it does, and the new one
 -- stops it
 abbrev pub DiffStops : DiffFault → (unread_old left_old unread_new left_new before after : Option (List ℕ)) → Type 0
 DiffStops (Old fault) unread_old left_old unread_new left_new before after =

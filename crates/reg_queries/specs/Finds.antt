@@ -36,7 +36,7 @@ SearchStops (Load fault) unread left matches scope before after = MeetsFault fau
 SearchStops (Stopped fault) unread left matches scope before after =
     (tree : Tree) × ReadsImage unread left tree × IsStopped before after (found_text matches scope tree) fault
 
--- the same of the regular expression in a text: it is none that is compiled, and nothing was read or written; or its search stopped
+-- why a search for the regular expression in a text wasn't made, or not to the end: it is none that is compiled, and nothing was read or written; or its search stopped
 abbrev pub FindStops : FindFault → (unread left : Option (List ℕ)) → (pattern : List ℕ) → Scope → (before after : Option (List ℕ)) → Type 0
 FindStops (Pattern fault) unread left pattern scope before after = IsRefusedFor pattern fault × (left ≡ unread) × (after ≡ before)
 FindStops fault unread left pattern scope before after =

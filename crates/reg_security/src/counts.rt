@@ -8,7 +8,7 @@ ghost use Rattle.reg_records.specs.KeySecurities.{KeySecurityRecord, security_at
 ghost use Rattle.reg_shape.specs.Whole.{IsRing};
 ghost use Rattle.reg_security.specs.Rings.{Recounts};
 
-use crate::look::read;
+use crate::reading::read;
 use reg_arena::Arena;
 use reg_records::set_security_count;
 

@@ -14,10 +14,10 @@
 mod cells;
 mod counts;
 mod hashed;
-mod look;
+mod reading;
 mod ring;
 mod table;
 
 pub use counts::share;
-pub use look::{descriptor, plan_add};
+pub use reading::{descriptor, plan_add};
 pub use table::SecurityTable;

@@ -9,7 +9,7 @@ ghost use Rattle.reg_records.specs.KeySecurities.{KeySecurityRecord, security_at
 ghost use Rattle.reg_shape.specs.Whole.{IsRing, descriptor_at};
 ghost use Rattle.reg_security.specs.Rings.{IsAdded, IsNear, IsPut, IsRelinked, IsRemoved};
 
-use crate::look::read;
+use crate::reading::read;
 use reg_arena::Arena;
 use reg_records::{SecurityFields, put_sk, set_blink, set_flink};
 

@@ -12,7 +12,7 @@ ghost use Rattle.reg_shape.specs.Whole.{IsRing, descriptor_at, count_at};
 
 use crate::cells::CellMap;
 use crate::counts::count_down;
-use crate::look::{descriptor as descriptor_in, read};
+use crate::reading::{descriptor as descriptor_in, read};
 use crate::ring::{put, take_out};
 use reg_arena::Arena;
 use std::alloc::{AllocError, Global};

@@ -14,7 +14,7 @@ ghost use Rattle.reg_values.specs.Internal.ValueListParts.{Owns, GivesUpRead, Fi
 ghost use Rattle.reg_values.specs.ValueSizes.{data_sizes};
 
 use crate::big::{big_bytes, free_big, put_big};
-use crate::look::{cell_of, record_at, size_in};
+use crate::finding::{cell_of, record_at, size_in};
 use crate::{INLINE, INLINE_LIMIT, ValuesList};
 use reg_arena::Arena;
 use reg_records::{SEGMENT_SIZE, ValueFields};

@@ -13,8 +13,8 @@
 mod add;
 mod big;
 mod data;
+mod finding;
 pub mod laws;
-mod look;
 mod making;
 mod plan;
 mod removing;
@@ -22,7 +22,7 @@ mod replace;
 mod setting;
 
 pub use data::bytes_of;
-pub use look::{Value, at, find};
+pub use finding::{Value, at, find};
 pub use making::{NewValue, front_of_one_carve, make};
 pub use plan::plan_set;
 pub use removing::{clear, remove, remove_at};

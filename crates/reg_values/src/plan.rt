@@ -15,7 +15,7 @@ ghost use Rattle.reg_values.specs.ValueSizes.{data_sizes, segment_sizes, list_si
 ghost use Rattle.reg_values.specs.ValueSizes.{stays as stays_of, sizes_by, set_sizes};
 
 use crate::big::segments_for;
-use crate::look::{cell_of, find, record_at};
+use crate::finding::{cell_of, find, record_at};
 use crate::making::NewValue;
 use crate::{INLINE_LIMIT, ValuesList};
 use reg_arena::{Arena, cell_size};

@@ -15,7 +15,7 @@ ghost use Rattle.reg_values.specs.Internal.ValueListParts.{list_at, Owns, GivesU
 
 use crate::ValuesList;
 use crate::data::free_data;
-use crate::look::{cell_of, find, record_at};
+use crate::finding::{cell_of, find, record_at};
 use reg_arena::Arena;
 use reg_heap::limits::NONE;
 

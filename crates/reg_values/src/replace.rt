@@ -18,7 +18,7 @@ ghost use Rattle.reg_values.specs.ValueSizes.{data_sizes, stays as stays_of, new
 
 use crate::add::carve;
 use crate::data::{free_data, put_data};
-use crate::look::record_at;
+use crate::finding::record_at;
 use crate::plan::{plan_replace, stays};
 use reg_arena::{Arena, ArenaFault};
 use reg_records::{ValueFields, set_data};

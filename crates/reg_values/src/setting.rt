@@ -19,7 +19,7 @@ ghost use Rattle.reg_values.specs.ValueSizes.{set_sizes};
 
 use crate::ValuesList;
 use crate::add::add;
-use crate::look::{cell_of, find};
+use crate::finding::{cell_of, find};
 use crate::replace::replace;
 use reg_arena::{Arena, ArenaFault};
 use std::alloc::Global;

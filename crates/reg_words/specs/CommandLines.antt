@@ -124,8 +124,8 @@ stream_commands =
     check_command.top
 
 -- the tool's command with the subcommands that look into a file too
-abbrev pub looking_commands : App
-looking_commands =
+abbrev pub query_commands : App
+query_commands =
     with_subcommand
     (with_subcommand
     (with_subcommand (with_subcommand (with_subcommand stream_commands list_command.top) get_command.top) find_command.top)
@@ -141,7 +141,7 @@ looking_commands =
 unfoldable pub regtool : App
 regtool =
     with_subcommand
-    (with_subcommand (with_subcommand looking_commands new_command.top) edit_command.top)
+    (with_subcommand (with_subcommand query_commands new_command.top) edit_command.top)
     (saving_command (codes "import")).top
 
 -- the kinds of fault that `clap` finds in the words of a command line, the program's name first: none where it takes them

@@ -8,7 +8,7 @@ ghost use Rattle.reg_words.specs.CommandLines.{run_command as run_shape, edit_co
 ghost use Rattle.reg_words.specs.CommandLines.{dump_command as dump_shape, check_command as check_shape, list_command as list_shape};
 ghost use Rattle.reg_words.specs.CommandLines.{get_command as get_shape, find_command as find_shape, diff_command as diff_shape};
 ghost use Rattle.reg_words.specs.CommandLines.{export_command as export_shape, new_command as new_shape, saving_command as saving_shape};
-ghost use Rattle.reg_words.specs.CommandLines.{stream_commands as stream_shape, looking_commands as looking_shape, regtool as regtool_shape};
+ghost use Rattle.reg_words.specs.CommandLines.{stream_commands as stream_shape, query_commands as query_shape, regtool as regtool_shape};
 ghost use Rattle.reg_words.specs.Internal.Commands.{IsRule, IsCommand};
 
 use clap::{Arg, ArgAction, Command};
@@ -355,8 +355,8 @@ fn stream_commands<'a>(alloc: Global) -> Result<Command<'a>, AllocError>
 }
 
 /// These with those that look into a file.
-fn looking_commands<'a>(alloc: Global) -> Result<Command<'a>, AllocError>
-    ensures { IfOk result (λ command. IsCommand looking_shape command) }
+fn query_commands<'a>(alloc: Global) -> Result<Command<'a>, AllocError>
+    ensures { IfOk result (λ command. IsCommand query_shape command) }
 {
     let listing = with_made(stream_commands(alloc)?, list_command(alloc))?;
     let getting = with_made(listing, get_command(alloc))?;
@@ -369,7 +369,7 @@ fn looking_commands<'a>(alloc: Global) -> Result<Command<'a>, AllocError>
 pub fn whole_command<'a>(alloc: Global) -> Result<Command<'a>, AllocError>
     ensures { IfOk result (λ command. IsCommand regtool_shape command) }
 {
-    let making = with_made(looking_commands(alloc)?, new_command(alloc))?;
+    let making = with_made(query_commands(alloc)?, new_command(alloc))?;
     let editing = with_made(making, edit_command(alloc))?;
     with_made(editing, import_command(alloc))
 }

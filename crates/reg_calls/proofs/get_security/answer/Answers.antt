@@ -28,8 +28,8 @@ returns g c = λ n.
     (asked-at c.args.store.now c.args.session c.args.handle k.target c.in-Ok.key.path.now k.path) in
     let chain = security-causes n c.args.store.now c.args.session c.args.handle status c.args.room c.in-Ok.key.mask k.target k.mask in
     let due = security-due n c.args.store.now c.args.session c.args.handle 0 c.args.room k.target in
-    told (at n c.args.store.now) c.args.session status (GetSecurity c.args.handle c.args.room) _ c.told.result
-    (grind (arith, nat_tests, common_steps, chain, asks)) due (c.told.ensures k.target.path k.node)
+    told (at n c.args.store.now) c.args.session status (GetSecurity c.args.handle c.args.room) _ c.descriptor_answer.result
+    (grind (arith, nat_tests, common_steps, chain, asks)) due (c.descriptor_answer.ensures k.target.path k.node)
 
 pub returns-in-Err-ask : goal.returns-in-Err-ask
 returns-in-Err-ask g c = λ n.

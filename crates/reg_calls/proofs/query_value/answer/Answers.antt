@@ -28,8 +28,8 @@ returns-then-key-ne-QUERY_VALUE g c = λ n.
     let chain = value-causes n c.args.store.now c.args.session c.args.handle status c.args.name.now c.args.room c.in-Ok.key.mask k.target k.mask in
     refused (at n c.args.store.now) c.args.session status 5 (QueryValue c.args.handle c.args.name.now c.args.room) (grind (arith, nat_tests, common_steps, chain))
 
-pub told-requires : goal.told-requires
-told-requires g c =
+pub value_answer-requires : goal.value_answer-requires
+value_answer-requires g c =
     let k = c.in-Ok.ensures in
     let found = found_as _ _ _ (c.in-Some.ensures k.target.path k.node) in
     (k.target.path, k.node, found.within)
@@ -44,8 +44,8 @@ returns-in-Some g c = λ n.
     let found = found_as _ _ _ (c.in-Some.ensures k.target.path k.node) in
     let is = found.is in
     let due = value-due n c.args.store.now c.args.session c.args.handle 0 c.args.name.now c.args.room k.target ∙ ap (λ o. value_told o c.args.room) is in
-    told (at n c.args.store.now) c.args.session status (QueryValue c.args.handle c.args.name.now c.args.room) _ c.told.result
-    (grind (arith, nat_tests, common_steps, chain, asks, is)) due (c.told.ensures k.target.path k.node found.member found.at_index found.kind found.size)
+    told (at n c.args.store.now) c.args.session status (QueryValue c.args.handle c.args.name.now c.args.room) _ c.value_answer.result
+    (grind (arith, nat_tests, common_steps, chain, asks, is)) due (c.value_answer.ensures k.target.path k.node found.member found.at_index found.kind found.size)
 
 pub returns-in-None : goal.returns-in-None
 returns-in-None g c = λ n.
