@@ -24,7 +24,13 @@ use reg_tree::{Node, Tree, ValueFound};
 use std::alloc::Global;
 
 /// The answer to a question for a value of a key: short where the room is below its size.
-fn value_answer(alloc: Global, tree: &Tree, node: Node, value: ValueFound, room: Option<u32>) -> AnswerBody
+fn value_answer(
+    alloc: Global,
+    tree: &Tree,
+    node: Node,
+    value: ValueFound,
+    room: Option<u32>,
+) -> AnswerBody
     requires { (p : Path) × IsAt tree.now p node × (value.index < length (values_at tree.now.tree p)) }
     ensures { (p : Path) → IsAt tree.now p node → (member : Member) →
         slice_get (values_at tree.now.tree p) value.index ≡ Some member → value.kind ≡ member.kind →

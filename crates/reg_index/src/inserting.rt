@@ -13,8 +13,8 @@ ghost use Rattle.reg_index.specs.Subkeys.{AreSubkeys, IsIndexFor, IsPlaceIn, IsR
 ghost use Rattle.reg_index.specs.Subkeys.{exchanged, index_under, lists_with, name_at, names_in, numbered, own, taken, with_one};
 ghost use Rattle.reg_index.specs.Internal.IndexLists.{AreExchanged, HasOneMore, HasRoomAt, HasRoomForTwo, IsOnce, grown, halves};
 
-use crate::leaf::{put_first, put_in_leaf};
 use crate::finding::{count_lists, leaf_at, name_of};
+use crate::leaf::{put_first, put_in_leaf};
 use crate::root::{put_halves, put_over, put_two};
 use crate::splitting::split;
 use crate::{IndexCells, Place, SubkeysIndex};

@@ -7,8 +7,8 @@ ghost use Rattle.reg_shape.specs.Nodes.{KeyList, lists_of};
 ghost use Rattle.reg_index.specs.Subkeys.{AreSubkeys, KeepsCells, Moves, StandsIn, exchanged, flat, index_of, index_under, lists_without, own, without};
 ghost use Rattle.reg_index.specs.Internal.IndexLists.{AreExchanged, HasLists, IsOnce, StandsAmong, cells_under};
 
-use crate::leaf::close;
 use crate::finding::{count_entries, count_lists, leaf_at};
+use crate::leaf::close;
 use crate::root::take_out;
 use crate::{Place, SubkeysIndex};
 use reg_arena::Arena;
