@@ -7,6 +7,8 @@
 #[cfg(test)]
 mod built_trees;
 #[cfg(test)]
+mod crowded;
+#[cfg(test)]
 mod dumps;
 #[cfg(test)]
 mod foreign;
