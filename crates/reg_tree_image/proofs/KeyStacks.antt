@@ -3,3 +3,5 @@ pub mod WalkedOn
 pub mod BuiltChains
 pub mod ChildCounts
 pub mod WalkTurns
+pub mod KeysTold
+pub mod CheckTurns

@@ -20,4 +20,5 @@ pub mod PutValues
 pub mod AllValues
 pub mod SiblingTests
 pub mod BegunSteps
+pub mod CheckedSteps
 pub mod ValueRows

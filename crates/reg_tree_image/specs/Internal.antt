@@ -11,6 +11,7 @@ pub mod CellScans
 pub mod SegmentSteps
 pub mod Frames
 pub mod Stacks
+pub mod CheckedStacks
 pub mod FirstUses
 pub mod InputParts
 pub mod BlockFields

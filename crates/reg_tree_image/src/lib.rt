@@ -20,6 +20,7 @@ mod big_data;
 mod block;
 mod built_keys;
 mod cells;
+mod checking;
 mod data;
 mod first_keys;
 mod frames;

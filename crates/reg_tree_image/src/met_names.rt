@@ -1,4 +1,4 @@
-//! The names of the values that were met in one key.
+//! The names that were met in one key, of its values or of its subkeys.
 
 ghost use Rattle.std.specs.Prelude.{◌≡◌, ◌≢◌, ◌↔◌, ◌≤◌, ◌<◌, ◌||◌, ◌++◌, ◌∷◌, ℕ, List, [], IsTrue, false, not, length, IfOk, IfErr, OnOk};
 ghost use Rattle.std.specs.List.{list_any};
@@ -108,8 +108,8 @@ impl MetNames {
         }
     }
 
-    /// Puts a name into the tree.
-    fn put(&mut self, alloc: Global, name: &[u8]) -> Result<(), LoadFault>
+    /// Puts a name into the tree, however few there are. `Twice` is for one that folds as a name in it, `Memory` where memory runs out.
+    pub fn put(&mut self, alloc: Global, name: &[u8]) -> Result<(), LoadFault>
         ensures new { Gives (λ _. tt) (check LoadFault.Twice (not (is_met self.old.folded.keys name.now))) result }
         ensures met { OnOk result ((other : List ℕ) →
             is_met self.new.folded.keys other ≡ (is_met self.old.folded.keys other || is_same name.now other)) }

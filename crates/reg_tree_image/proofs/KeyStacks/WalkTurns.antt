@@ -55,11 +55,11 @@ key-fails here crowded Limit x f whole h w c (inl e) = inl (sym w ∙ (ap f e �
 key-fails here crowded Limit x f whole h w c (inr k) = inr (c k)
 key-fails here crowded fault x f whole h w c e = sym w ∙ (ap f e ∙ h fault)
 
-not-many : (n : ℕ) → n < SUBKEYS_LIMIT → nat_lt n SUBKEYS_LIMIT ≡ true
+pub not-many : (n : ℕ) → n < SUBKEYS_LIMIT → nat_lt n SUBKEYS_LIMIT ≡ true
 not-many n l = grind (arith, nat_tests)
 
 -- what follows a result, in two ways
-regroup : {A B C D : Type 0} (f : A → Step B) (g : B → Step C) (h : C → Step D) (x : Result (A × Seen) LoadFault) →
+pub regroup : {A B C D : Type 0} (f : A → Step B) (g : B → Step C) (h : C → Step D) (x : Result (A × Seen) LoadFault) →
     onward h (onward g (onward f x)) ≡ onward (λ a. (f a >>= g) >>= h) x
 regroup f g h (Ok x) = refl
 regroup f g h (Err e) = refl
@@ -309,7 +309,7 @@ read-at heap minor root whole key above old keys w =
 
 -- ---- the first key
 
-onward-same : (x : Told) → onward (λ _ seen. Ok (tt, seen)) x ≡ x
+pub onward-same : (x : Told) → onward (λ _ seen. Ok (tt, seen)) x ≡ x
 onward-same (Ok x) = refl
 onward-same (Err e) = refl
 

@@ -49,7 +49,7 @@ fails-as crowded Limit s g seen whole h w e = inl (w ∙ (ap g e ∙ h Limit))
 fails-as crowded fault s g seen whole h w e = w ∙ (ap g e ∙ h fault)
 
 -- a fault of the first step of a head is the head's
-stops-bind : {A B : Type 0} (levels : ℕ) (fault : LoadFault) (s : Step A) (f : A → Step B) (seen : Seen) → Fails fault s seen →
+pub stops-bind : {A B : Type 0} (levels : ℕ) (fault : LoadFault) (s : Step A) (f : A → Step B) (seen : Seen) → Fails fault s seen →
     Stops levels fault ((s >>= f) seen)
 stops-bind levels Memory s f seen e = tt
 stops-bind levels Limit s f seen e = inl (ap (onward f) e)
@@ -65,7 +65,7 @@ module _ (heap : Heap) (path : List ℕ) (here : List ℕ → Path) (offset : �
   abbrev headed : KeyRecord × List ℕ → Step (KeyRecord × List ℕ)
   headed head = no_sibling (here head.1) >> give head
 
-  head-is : head_from heap path here offset seen ≡ onward (λ _. give (key_of named)) (check Twice (is_free at done.after.told) done.after)
+  pub head-is : head_from heap path here offset seen ≡ onward (λ _. give (key_of named)) (check Twice (is_free at done.after.told) done.after)
   head-is = ap (onward headed) done.gives
 
   pub head-twice : IsSome (get (from_entries {R = path_cmp} seen.told) at) → head_from heap path here offset seen ≡ Err Twice
@@ -179,10 +179,10 @@ module _ (heap : Heap) (minor lower : ℕ) (path : List ℕ) (here : List ℕ �
       fails-as crowded fault parts_step (λ r. onward (λ _. below) (onward telling r)) head.after _ (λ e. refl) key-is f
 
   module _ (parts : KeyParts) (next : List CellState) (own : IsDone heap (offset ∷ path) parts_step head.after (parts_in parts) next) where
-    abbrev told_then : Seen
+    abbrev pub told_then : Seen
     told_then = record { found = own.after.found; told = own.after.told ++ (its_path, told_as named parts) ∷ [] }
 
-    begun : key_from heap minor (suc lower) path here offset seen ≡ below told_then
+    pub begun : key_from heap minor (suc lower) path here offset seen ≡ below told_then
     begun = key-is ∙ ap (λ r. onward (λ _. below) (onward telling r)) own.gives
 
     rest-gives : rest_from heap minor (offset ∷ path) its_path the_key (cow_slice_items named.name) head.after ≡ Ok (tt, told_then)
@@ -193,7 +193,7 @@ module _ (heap : Heap) (minor lower : ℕ) (path : List ℕ) (here : List ℕ �
     unfolding Comes
     comes-here = (key_of named, head.after, told_then, head.gives, rest-gives, inl refl)
 
-    told-are : told_then.told ≡ seen.told ++ (its_path, told_as named parts) ∷ []
+    pub told-are : told_then.told ≡ seen.told ++ (its_path, told_as named parts) ∷ []
     told-are = ap (λ told. told ++ (its_path, told_as named parts) ∷ []) (own.told ∙ head.told)
 
     -- and there is no room for it
