@@ -1,5 +1,5 @@
 -- What comes of loading a tree from a reader.
-use Rattle.std.specs.Prelude.{◌≡◌, ℕ, ◌+◌, ◌<◌, ◌≤◌, ◌⊎◌, nat_lt, if◌then◌else◌, Option, Some, Result, Ok, Err, IsOk, List, length, take, drop}
+use Rattle.std.specs.Prelude.{◌≡◌, ℕ, ◌+◌, ◌<◌, ◌≤◌, ◌⊎◌, nat_lt, if◌then◌else◌, Option, Some, None, Result, Ok, Err, IsOk, List, length, take, drop}
 use Rattle.std.specs.Io.KnownBytes.{Consumes, IsAtEnd}
 use Rattle.reg_text.specs.Failures.{Stays, Fails}
 use Rattle.reg_heap.specs.ByteWords.{word}
@@ -59,19 +59,20 @@ pub record ReadsNumbered (unread left : Option (List ℕ)) (tree : Tree) (sequen
   pub loads : loaded image ≡ Ok tree
   pub numbered : sequence ≡ word image 4
 
--- a base block that passes its tests, and bins behind it whose keys the new bins have no room for: before the walk meets any fault
+-- a base block that passes its tests, and bins behind it with a key that the new bins have no room for
 abbrev pub IsImageCrowded : List ℕ → Type 0
 IsImageCrowded bytes =
     (block : BaseBlock) × (block_walk bytes nothing ≡ Ok (block, nothing))
     × AreCrowded (take block.size (drop 4096 bytes)) block.minor block.root
 
 -- why loading ended, where so much of an image was read and this is left. A read failed before all was read that was asked for; or the
--- reader came to its end before that. Otherwise all that was asked for was read, and no more, and it meets that fault, or the new bins
--- have no room for a key of it. Once the base block passes its tests, memory may lack at any time
+-- reader came to its end before that. Otherwise all that was asked for was read, and no more, and it meets that fault; or it meets none, and
+-- the new bins have no room for a key of it. Once the base block passes its tests, memory may lack at any time
 abbrev pub IsRefused : LoadFault → List ℕ → Option (List ℕ) → Type 0
 IsRefused Read image left = length image < asked_for image
 IsRefused Short image left = (length image < asked_for image) × (fault_of image ≡ Some Short) × IsAtEnd left
-IsRefused Limit image left = (length image ≡ asked_for image) × ((fault_of image ≡ Some Limit) ⊎ IsImageCrowded image)
+IsRefused Limit image left =
+    (length image ≡ asked_for image) × ((fault_of image ≡ Some Limit) ⊎ ((fault_of image ≡ None) × IsImageCrowded image))
 IsRefused Memory image left = (length image ≤ asked_for image) × HasBlock image
 IsRefused fault image left = (length image ≡ asked_for image) × (fault_of image ≡ Some fault)
 

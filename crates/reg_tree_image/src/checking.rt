@@ -3,7 +3,7 @@
 //! It makes the tests of [`crate::walk`] in the same order. Whether a key's name was met among its siblings is asked of the names
 //! themselves, since no tree has them.
 
-ghost use Rattle.std.specs.Prelude.{◌≡◌, ◌<◌, ◌+◌, ◌*◌, ◌≤◌, ℕ, List, [], length, reverse, suc, Result, Ok, OnOk, IfErr, MatchResult};
+ghost use Rattle.std.specs.Prelude.{◌≡◌, ◌<◌, ◌+◌, ◌*◌, ◌≤◌, ◌++◌, ◌∷◌, ℕ, List, [], length, reverse, suc, Result, Ok, OnOk, IfErr, MatchResult};
 ghost use Rattle.reg_names.specs.declared.TheConstants.{PATH_LIMIT};
 ghost use Rattle.reg_heap.specs.Paths.{Path};
 ghost use Rattle.reg_arena.specs.Cells.{cell_at};

@@ -2,17 +2,19 @@
 //!
 //! Suhanov, Windows registry file format specification, section "Format of primary files".
 
-ghost use Rattle.std.specs.Prelude.{◌≡◌, ◌≤◌, ◌%◌, Ok, IfOk, IfErr, MatchResult, length};
+ghost use Rattle.std.specs.Prelude.{◌≡◌, ◌≤◌, ◌%◌, Ok, IsOk, OnOk, IfOk, IfErr, MatchResult, length};
 ghost use Rattle.reg_heap.specs.declared.limits.TheConstants.{BINS_LIMIT};
 ghost use Rattle.reg_text.specs.Failures.{Stays};
 ghost use Rattle.reg_tree_image.specs.Images.{nothing, tree_in, bins_walk};
 ghost use Rattle.reg_tree_image.specs.Loads.{fault_number, ReadsImage, ReadsNumbered, MeetsFault, IsBlamed};
 ghost use Rattle.reg_tree_image.specs.CrowdedBins.{AreCrowded};
 ghost use Rattle.reg_tree_image.specs.Internal.Stacks.{FailsAs};
+ghost use Rattle.reg_tree_image.specs.Internal.CheckedStacks.{Meets};
 
 use crate::LoadFault;
 use crate::block::{BaseBlock, read_block};
 use crate::cells::word_at;
+use crate::checking::check_keys;
 use crate::input::{fill, read_bytes};
 use crate::scan::scan;
 use crate::walk::walk;
@@ -54,8 +56,8 @@ impl LoadFault {
     }
 }
 
-/// The tree of the keys in foreign bins, built anew.
-fn build_tree(alloc: Global, bins: &[u8], block: BaseBlock) -> Result<Tree, LoadFault>
+/// The tree of the keys in foreign bins, built anew: `Limit` also where the new bins have no room for a key that is met before any fault.
+fn build_keys(alloc: Global, bins: &[u8], block: BaseBlock) -> Result<Tree, LoadFault>
     requires pages { length bins.now % 4096 ≡ 0 }
     requires small { length bins.now ≤ BINS_LIMIT }
     ensures ok { IfOk result (λ tree. tree_in (bins_walk bins.now block.minor block.root nothing) ≡ Ok tree.tree) }
@@ -66,15 +68,42 @@ fn build_tree(alloc: Global, bins: &[u8], block: BaseBlock) -> Result<Tree, Load
     walk(alloc, bins, block.minor, &mut table, block.root)
 }
 
+/// Makes the tests of the keys in foreign bins, and builds none: the first that fails is the fault.
+fn test_keys(alloc: Global, bins: &[u8], block: BaseBlock) -> Result<(), LoadFault>
+    requires pages { length bins.now % 4096 ≡ 0 }
+    requires small { length bins.now ≤ BINS_LIMIT }
+    ensures ok { OnOk result (IsOk (bins_walk bins.now block.minor block.root nothing)) }
+    ensures err { IfErr result (λ fault. Meets fault (bins_walk bins.now block.minor block.root nothing)) }
+{
+    let mut table = scan(alloc, bins)?;
+    check_keys(alloc, bins, block.minor, &mut table, block.root)
+}
+
+/// The tree of the keys in foreign bins, built anew. Where the new bins have no room for a key, the tests go on without building, and that
+/// is the fault only where none of them fails.
+fn build_tree(alloc: Global, bins: &[u8], block: BaseBlock) -> Result<Tree, LoadFault>
+    requires pages { length bins.now % 4096 ≡ 0 }
+    requires small { length bins.now ≤ BINS_LIMIT }
+    ensures ok { IfOk result (λ tree. tree_in (bins_walk bins.now block.minor block.root nothing) ≡ Ok tree.tree) }
+    ensures err { IfErr result (λ fault. FailsAs (IsOk (bins_walk bins.now block.minor block.root nothing)
+        × AreCrowded bins.now block.minor block.root) fault (bins_walk bins.now block.minor block.root nothing)) }
+{
+    let built = build_keys(alloc, bins, block);
+    if let Err(LoadFault::Limit) = built {
+        test_keys(alloc, bins, block)?;
+    }
+    built
+}
+
 /// Loads a tree from an image: reads its base block, then the bins behind it and no byte more, and builds bins anew of the keys that
 /// the bins hold.
 ///
 /// The first test that fails is the fault. `Short` where the image ends before its base block or its bins do, `Read` only where a
 /// read fails, and then no other is made: one that is interrupted fails too. Of the base block `Signature`, `Version`, `Checksum`,
 /// `Dirty`, `Bins` and `Limit`; of the bins, once all are read, `Bins` where the header of one is bad, else `Cells` where a cell's
-/// size is; of the keys, as they are met from the root on, `Record`, `Loop`, `Twice`, `NotInProfile` and `Limit`. `Limit` comes else
-/// only where new bins have no room for a key that is met before any fault: bins that came about by building the keys met before it
-/// one after the other, each with just the cells that it takes, and grew only where no free cell had room. They have none for its
+/// size is; of the keys, as they are met from the root on, `Record`, `Loop`, `Twice`, `NotInProfile` and `Limit`. Where none of these
+/// tests fails, `Limit` comes for want of room in the new bins: bins that came about by building the keys in the order in which they are
+/// met, each with just the cells that it takes, and grew only where no free cell had room. They have none for a key's
 /// key node with its descriptor and its place in a list, or then none for its class, or then none for its values: for as many of
 /// them together, from the first on, as have cells of at most 16,777,216 bytes with a list that has room for all, or then for one of
 /// the others behind those before it. No room is that no free cell has room for all cells of one of these, and that with a bin more

@@ -1,5 +1,5 @@
 -- An image that was read, or a part of it.
-use Rattle.std.proofs.Common.{◌≡◌, ℕ, ◌+◌, ◌<◌, ◌≤◌, ◌++◌, nat_le, nat_lt, true, false, Result, Ok, Err, IsOk, Some, List, length, take}
+use Rattle.std.proofs.Common.{◌≡◌, ℕ, ◌+◌, ◌<◌, ◌≤◌, ◌++◌, nat_le, nat_lt, true, false, Result, Ok, Err, IsOk, Some, None, List, length, take}
 use Rattle.std.proofs.Common.{drop}
 use Rattle.std.proofs.Common.{refl, sym, ap, ◌∙◌, subst, inl, inr, arith, length-append}
 use Rattle.std.proofs.Math.Seq.{take-append_seam, drop-append_seam, take-length}
@@ -42,6 +42,15 @@ after-block bytes block =
 fault-is : (bytes : List ℕ) (fault : LoadFault) → image_walk bytes nothing ≡ Err fault → fault_of bytes ≡ Some fault
 unfolding loaded
 fault-is bytes fault e = ap (λ r. fault_in (tree_in r)) e
+
+-- a walk that meets no fault
+none-is : (bytes : List ℕ) → IsOk (image_walk bytes nothing) → fault_of bytes ≡ None
+unfolding loaded
+none-is bytes ok = by (image_walk bytes nothing) ok
+  where
+    by : (r : Result (Unit {0} × Seen) LoadFault) → IsOk r → fault_in (tree_in r) ≡ None
+    by (Ok x) ok = refl
+    by (Err fault) ok = absurd (cc)
 
 -- ---- fewer bytes than a base block has
 
@@ -160,7 +169,8 @@ module _ (head : List ℕ) (long : length head ≡ 4096) where
     refused-before-bins fault left m k = absurd k
 
     pub refused-at-bins : (fault : LoadFault) (left : _) → block.size ≤ 268435456 → length more ≡ block.size →
-        FailsAs (AreCrowded more block.minor block.root) fault (bins_walk more block.minor block.root nothing) →
+        FailsAs (IsOk (bins_walk more block.minor block.root nothing) × AreCrowded more block.minor block.root) fault
+        (bins_walk more block.minor block.root nothing) →
         (length (head ++ more) ≤ 268439552) × IsRefused fault (head ++ more) left
     refused-at-bins fault left m k w =
         let s = size-is in
@@ -170,10 +180,17 @@ module _ (head : List ℕ) (long : length head ≡ 4096) where
         is f w = fault-is (head ++ more) f (whole-walked k ∙ w)
 
         by : (f : LoadFault) → length (head ++ more) ≡ asked_for (head ++ more) →
-            FailsAs (AreCrowded more block.minor block.root) f (bins_walk more block.minor block.root nothing) → IsRefused f (head ++ more) left
+            FailsAs (IsOk (bins_walk more block.minor block.root nothing) × AreCrowded more block.minor block.root) f
+            (bins_walk more block.minor block.root nothing) → IsRefused f (head ++ more) left
         by Read a w = absurd (bins-meet more block.minor block.root nothing Read w)
         by Short a w = absurd (bins-meet more block.minor block.root nothing Short w)
         by Memory a w = (omega (arith, a), has-block)
         by Limit a (inl w) = (a, inl (is Limit w))
-        by Limit a (inr c) = (a, inr (block, block-is, subst (λ bytes. AreCrowded bytes block.minor block.root) (sym (its-bins k)) c))
+        by Limit a (inr c) = (
+          a,
+          inr (
+            none-is (head ++ more) (subst (λ (r : Result (Unit {0} × Seen) LoadFault). IsOk r) (sym (whole-walked k)) c.0),
+            (block, block-is, subst (λ bytes. AreCrowded bytes block.minor block.root) (sym (its-bins k)) c.1),
+          ),
+        )
         by f a w = (a, is f w)

@@ -1,5 +1,5 @@
 -- The tree of foreign bins: scanned, and then walked.
-use Rattle.std.proofs.Common.{◌≡◌, ℕ, suc, Result, Ok, Err, IfOk, IfErr, List, [], inl, inr, sym, ap, ◌∙◌, subst}
+use Rattle.std.proofs.Common.{◌≡◌, ℕ, suc, Result, Ok, Err, IsOk, OnOk, IfOk, IfErr, List, [], inl, inr, refl, sym, ap, ◌∙◌, subst}
 use Rattle.reg_names.specs.declared.TheConstants.{PATH_LIMIT}
 use Rattle.reg_heap.specs.Paths.{Tree}
 use Rattle.reg_heap.specs.Heaps.{Heap}
@@ -16,6 +16,8 @@ use Rattle.reg_tree_image.specs.Internal.CellStates.{IsTable}
 use Rattle.reg_tree_image.specs.WalkedKeys.{Comes}
 use Rattle.reg_tree_image.specs.CrowdedBins.{AreCrowded}
 use Rattle.reg_tree_image.specs.Internal.Stacks.{IsRootCrowded, FailsAs}
+use Rattle.reg_tree_image.specs.Internal.CheckedStacks.{Meets}
+use Rattle.reg_tree_image.proofs.Readers.CheckedSteps.{only-meets}
 
 module _ (bins : List ℕ) (minor root : ℕ) where
   -- the keys of a heap, from the root on
@@ -86,3 +88,25 @@ module _ (bins : List ℕ) (minor root : ℕ) where
     tree-fails (Ok tree) w = tt
     tree-fails (Err fault) w =
         subst (λ whole. FailsAs (AreCrowded bins minor root) fault whole) (sym bins-walked) (fails fault _ w)
+
+-- ---- the keys tested, and none built
+
+module _ (bins : List ℕ) (minor root : ℕ) where
+  abbrev Whole : Result (Unit {0} × Seen) LoadFault
+  Whole = bins_walk bins minor root nothing
+
+  -- where a header or a size is bad, or memory lacks
+  pub scan-meets : (fault : LoadFault) → IsNoScan bins fault → Meets fault Whole
+  scan-meets fault n = only-meets fault Whole (scan-fails bins minor root ⊥ fault n)
+
+  module _ (states : List CellState) (s : IsScanned bins states) where
+    pub tested : (r : Result (Unit {0}) LoadFault) →
+        OnOk r ((seen : Seen) × (keys-walked bins minor root (cell_at bins) ≡ Ok (tt, seen))) → OnOk r (IsOk Whole)
+    tested (Ok done) w =
+        subst (λ (r : Result (Unit {0} × Seen) LoadFault). IsOk r) (sym (bins-walked bins minor root states s ∙ w.1)) refl
+    tested (Err fault) w = tt
+
+    pub test-fails : (r : Result (Unit {0}) LoadFault) → IfErr r (λ fault. Meets fault (keys-walked bins minor root (cell_at bins))) →
+        IfErr r (λ fault. Meets fault Whole)
+    test-fails (Ok done) m = tt
+    test-fails (Err fault) m = subst (λ whole. Meets fault whole) (sym (bins-walked bins minor root states s)) m

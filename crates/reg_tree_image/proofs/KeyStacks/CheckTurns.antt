@@ -1,7 +1,6 @@
 -- Where no key is built, what was read so far, and the rest of the walk, stay the whole walk in each turn.
-use Rattle.std.proofs.Common.{◌≡◌, ℕ, suc, ◌+◌, ◌<◌, ◌≤◌, ◌||◌, nat_lt, true, false, length, Result, Ok, Err, List, [], ◌∷◌, ◌++◌, add-one, refl, sym, ap, ◌∙◌, subst, arith}
+use Rattle.std.proofs.Common.{◌≡◌, ℕ, suc, ◌+◌, ◌<◌, ◌≤◌, length, Result, Ok, Err, List, [], ◌∷◌, ◌++◌, add-one, refl, sym, ap, ◌∙◌, subst, arith}
 use Rattle.std.specs.Result.{MatchResult}
-use Rattle.std.proofs.lemmas.Bool.Decides.{nat_tests}
 use Rattle.reg_names.specs.declared.TheConstants.{PATH_LIMIT}
 use Rattle.reg_heap.specs.declared.limits.TheConstants.{SUBKEYS_LIMIT}
 use Rattle.reg_heap.specs.Heaps.{Heap}
@@ -9,7 +8,7 @@ use Rattle.reg_heap.specs.Paths.{Path, Rec}
 use Rattle.reg_heap.specs.Edits.{child_path}
 use Rattle.reg_records.specs.SubkeyLists.{Entry, SubkeysList}
 use Rattle.reg_tree_image.specs.declared.LoadFault.{LoadFault}
-use Rattle.reg_tree_image.specs.declared.LoadFault.TheVariants.{Limit, Memory}
+use Rattle.reg_tree_image.specs.declared.LoadFault.TheVariants.{Memory}
 use Rattle.reg_tree_image.specs.declared.table.CellState.{CellState}
 use Rattle.reg_tree_image.specs.declared.table.CellState.TheVariants.{Named, OnPath}
 use Rattle.reg_tree_image.specs.declared.list_part.ListPart.{ListPart}
@@ -49,9 +48,6 @@ key-meets : (fault : LoadFault) (x : Told) (f : Told → Told) (whole : Told) �
     Meets fault x → Meets fault whole
 key-meets Memory x f whole h w e = tt
 key-meets fault x f whole h w e = sym w ∙ (ap f e ∙ h fault)
-
-too-many : (n : ℕ) → SUBKEYS_LIMIT ≤ n → nat_lt n SUBKEYS_LIMIT ≡ false
-too-many n l = grind (arith, nat_tests)
 
 -- ---- the keys above
 
@@ -158,16 +154,6 @@ module _ (heap : Heap) (minor : ℕ) (whole : Told) (key : CheckedKey) (above : 
             >>= (λ m. lists_each heap (go heap minor w.levels f) f.path m (entries_in part))) in
             list-meets fault (leaf_from heap f.path e.offset) (λ x. onward (λ _. left heap minor (suc w.levels) frames) (onward rest x))
             w.seen whole (λ e. refl) (rw (es, ls) at r) (follows f.path w.seen t)
-
-  -- ---- too many subkeys
-  pub checking-many : (e : Entry) (part : List Entry) → entries_in key.leaf ≡ e ∷ part → SUBKEYS_LIMIT ≤ key.count → Meets Limit whole
-  checking-many e part more many = by-frame by
-    where
-      by : FromLowest (Meets Limit whole)
-      by f frames a path level deep shown t r =
-          let es : f.entries ≡ e ∷ part = sym a.entries ∙ more in
-          let n : nat_lt f.count SUBKEYS_LIMIT ≡ false = too-many f.count (subst (λ n. SUBKEYS_LIMIT ≤ n) a.count many) in
-          sym (rw (es, n) at r)
 
   -- ---- the next key
   module _ (e : Entry) (part : ListPart) (more : entries_in key.leaf ≡ e ∷ entries_in part) (few : key.count < SUBKEYS_LIMIT) where

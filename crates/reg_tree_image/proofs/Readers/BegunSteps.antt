@@ -179,7 +179,7 @@ module _ (heap : Heap) (minor lower : ℕ) (path : List ℕ) (here : List ℕ �
       fails-as crowded fault parts_step (λ r. onward (λ _. below) (onward telling r)) head.after _ (λ e. refl) key-is f
 
   module _ (parts : KeyParts) (next : List CellState) (own : IsDone heap (offset ∷ path) parts_step head.after (parts_in parts) next) where
-    abbrev told_then : Seen
+    abbrev pub told_then : Seen
     told_then = record { found = own.after.found; told = own.after.told ++ (its_path, told_as named parts) ∷ [] }
 
     pub begun : key_from heap minor (suc lower) path here offset seen ≡ below told_then

@@ -1,5 +1,5 @@
 -- A key that is checked and not built: from the steps that were read to what is left of it.
-use Rattle.std.proofs.Common.{◌≡◌, ℕ, zero, suc, ◌-◌, ◌<◌, ◌||◌, not, Bool, true, false, Option, None, Some, is_some, Result, Ok, Err, IsOk, List, [], ◌∷◌, ◌++◌, inl, inr, refl, sym, ap, ◌∙◌, subst, arith}
+use Rattle.std.proofs.Common.{◌≡◌, ℕ, suc, ◌||◌, not, Bool, true, false, Option, None, Some, is_some, Result, Ok, Err, IsOk, List, ◌∷◌, inl, inr, refl, sym, ap, ◌∙◌, subst}
 use Rattle.std.specs.Result.{IsErrAnd, MatchResult}
 use Rattle.std.specs.FinMap.{get, from_entries}
 use Rattle.std.specs.Cow.{cow_slice_items}
@@ -15,9 +15,8 @@ use Rattle.reg_tree_image.specs.declared.keys.NamedKey.{NamedKey}
 use Rattle.reg_tree_image.specs.declared.key_parts.KeyParts.{KeyParts}
 use Rattle.reg_tree_image.specs.declared.subkeys.SubkeyParts.{SubkeyParts}
 use Rattle.reg_tree_image.specs.declared.met_names.MetNames.{MetNames}
-use Rattle.reg_tree_image.specs.declared.checking.CheckedKey.{CheckedKey}
 use Rattle.reg_tree_image.specs.WalkSteps.{Seen, Step, onward, give, check}
-use Rattle.reg_tree_image.specs.LoadingWalk.{is_free, named_key, head_from, parts_from, subkeys_from, key_from}
+use Rattle.reg_tree_image.specs.LoadingWalk.{is_free, named_key, head_from, parts_from, key_from}
 use Rattle.reg_tree_image.specs.Internal.CellStates.{IsTable}
 use Rattle.reg_tree_image.specs.Internal.NamedRecords.{key_of, parts_in}
 use Rattle.reg_tree_image.specs.Internal.ReaderOutcomes.{IsDone, Fails, Gives}
@@ -30,7 +29,7 @@ use Rattle.reg_tree_image.proofs.Readers.BegunSteps.{stops-bind, head-is, head-d
 -- ---- faults
 
 -- where no key is built, no fault comes of that
-only-meets : (fault : LoadFault) (whole : Result (Unit {0} × Seen) LoadFault) → FailsAs ⊥ fault whole → Meets fault whole
+pub only-meets : (fault : LoadFault) (whole : Result (Unit {0} × Seen) LoadFault) → FailsAs ⊥ fault whole → Meets fault whole
 only-meets Memory whole f = tt
 only-meets Limit whole (inl e) = e
 only-meets Limit whole (inr k) = absurd k

@@ -1,7 +1,6 @@
 -- The keys on the present path of a walk that builds none, as frames of what is left.
-use Rattle.std.specs.Prelude.{◌≡◌, ℕ, suc, ◌+◌, ◌||◌, not, Bool, true, false, length, Result, Ok, Err, List, [], ◌∷◌, ◌++◌, ⊤}
+use Rattle.std.specs.Prelude.{◌≡◌, ℕ, suc, ◌+◌, ◌||◌, not, Bool, true, false, length, Result, Err, List, [], ◌∷◌, ◌++◌, ⊤}
 use Rattle.reg_names.specs.declared.TheConstants.{PATH_LIMIT}
-use Rattle.reg_names.specs.Names.{folded}
 use Rattle.reg_heap.specs.Heaps.{Heap}
 use Rattle.reg_heap.specs.Paths.{Path, Rec}
 use Rattle.reg_heap.specs.Edits.{child_path}

@@ -1,7 +1,7 @@
 use Rattle.reg_tree_image.proofs.Devices.InputPieces.{exit-with}
 use Rattle.reg_tree_image.proofs.Devices.TreesOfBins.{scan-fails, scanned, tree-built, tree-fails}
 use Rattle.reg_tree.specs.declared.tree.Tree.{Tree}
-use Rattle.reg_tree_image.proofs.loading.build_tree.Goals as goal
+use Rattle.reg_tree_image.proofs.loading.build_keys.Goals as goal
 
 pub returns-in_err-table-clause-err : goal.returns-in_err-table-clause-err
 returns-in_err-table-clause-err c =
