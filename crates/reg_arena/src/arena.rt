@@ -141,6 +141,7 @@ impl Arena {
         ensures writes { Writes (heap_of self.old) (heap_of self.new) (cell ∷ []) }
         ensures cells { cells_of self.new.bytes ≡ cells_of self.old.bytes }
         ensures heads { self.new.heads ≡ self.old.heads }
+        ensures bytes { self.new.bytes ≡ splice (cell + 4 + at) (take len (drop from (unwrap_or (heap_of self.old cell) []))) self.old.bytes }
         ensures long { length self.new.bytes ≡ length self.old.bytes }
     {
         self.copy(cell, from, cell, at, len);
@@ -160,6 +161,7 @@ impl Arena {
         ensures writes { Writes (heap_of self.old) (heap_of self.new) (cell ∷ []) }
         ensures cells { cells_of self.new.bytes ≡ cells_of self.old.bytes }
         ensures heads { self.new.heads ≡ self.old.heads }
+        ensures bytes { self.new.bytes ≡ splice (cell + 4 + at) (take len (drop from (unwrap_or (heap_of self.old source) []))) self.old.bytes }
         ensures long { length self.new.bytes ≡ length self.old.bytes }
     {
         let first = source as usize + 4 + from as usize;

@@ -143,7 +143,7 @@ fn keep_page(kept: &mut Vec<Spare>, spare: Spare)
     }
 }
 
-// The same for each of some.
+// Keeps of the memory for bins that were not needed what is for bins of one page, as long as there is little of it.
 fn keep_pages(kept: &mut Vec<Spare>, spares: Vec<Spare>)
     ensures { ArePages kept.old.items → ArePages kept.new.items }
 {
@@ -214,7 +214,7 @@ fn carve_one(
     let _ = carve_found(bins, lists, fit, size, &[size], out);
 }
 
-// The same, and puts its offset at the place in `out`, from `from` on.
+// Carves one cell, for which there is room, and puts its offset into `out`, at the place counted from `from` on.
 fn carve_to(
     bins: &mut BinRow,
     lists: &mut FreeLists,

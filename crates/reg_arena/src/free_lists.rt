@@ -2,7 +2,7 @@
 //!
 //! The cells of one size below 16,384 bytes stand side by side in their list. For each such size there is its first cell, and
 //! a bit that says whether there is one: so their best fit is found without a walk. From 16,384 bytes on the list is walked.
-ghost use Rattle.std.specs.Prelude.{◌≡◌, ℕ, ◌-◌, ◌/◌, ◌%◌, ◌≤◌, ◌<◌, ◌⊎◌, List, [], replicate, length, MatchOption, OnOk, IsOk, vec_capacity};
+ghost use Rattle.std.specs.Prelude.{◌≡◌, ℕ, ◌-◌, ◌/◌, ◌%◌, ◌≤◌, ◌<◌, ◌⊎◌, List, [], replicate, length, MatchOption, OnErr, OnOk, IsOk, vec_capacity};
 ghost use Rattle.reg_heap.specs.declared.limits.TheConstants.{NONE};
 ghost use Rattle.reg_arena.specs.Internal.SizeTables.{bit_in, start_in, IsLeast, counted};
 ghost use Rattle.reg_arena.specs.Internal.Reserved.{KeepsTables};
@@ -87,13 +87,14 @@ impl FreeLists {
         }
     }
 
-    // Room in the tables for `units` times eight bytes. The lists stay as they are.
+    // Room in the tables for `units` times eight bytes. The lists stay as they are. Where memory is refused, so do the marks.
     pub fn make_room(&mut self, units: usize) -> Result<(), AllocError>
         requires { units ≤ 33554432 }
         ensures listed { (bytes : List ℕ) → (sizes : ℕ → ℕ) → IsListed bytes sizes self.old → IsListed bytes sizes self.new }
         ensures heads { self.new.heads ≡ self.old.heads }
         ensures ok { OnOk result (HasRoom units self.new) }
         ensures succeeds { HasRoom units self.old → IsOk result }
+        ensures err { OnErr result (self.new.marks ≡ self.old.marks) }
         ensures keeps { KeepsTables self.old self.new }
     {
         lengthen(&mut self.firsts, SIZES, NONE)?;
@@ -176,15 +177,15 @@ impl FreeLists {
         if total >= self.top {
             return None;
         }
-        let Some(fit) = self.look(bins, total) else {
+        let Some(fit) = self.fit_in_lists(bins, total) else {
             self.top = total;
             return None;
         };
         Some(fit)
     }
 
-    // The same, without a look at `top`.
-    fn look(&self, bins: &BinRow, total: u32) -> Option<Fit>
+    // The best fit by the lists alone: `top`, which may tell without them that nothing fits, is not asked.
+    fn fit_in_lists(&self, bins: &BinRow, total: u32) -> Option<Fit>
         requires lists { HasLists bins.now.items self.now }
         requires some { 0 < total }
         requires eights { total % 8 ≡ 0 }

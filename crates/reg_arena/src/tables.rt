@@ -1,5 +1,5 @@
 //! Side tables, with a number for each eight bytes of the bins or for each size.
-ghost use Rattle.std.specs.Prelude.{◌≡◌, ℕ, ◌+◌, ◌-◌, ◌/◌, ◌≤◌, ◌<◌, max, length, get_or, OnOk, IsOk};
+ghost use Rattle.std.specs.Prelude.{◌≡◌, ℕ, ◌+◌, ◌-◌, ◌/◌, ◌≤◌, ◌<◌, max, length, get_or, OnErr, OnOk, IsOk};
 ghost use Rattle.reg_heap.specs.declared.limits.TheConstants.{NONE};
 ghost use Rattle.reg_arena.specs.Internal.SizeTables.{marked, ended, tagged, untagged};
 
@@ -49,7 +49,7 @@ pub fn without_tag(mark: u32) -> u32
     mark - mark % 2
 }
 
-// A table of at least so many numbers, the new ones all the same.
+// Lengthens a table to at least so many numbers, the new ones all the same. Where memory is refused, it is as before.
 pub fn lengthen(table: &mut Vec<u32>, long: usize, number: u32) -> Result<(), AllocError>
     requires { long ≤ 33554432 }
     ensures same { (place : ℕ) → get_or table.new.items place number ≡ get_or table.old.items place number }
@@ -57,6 +57,7 @@ pub fn lengthen(table: &mut Vec<u32>, long: usize, number: u32) -> Result<(), Al
     ensures most { length table.new.items ≤ max (length table.old.items) long }
     ensures ok { OnOk result (long ≤ length table.new.items) }
     ensures succeeds { long ≤ length table.old.items → IsOk result }
+    ensures err { OnErr result (table.new.items ≡ table.old.items) }
 {
     if long <= table.len() {
         return Ok(());
@@ -64,7 +65,7 @@ pub fn lengthen(table: &mut Vec<u32>, long: usize, number: u32) -> Result<(), Al
     table.resize(long, number)
 }
 
-// The same of a bitmap.
+// Lengthens a bitmap to at least so many words, the new ones all 0. Where memory is refused, it is as before.
 pub fn lengthen_words(table: &mut Vec<u64>, long: usize) -> Result<(), AllocError>
     requires { long ≤ 33554432 }
     ensures same { (place : ℕ) → get_or table.new.items place 0 ≡ get_or table.old.items place 0 }
@@ -72,6 +73,7 @@ pub fn lengthen_words(table: &mut Vec<u64>, long: usize) -> Result<(), AllocErro
     ensures most { length table.new.items ≤ max (length table.old.items) long }
     ensures ok { OnOk result (long ≤ length table.new.items) }
     ensures succeeds { long ≤ length table.old.items → IsOk result }
+    ensures err { OnErr result (table.new.items ≡ table.old.items) }
 {
     if long <= table.len() {
         return Ok(());

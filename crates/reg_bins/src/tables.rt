@@ -1,5 +1,6 @@
 //! A number for each eight bytes of bins, those of each page in a table of their own.
-ghost use Rattle.std.specs.Prelude.{◌≡◌, ℕ, ◌+◌, ◌*◌, ◌/◌, ◌≤◌, ◌<◌, ◌⊎◌, [], length, get_or, set, OnOk, IsOk};
+ghost use Rattle.std.specs.Prelude.{◌≡◌, ℕ, ◌+◌, ◌*◌, ◌/◌, ◌≤◌, ◌<◌, ◌⊎◌, [], length, take, max, get_or, set, OnOk, OnErr, IsOk};
+ghost use Rattle.reg_bins.specs.Internal.{numbers_of, AreWhole};
 
 use std::alloc::{AllocError, Global};
 use std::marker::Model;
@@ -70,7 +71,7 @@ impl PageTables {
     }
 
     /// At least so many numbers, at most 511 and a sixteenth more, and never more than 8,191 more, the new ones all 0; or as many as
-    /// there were, where those are more. What was there stays. Where memory is refused, some of the new ones may be there.
+    /// there were, where those are more. What was there stays. Where memory is refused, there are as many as before.
     pub fn lengthen(&mut self, long: usize) -> Result<(), AllocError>
         requires { long ≤ 33554432 }
         ensures same { (place : ℕ) → get_or self.new.items place 0 ≡ get_or self.old.items place 0 }
@@ -79,18 +80,37 @@ impl PageTables {
         ensures few { (length self.new.items ≡ length self.old.items) ⊎ (length self.new.items ≤ long + 8191) }
         ensures ok { OnOk result (long ≤ length self.new.items) }
         ensures succeeds { long ≤ length self.old.items → IsOk result }
+        ensures err { OnErr result (self.new.items ≡ self.old.items) }
     {
-        if (long + PAGE - 1) / PAGE <= self.pages.len() {
+        let before = self.pages.len();
+        if (long + PAGE - 1) / PAGE <= before {
             return Ok(());
         }
         let pages = pages_for(long);
-        while self.pages.len() < pages {
-            let mut numbers = Vec::new(self.alloc);
-            numbers.resize(PAGE, 0)?;
-            self.pages.push(PageTable { numbers })?;
+        if add_tables(&mut self.pages, self.alloc, pages).is_err() {
+            self.pages.truncate(before);
+            return Err(AllocError);
         }
         Ok(())
     }
+}
+
+// Tables of zeros behind those that there are, until there are so many. Where memory is refused, some of them may be there.
+fn add_tables(pages: &mut Vec<PageTable>, alloc: Global, long: usize) -> Result<(), AllocError>
+    requires { AreWhole pages.old.items }
+    ensures front { take (length pages.old.items) pages.new.items ≡ pages.old.items }
+    ensures whole { AreWhole pages.new.items }
+    ensures same { (place : ℕ) → get_or (numbers_of pages.new.items) place 0 ≡ get_or (numbers_of pages.old.items) place 0 }
+    ensures longer { length pages.old.items ≤ length pages.new.items }
+    ensures most { length pages.new.items ≤ max (length pages.old.items) long }
+    ensures ok { OnOk result (long ≤ length pages.new.items) }
+{
+    while pages.len() < long {
+        let mut numbers = Vec::new(alloc);
+        numbers.resize(PAGE, 0)?;
+        pages.push(PageTable { numbers })?;
+    }
+    Ok(())
 }
 
 // For how many pages tables are made, so that there are so many numbers. Where there are many pages, tables are made several at a time:

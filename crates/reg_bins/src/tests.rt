@@ -25,7 +25,7 @@ fn push_blank(row: &mut BinRow, size: usize) -> Result<(), AllocError>
     Ok(())
 }
 
-// The same, at the second try if need be.
+// Appends a bin of zeros, and where memory was refused tries once more.
 fn push_twice(row: &mut BinRow, size: usize) -> Result<(), AllocError>
     requires some { 0 < size }
     requires pages { size % 4096 ≡ 0 }

@@ -8,7 +8,7 @@
 //! twice its size.
 #![tactic(auto)]
 
-ghost use Rattle.std.specs.Prelude.{◌≡◌, ◌+◌, ◌-◌, ◌<◌, ◌≤◌, ◌++◌, ◌∷◌, [], None, OnOk, length, nat_lt, slice_get, if◌then◌else◌, option_copied};
+ghost use Rattle.std.specs.Prelude.{◌≡◌, ◌+◌, ◌-◌, ◌*◌, ◌<◌, ◌≤◌, ◌⊎◌, ◌++◌, ◌∷◌, [], None, IsOk, OnErr, OnOk, length, nat_lt, slice_get, if◌then◌else◌, option_copied};
 
 use reg_model::Entry;
 use std::alloc::{AllocError, Global};
@@ -61,14 +61,25 @@ impl Journal {
         self.entries.get(number - self.base)
     }
 
-    /// Keeps room for so many more entries. Its one fault is that memory was refused; then the entries are as before.
+    /// Keeps room for so many more entries. Where there is less yet, the list becomes one of twice its size or of what is needed, the
+    /// larger of the two: so it has at most twice the size that is needed. Its one fault is that memory was refused; then the entries
+    /// and the room are as before.
     pub fn reserve(&mut self, more: usize) -> Result<(), AllocError>
         ensures base { self.new.base ≡ self.old.base }
         ensures entries { self.new.entries ≡ self.old.entries }
         ensures room { self.old.room ≤ self.new.room }
         ensures ok { OnOk result (more ≤ self.new.room) }
+        ensures most { (self.new.room ≡ self.old.room) ⊎ (length self.old.entries + self.new.room ≤ 2 * (length self.old.entries + more)) }
+        ensures succeeds { more ≤ self.old.room → IsOk result }
+        ensures err { OnErr result (self.new.room ≡ self.old.room) }
     {
-        self.entries.reserve(more)
+        let size = self.entries.capacity();
+        let room = size - self.entries.len();
+        if more <= room {
+            return Ok(());
+        }
+        let growth = more.max(room.saturating_add(size));
+        self.entries.reserve_exact(growth)
     }
 
     /// Appends an entry in room that was kept.

@@ -54,9 +54,10 @@ impl Bytes {
         Ok(Bytes { items })
     }
 
-    /// A copy, which equals its source. Its one fault is that memory was refused.
+    /// A copy, which equals its source. Its one fault is that memory was refused; no bytes take no memory.
     pub fn try_clone(&self, alloc: Global) -> Result<Bytes, AllocError>
-        ensures { IfOk result (λ copy. copy ≡ self.now) }
+        ensures ok { IfOk result (λ copy. copy ≡ self.now) }
+        ensures err { OnErr result (self.now ≢ []) }
     {
         Bytes::from_slice(alloc, self.as_slice())
     }

@@ -1,4 +1,6 @@
-use Rattle.reg_arena.proofs.Contents.CellCopies.{copied}
+use Rattle.std.proofs.Common.{◌∙◌, ap, sym, ◌+◌}
+use Rattle.reg_heap.specs.ByteWords.{splice}
+use Rattle.reg_arena.proofs.Contents.CellCopies.{copied, part}
 use Rattle.reg_arena.proofs.Tiling.BinPlaces.{split-kept}
 use Rattle.reg_arena.proofs.Tiling.BinParts.{content-part}
 use Rattle.reg_arena.proofs.Tiling.ArenaInvariant.{apart, closed, opened}
@@ -33,6 +35,11 @@ pub returns-clause-writes : goal.returns-clause-writes
 returns-clause-writes c = rw (← c.self.view_is) (copied _ _ _ c.args.source c.args.from c.args.cell c.args.at c.args.len (opened _ _ c.self.invariant.0)
     (rw (← c.self.view_is) at c.requires.source) (rw (← c.self.view_is) at c.requires.exists) (rw (← c.self.view_is) at c.requires.within)
     (rw (← c.self.view_is) at c.requires.fits) c.copy.ensures.items).writes
+
+pub returns-clause-bytes : goal.returns-clause-bytes
+returns-clause-bytes c = rw (← c.self.view_is) (c.copy.ensures.items ∙ ap (λ piece. splice (c.args.cell + 4 + c.args.at) piece c.self.inside.bins.items)
+    (sym (part _ c.args.source c.args.from c.args.len (opened _ _ c.self.invariant.0).arena (rw (← c.self.view_is) at c.requires.source)
+    (rw (← c.self.view_is) at c.requires.within))))
 
 pub returns-clause-long : goal.returns-clause-long
 returns-clause-long c = rw (← c.self.view_is) (copied _ _ _ c.args.source c.args.from c.args.cell c.args.at c.args.len (opened _ _ c.self.invariant.0)

@@ -1,7 +1,7 @@
 use Rattle.std.proofs.Common.{arith, ◌∙◌}
 use Rattle.std.proofs.lemmas.List.{get_or_default}
 use Rattle.reg_arena.proofs.FreeList.BestFits.{set-first, small-fit, last-within, none-fits, large-fit, fit-within}
-use Rattle.reg_arena.proofs.free_lists.FreeLists.look.Goals as goal
+use Rattle.reg_arena.proofs.free_lists.FreeLists.fit_in_lists.Goals as goal
 
 pub index-requires : goal.index-requires
 index-requires c =
