@@ -15,14 +15,14 @@ use crate::fields::put_field_changes;
 use crate::line::{Part, put_line};
 use crate::side::Side;
 use crate::values::{put_value_changes, put_values};
-use reg_text::Sink;
+use reg_text::{Output, Sink};
 use reg_tree::{Node, Tree};
-use reg_tree_text::{DumpFault, Output, Walk};
+use reg_tree_text::{DumpFault, Walk, finish};
 use std::alloc::Global;
 
 /// Tells the line of a key that one tree alone has.
 fn put_key_line<'a, W: Sink>(
-    output: &mut Output,
+    output: &mut Output<String>,
     writer: &mut W,
     side: Side,
     path: &'a [u8],
@@ -43,7 +43,7 @@ fn put_key_line<'a, W: Sink>(
 
 /// Tells a key that one tree alone has, with its values.
 fn put_whole_key<W: Sink>(
-    output: &mut Output,
+    output: &mut Output<String>,
     writer: &mut W,
     alloc: Global,
     side: Side,
@@ -61,7 +61,7 @@ fn put_whole_key<W: Sink>(
 
 /// Tells how a key differs that both trees have.
 fn put_key_changes<W: Sink>(
-    output: &mut Output,
+    output: &mut Output<String>,
     writer: &mut W,
     alloc: Global,
     old: &Tree,
@@ -82,7 +82,7 @@ fn put_key_changes<W: Sink>(
 
 /// Tells a key at the end of a path, which the other tree may have: looked up there, and not looked for.
 fn put_key<W: Sink>(
-    output: &mut Output,
+    output: &mut Output<String>,
     writer: &mut W,
     alloc: Global,
     side: Side,
@@ -108,7 +108,7 @@ fn put_key<W: Sink>(
 
 /// Tells the keys of one tree against the other one.
 fn put_side<W: Sink>(
-    output: &mut Output,
+    output: &mut Output<String>,
     writer: &mut W,
     alloc: Global,
     side: Side,
@@ -133,7 +133,7 @@ fn put_side<W: Sink>(
 
 /// Tells how two trees differ.
 fn put_diff<W: Sink>(
-    output: &mut Output,
+    output: &mut Output<String>,
     writer: &mut W,
     alloc: Global,
     old: &Tree,
@@ -147,10 +147,10 @@ fn put_diff<W: Sink>(
 }
 
 /// Whether nothing was told yet: nothing was written, and nothing is gathered.
-fn is_untold(output: &Output) -> bool
-    ensures { (result ≡ true) ↔ ((output.now.written ≡ 0) × (string_bytes output.now.text ≡ [])) }
+fn is_untold(output: &Output<String>) -> bool
+    ensures { (result ≡ true) ↔ ((output.now.written ≡ 0) × (string_bytes output.now.gathered ≡ [])) }
 {
-    output.written == 0 && output.text.is_empty()
+    output.written == 0 && output.gathered.is_empty()
 }
 
 /// Writes how a new tree differs from an old one, a line for each key and each value that is gone, has come or changed, and says whether
@@ -178,6 +178,6 @@ pub fn diff<S: Sink>(
     let mut output = Output::new(alloc);
     put_diff(&mut output, writer, alloc, old, new)?;
     let is_same = is_untold(&output);
-    output.finish(writer)?;
+    finish(&mut output, writer)?;
     Ok(is_same)
 }

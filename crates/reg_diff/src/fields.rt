@@ -7,13 +7,13 @@ ghost use Rattle.reg_tree_text.specs.Internal.Gathered.{Puts};
 ghost use Rattle.reg_diff.specs.Differences.{name_change, number_change, bytes_change, field_changes};
 
 use crate::line::{Part, put_line};
-use reg_text::Sink;
+use reg_text::{Output, Sink};
 use reg_tree::{Node, Tree};
-use reg_tree_text::{DumpFault, Output};
+use reg_tree_text::DumpFault;
 
 /// Tells a key's name that was spelt otherwise.
 fn put_name_change<'a, W: Sink>(
-    output: &mut Output,
+    output: &mut Output<String>,
     writer: &mut W,
     path: &'a [u8],
     was: &'a [u8],
@@ -42,7 +42,7 @@ fn put_name_change<'a, W: Sink>(
 
 /// Tells a number of a key that was another.
 fn put_number_change<'a, W: Sink>(
-    output: &mut Output,
+    output: &mut Output<String>,
     writer: &mut W,
     what: &'a str,
     path: &'a [u8],
@@ -74,7 +74,7 @@ fn put_number_change<'a, W: Sink>(
 
 /// Tells bytes of a key that were others.
 fn put_bytes_change<'a, W: Sink>(
-    output: &mut Output,
+    output: &mut Output<String>,
     writer: &mut W,
     what: &'a str,
     path: &'a [u8],
@@ -106,7 +106,7 @@ fn put_bytes_change<'a, W: Sink>(
 
 /// Tells what differs of a key's own fields.
 pub fn put_field_changes<W: Sink>(
-    output: &mut Output,
+    output: &mut Output<String>,
     writer: &mut W,
     old: &Tree,
     node: Node,

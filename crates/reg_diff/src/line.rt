@@ -4,8 +4,8 @@ ghost use Rattle.std.specs.Fmt.{decimal};
 ghost use Rattle.reg_tree_text.specs.Internal.Gathered.{Puts};
 ghost use Rattle.reg_diff.specs.Internal.Parts.{part_text};
 
-use reg_text::Sink;
-use reg_tree_text::{DumpFault, Output};
+use reg_text::{Output, Sink};
+use reg_tree_text::{DumpFault, put_digits, put_escaped, settle};
 use std::alloc::AllocError;
 
 /// A part of a line.
@@ -36,26 +36,30 @@ fn write_number(text: &mut String, number: u64) -> Result<(), AllocError>
 }
 
 /// Tells a part of a line.
-fn put_part<W: Sink>(output: &mut Output, writer: &mut W, part: Part<'_>) -> Result<(), DumpFault>
+fn put_part<W: Sink>(
+    output: &mut Output<String>,
+    writer: &mut W,
+    part: Part<'_>,
+) -> Result<(), DumpFault>
     ensures { Puts output.old (W.contents writer.old, W.failures writer.old) output.new (W.contents writer.new, W.failures writer.new) (part_text part.entry) result }
 {
     match part {
         Part::Word(word) => {
-            write_word(&mut output.text, word)?;
+            write_word(&mut output.gathered, word)?;
             Ok(())
         }
-        Part::Name(name) => output.put_escaped(writer, name),
+        Part::Name(name) => put_escaped(output, writer, name),
         Part::Number(number) => {
-            write_number(&mut output.text, number)?;
+            write_number(&mut output.gathered, number)?;
             Ok(())
         }
-        Part::Digits(bytes) => output.put_digits(writer, bytes),
+        Part::Digits(bytes) => put_digits(output, writer, bytes),
     }
 }
 
 /// Tells a line, part by part.
 pub fn put_line<W: Sink>(
-    output: &mut Output,
+    output: &mut Output<String>,
     writer: &mut W,
     parts: &[Part<'_>],
 ) -> Result<(), DumpFault>
@@ -64,5 +68,5 @@ pub fn put_line<W: Sink>(
     for part in parts {
         put_part(output, writer, *part)?;
     }
-    output.settle(writer)
+    settle(output, writer)
 }

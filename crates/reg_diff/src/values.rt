@@ -10,14 +10,14 @@ ghost use Rattle.reg_diff.specs.Internal.Parts.{member_of, is_nothing};
 use crate::line::{Part, put_line};
 use crate::side::Side;
 use crate::value::{Copied, are_same, index_near, is_same, read_value};
-use reg_text::Sink;
+use reg_text::{Output, Sink};
 use reg_tree::{Node, Tree};
-use reg_tree_text::{DumpFault, Output};
+use reg_tree_text::DumpFault;
 use std::alloc::Global;
 
 /// Tells a value that one tree alone has.
 fn put_value<'a, W: Sink>(
-    output: &mut Output,
+    output: &mut Output<String>,
     writer: &mut W,
     side: Side,
     path: &'a [u8],
@@ -46,7 +46,7 @@ fn put_value<'a, W: Sink>(
 
 /// Tells a value in whose place another one is found.
 fn put_value_change<'a, W: Sink>(
-    output: &mut Output,
+    output: &mut Output<String>,
     writer: &mut W,
     path: &'a [u8],
     was: &'a Copied<'a>,
@@ -80,7 +80,7 @@ fn put_value_change<'a, W: Sink>(
 
 /// Tells all values of a key that one tree alone has, in their order.
 pub fn put_values<W: Sink>(
-    output: &mut Output,
+    output: &mut Output<String>,
     writer: &mut W,
     alloc: Global,
     side: Side,
@@ -103,7 +103,7 @@ pub fn put_values<W: Sink>(
 /// Tells an old value where the new key has none of its name or another one, which may stand at one of two places; says whether nothing
 /// was told.
 fn put_lost_value<W: Sink>(
-    output: &mut Output,
+    output: &mut Output<String>,
     writer: &mut W,
     alloc: Global,
     was: &Copied<'_>,
@@ -134,7 +134,7 @@ fn put_lost_value<W: Sink>(
 
 /// Tells the old values of a key that are gone or changed, in their order; says whether there were none.
 fn put_lost_values<W: Sink>(
-    output: &mut Output,
+    output: &mut Output<String>,
     writer: &mut W,
     alloc: Global,
     old: &Tree,
@@ -163,7 +163,7 @@ fn put_lost_values<W: Sink>(
 
 /// Tells the new values of a key that have come, in their order; says whether there were none.
 fn put_come_values<W: Sink>(
-    output: &mut Output,
+    output: &mut Output<String>,
     writer: &mut W,
     alloc: Global,
     old: &Tree,
@@ -192,7 +192,7 @@ fn put_come_values<W: Sink>(
 
 /// Tells a new value where the old key has none of its name, which may stand at one of two places; says whether nothing was told.
 fn put_come_value<W: Sink>(
-    output: &mut Output,
+    output: &mut Output<String>,
     writer: &mut W,
     is: &Copied<'_>,
     old: &Tree,
@@ -217,7 +217,7 @@ fn put_come_value<W: Sink>(
 
 /// Tells that a key's values stand in another order.
 fn put_order<'a, W: Sink>(
-    output: &mut Output,
+    output: &mut Output<String>,
     writer: &mut W,
     path: &'a [u8],
 ) -> Result<(), DumpFault>
@@ -236,7 +236,7 @@ fn put_order<'a, W: Sink>(
 
 /// Tells what differs of a key's values.
 pub fn put_value_changes<W: Sink>(
-    output: &mut Output,
+    output: &mut Output<String>,
     writer: &mut W,
     alloc: Global,
     old: &Tree,

@@ -12,11 +12,10 @@ ghost use Rattle.reg_dotreg_writer.specs.Internal.Pieces.{plain, entry_pieces, e
 ghost use Rattle.reg_dotreg_writer.specs.Internal.Sending.{Puts};
 
 use crate::encoding::{push_character, push_plain};
-use crate::output::Output;
 use crate::value::push_entry;
-use reg_text::Sink;
+use reg_text::{Output, Sink};
 use reg_tree::{Node, Tree};
-use reg_tree_text::DumpFault;
+use reg_tree_text::{DumpFault, settle};
 use std::alloc::{AllocError, Global};
 
 /// Appends the line of a key.
@@ -30,7 +29,7 @@ fn push_line(bytes: &mut Vec<u8>, is_utf8: bool, path: &[u8]) -> Result<(), Allo
 
 /// Tells the entry of a value of that name, type and data.
 fn put_member<W: Sink>(
-    output: &mut Output,
+    output: &mut Output<Vec<u8>>,
     writer: &mut W,
     alloc: Global,
     is_utf8: bool,
@@ -41,13 +40,13 @@ fn put_member<W: Sink>(
     ensures { Puts output.old (W.contents writer.old, W.failures writer.old) output.new (W.contents writer.new, W.failures writer.new)
         (entry_pieces is_utf8 name.now kind content.now) result }
 {
-    push_entry(alloc, &mut output.bytes, is_utf8, name, kind, content)?;
-    output.settle(writer)
+    push_entry(alloc, &mut output.gathered, is_utf8, name, kind, content)?;
+    settle(output, writer)
 }
 
 /// Tells the entry of the value of a key at an index.
 fn put_value<W: Sink>(
-    output: &mut Output,
+    output: &mut Output<Vec<u8>>,
     writer: &mut W,
     alloc: Global,
     is_utf8: bool,
@@ -71,7 +70,7 @@ fn put_value<W: Sink>(
 
 /// Tells the entries of a key's values, in their order.
 fn put_values<W: Sink>(
-    output: &mut Output,
+    output: &mut Output<Vec<u8>>,
     writer: &mut W,
     alloc: Global,
     is_utf8: bool,
@@ -91,7 +90,7 @@ fn put_values<W: Sink>(
 
 /// Tells the block of a key, to which these names lead from the root on.
 pub fn put_key<W: Sink>(
-    output: &mut Output,
+    output: &mut Output<Vec<u8>>,
     writer: &mut W,
     alloc: Global,
     is_utf8: bool,
@@ -104,8 +103,8 @@ pub fn put_key<W: Sink>(
         Puts output.old (W.contents writer.old, W.failures writer.old) output.new (W.contents writer.new, W.failures writer.new)
         (block_pieces is_utf8 told) result }
 {
-    push_line(&mut output.bytes, is_utf8, path)?;
+    push_line(&mut output.gathered, is_utf8, path)?;
     put_values(output, writer, alloc, is_utf8, tree, node)?;
-    push_plain(&mut output.bytes, is_utf8, b"\r\n")?;
-    output.settle(writer)
+    push_plain(&mut output.gathered, is_utf8, b"\r\n")?;
+    settle(output, writer)
 }

@@ -18,12 +18,11 @@ ghost use Rattle.reg_dotreg_writer.specs.Internal.Sending.{Puts};
 use crate::ExportFault;
 use crate::block::put_key;
 use crate::encoding::{push_mark, push_plain};
-use crate::output::Output;
 use crate::start::start;
 use crate::writable::find_unwritable;
-use reg_text::Sink;
+use reg_text::{Output, Sink};
 use reg_tree::{Node, Tree};
-use reg_tree_text::{DumpFault, Walk, find_key};
+use reg_tree_text::{DumpFault, Walk, find_key, finish};
 use std::alloc::{AllocError, Global};
 
 /// Appends what stands before the first key.
@@ -40,7 +39,7 @@ fn push_heading(bytes: &mut Vec<u8>, is_utf8: bool) -> Result<(), AllocError>
 
 /// Tells the blocks of all keys on a walk.
 fn put_blocks<W: Sink>(
-    output: &mut Output,
+    output: &mut Output<Vec<u8>>,
     writer: &mut W,
     alloc: Global,
     is_utf8: bool,
@@ -64,7 +63,7 @@ fn put_blocks<W: Sink>(
 
 /// Tells the file of the key that a path leads to.
 fn put_file<W: Sink>(
-    output: &mut Output,
+    output: &mut Output<Vec<u8>>,
     writer: &mut W,
     alloc: Global,
     is_utf8: bool,
@@ -78,7 +77,7 @@ fn put_file<W: Sink>(
     ensures { Puts output.old (W.contents writer.old, W.failures writer.old) output.new (W.contents writer.new, W.failures writer.new)
         (file_pieces is_utf8 tree.now.tree (folded_path path.now)) result }
 {
-    push_heading(&mut output.bytes, is_utf8)?;
+    push_heading(&mut output.gathered, is_utf8)?;
     let mut walk = start(alloc, tree, path, node)?;
     put_blocks(output, writer, alloc, is_utf8, tree, &mut walk)
 }
@@ -106,7 +105,7 @@ fn write_file<W: Sink>(
     let _root = tree.root();
     let mut output = Output::new(alloc);
     put_file(&mut output, writer, alloc, is_utf8, tree, path, node)?;
-    output.finish(writer)
+    finish(&mut output, writer)
 }
 
 /// The names that lead to the first key that can't be written, of the one that a path leads to and those below it.

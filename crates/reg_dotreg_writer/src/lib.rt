@@ -5,15 +5,13 @@
 //! reg_tree_text, whose walk and meaning of a path it takes.
 //!
 //! `encoding` appends characters and units in UTF-8 or UTF-16, `units` reads strings, `value` tells a value's entry, `block` a key's,
-//! `start` begins a walk with the names that lead to a key, `writable` looks at the names, and `output` gathers bytes and counts what the
-//! writer took. Its type is [`ExportFault`].
+//! `start` begins a walk with the names that lead to a key, and `writable` looks at the names. Its type is [`ExportFault`].
 #![tactic(auto)]
 
 mod block;
 mod encoding;
 mod exporting;
 mod fault;
-mod output;
 mod start;
 mod units;
 mod value;

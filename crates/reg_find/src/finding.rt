@@ -15,14 +15,14 @@ ghost use Rattle.reg_find.specs.Findings.{key_found, value_found, found_lines, f
 use crate::line::{put_key_line, put_value_line};
 use crate::search::{is_match_in, is_value_match};
 use crate::{Pattern, Scope};
-use reg_text::Sink;
+use reg_text::{Output, Sink};
 use reg_tree::Tree;
-use reg_tree_text::{DumpFault, Output, Walk};
+use reg_tree_text::{DumpFault, Walk, finish};
 use std::alloc::Global;
 
 /// Tells the line of the key at which a walk stands, where its name is found.
 fn put_name<P: Pattern, W: Sink>(
-    output: &mut Output,
+    output: &mut Output<String>,
     writer: &mut W,
     tree: &Tree,
     walk: &Walk,
@@ -43,7 +43,7 @@ fn put_name<P: Pattern, W: Sink>(
 
 /// Tells the line of the value at an index of the key at which a walk stands, where it is found.
 fn put_value<P: Pattern, W: Sink>(
-    output: &mut Output,
+    output: &mut Output<String>,
     writer: &mut W,
     alloc: Global,
     tree: &Tree,
@@ -69,7 +69,7 @@ fn put_value<P: Pattern, W: Sink>(
 
 /// Tells the lines of the values that are found of the key at which a walk stands, in their order.
 fn put_values<P: Pattern, W: Sink>(
-    output: &mut Output,
+    output: &mut Output<String>,
     writer: &mut W,
     alloc: Global,
     tree: &Tree,
@@ -91,7 +91,7 @@ fn put_values<P: Pattern, W: Sink>(
 
 /// Tells the lines of what is found of the key at which a walk stands: its own, and those of its values.
 fn put_key<P: Pattern, W: Sink>(
-    output: &mut Output,
+    output: &mut Output<String>,
     writer: &mut W,
     alloc: Global,
     tree: &Tree,
@@ -111,7 +111,7 @@ fn put_key<P: Pattern, W: Sink>(
 
 /// Tells the lines of all that is found.
 fn put_tree<P: Pattern, W: Sink>(
-    output: &mut Output,
+    output: &mut Output<String>,
     writer: &mut W,
     alloc: Global,
     tree: &Tree,
@@ -153,5 +153,5 @@ pub fn find<P: Pattern, S: Sink>(
 {
     let mut output = Output::new(alloc);
     put_tree(&mut output, writer, alloc, tree, pattern, scope)?;
-    output.finish(writer)
+    finish(&mut output, writer)
 }

@@ -12,7 +12,7 @@ use Rattle.reg_calls.specs.Views.{View}
 use Rattle.reg_script.specs.LineWords.{lines_of}
 use Rattle.reg_script.specs.LineMeanings.{meaning_of}
 use Rattle.reg_script.specs.Lines.{Stand, IsSaid, AreSaid}
-use Rattle.reg_script.specs.Internal.Outputs.{IsSettled}
+use Rattle.reg_text.specs.Outputs.{IsSettled}
 use Rattle.reg_model.specs.declared.reply.ChangeReply.{ChangeReply}
 use Rattle.reg_script.specs.ReplyTexts.{changed_text}
 use Rattle.reg_script.specs.Stops.{longest_line, most_lines, HasNoFeed}

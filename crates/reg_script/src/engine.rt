@@ -15,7 +15,7 @@ ghost use Rattle.reg_script.specs.Internal.StrictEnds.{StopsBy};
 
 use crate::failed::{FailedLine, Ran, StrictFault, Went, went_with};
 use crate::line::{Line, Session, Setting};
-use crate::output::Output;
+use crate::output::{close, pass_on, settle};
 use crate::parse::parse;
 use crate::reply::{
     CHANGE_REPLY_LIMIT, NOTICE_REPLY_LIMIT, is_notify, write_answered, write_changed, write_notice,
@@ -23,6 +23,7 @@ use crate::reply::{
 use reg_callbacks::Callback;
 use reg_calls::Hive;
 use reg_model::{Call, Change, Query};
+use reg_text::{Output, OutputFault};
 use std::alloc::{AllocError, Global};
 use std::io::{Read, Write};
 use std::mem;
@@ -67,6 +68,18 @@ impl From<AllocError> for ScriptFault {
     }
 }
 
+impl From<OutputFault> for ScriptFault {
+    ghost use Rattle.reg_script.specs.declared.engine.ScriptFault.{ScriptFault};
+
+    ghost from_gives = { λ fault e. e ≡ ScriptFault.Write fault.written };
+
+    fn from(fault: OutputFault) -> ScriptFault {
+        ScriptFault::Write {
+            written: fault.written,
+        }
+    }
+}
+
 impl ScriptFault {
     /// The fault's number: 1 Read, 2 Write, 3 TooLong, 4 Memory.
     pub fn number(&self) -> u8
@@ -85,7 +98,7 @@ impl ScriptFault {
 #[derive(Drop)]
 struct Script {
     alloc: Global,
-    output: Output,
+    output: Output<String>,
     /// The line that is being read, without its LF.
     line: Vec<u8>,
     /// How many lines have ended.
@@ -119,7 +132,7 @@ impl Script {
         }
         if byte == b'\n' {
             self.end_line(hive)?;
-            self.output.settle(writer)?;
+            settle(&mut self.output, writer)?;
             return Ok(());
         }
         if self.line.len() >= LINE_LIMIT {
@@ -201,7 +214,7 @@ impl Script {
                 Ok(Went::Well)
             }
             Line::Bad => {
-                self.output.text.push_str("bad\n")?;
+                self.output.gathered.push_str("bad\n")?;
                 Ok(Went::Wrong { status: None })
             }
             Line::Call(call) => self.call(hive, call),
@@ -222,7 +235,7 @@ impl Script {
             Call::Change(change) => self.change(hive, change),
             Call::Query(query) => {
                 let reply = self.query(hive, &query)?;
-                self.output.text.push_str(reply.as_str())?;
+                self.output.gathered.push_str(reply.as_str())?;
                 Ok(Went::Well)
             }
         }
@@ -240,10 +253,10 @@ impl Script {
         ensures kept { KeepsLine self.old self.new }
         ensures err { OnErr result (IsUnchanged self.old (view_of hive.old) self.new (view_of hive.new)) }
     {
-        self.output.text.reserve(CHANGE_REPLY_LIMIT)?;
+        self.output.gathered.reserve(CHANGE_REPLY_LIMIT)?;
         let watches = is_notify(&change);
         let changed = hive.apply(self.session.number, self.moment, change);
-        write_changed(&mut self.output.text, watches, &changed);
+        write_changed(&mut self.output.gathered, watches, &changed);
         Ok(went_with(changed.status))
     }
 
@@ -255,9 +268,9 @@ impl Script {
         ensures kept { KeepsLine self.old self.new }
         ensures err { OnErr result (IsUnchanged self.old (view_of hive.old) self.new (view_of hive.new)) }
     {
-        self.output.text.reserve(NOTICE_REPLY_LIMIT)?;
+        self.output.gathered.reserve(NOTICE_REPLY_LIMIT)?;
         let notice = hive.take_notice(self.session.number);
-        write_notice(&mut self.output.text, notice);
+        write_notice(&mut self.output.gathered, notice);
         Ok(())
     }
 
@@ -311,7 +324,7 @@ impl Script {
             (position_of C.answers self.new hive.new (W.contents writer.new)) fault) }
     {
         for _read in 0..READS_LIMIT {
-            self.output.pass_on(writer)?;
+            pass_on(&mut self.output, writer)?;
             let Ok(count) = reader.read(chunk) else {
                 return Err(StrictFault::Script(ScriptFault::Read));
             };
@@ -359,7 +372,7 @@ fn run_script<R: Read, W: Write, C: Callback>(
         session: Session { number: 0 },
     };
     let ended = script.read_all(hive, reader, writer, chunk.as_mut_slice());
-    match script.output.close(writer, ended) {
+    match close(&mut script.output, writer, ended) {
         Ok(()) => Ok(Ran {
             moment: script.moment,
             failed: script.failed,

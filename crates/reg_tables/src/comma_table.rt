@@ -13,14 +13,14 @@ ghost use Rattle.reg_tables.specs.Tables.{key_rows, csv_text, TableStops};
 
 use crate::keys::walk_from;
 use crate::row::{put_key, put_row};
-use reg_text::Sink;
+use reg_text::{Output, Sink};
 use reg_tree::Tree;
-use reg_tree_text::{DumpFault, Output, PathFault, Walk, find_key};
+use reg_tree_text::{DumpFault, PathFault, Walk, find_key, finish};
 use std::alloc::Global;
 
 /// Tells the rows of the keys behind the one at which a walk stands.
 fn put_more<S: Sink>(
-    output: &mut Output,
+    output: &mut Output<String>,
     writer: &mut S,
     alloc: Global,
     tree: &Tree,
@@ -44,7 +44,7 @@ fn put_more<S: Sink>(
 
 /// Tells the rows of the keys that a walk goes over.
 fn put_keys<S: Sink>(
-    output: &mut Output,
+    output: &mut Output<String>,
     writer: &mut S,
     alloc: Global,
     tree: &Tree,
@@ -61,7 +61,7 @@ fn put_keys<S: Sink>(
 
 /// Tells the table of the keys from one on.
 fn put_table<S: Sink>(
-    output: &mut Output,
+    output: &mut Output<String>,
     writer: &mut S,
     alloc: Global,
     tree: &Tree,
@@ -99,7 +99,7 @@ fn write_table<S: Sink>(
 {
     let mut output = Output::new(alloc);
     put_table(&mut output, writer, alloc, tree, path)?;
-    output.finish(writer)
+    finish(&mut output, writer)
 }
 
 /// Writes the key that a path leads to from the root, names folded, and all keys below it as CSV, in the order of a dump: a row with

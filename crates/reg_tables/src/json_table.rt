@@ -18,14 +18,14 @@ use crate::entry::entry_text;
 use crate::gather::key_entry;
 use crate::keys::walk_from;
 use crate::parts::put_text;
-use reg_text::Sink;
+use reg_text::{Output, Sink};
 use reg_tree::{Node, Tree};
-use reg_tree_text::{DumpFault, Output, PathFault, Walk, find_key};
+use reg_tree_text::{DumpFault, PathFault, Walk, find_key, finish};
 use std::alloc::Global;
 
 /// Tells a key with its values.
 fn put_key<S: Sink>(
-    output: &mut Output,
+    output: &mut Output<String>,
     writer: &mut S,
     alloc: Global,
     tree: &Tree,
@@ -43,7 +43,7 @@ fn put_key<S: Sink>(
 
 /// Tells a key behind another one.
 fn put_next<S: Sink>(
-    output: &mut Output,
+    output: &mut Output<String>,
     writer: &mut S,
     alloc: Global,
     tree: &Tree,
@@ -60,7 +60,7 @@ fn put_next<S: Sink>(
 
 /// Tells the keys behind the one at which a walk stands.
 fn put_more<S: Sink>(
-    output: &mut Output,
+    output: &mut Output<String>,
     writer: &mut S,
     alloc: Global,
     tree: &Tree,
@@ -84,7 +84,7 @@ fn put_more<S: Sink>(
 
 /// Tells the keys that a walk goes over, parted by commas.
 fn put_keys<S: Sink>(
-    output: &mut Output,
+    output: &mut Output<String>,
     writer: &mut S,
     alloc: Global,
     tree: &Tree,
@@ -100,7 +100,7 @@ fn put_keys<S: Sink>(
 
 /// Tells the array of the keys from one on.
 fn put_table<S: Sink>(
-    output: &mut Output,
+    output: &mut Output<String>,
     writer: &mut S,
     alloc: Global,
     tree: &Tree,
@@ -134,7 +134,7 @@ fn write_table<S: Sink>(
 {
     let mut output = Output::new(alloc);
     put_table(&mut output, writer, alloc, tree, path)?;
-    output.finish(writer)
+    finish(&mut output, writer)
 }
 
 /// Writes the key that a path leads to from the root, names folded, and all keys below it as a JSON array, an object a key and a line

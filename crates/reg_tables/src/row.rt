@@ -13,9 +13,9 @@ ghost use Rattle.reg_tables.specs.Tables.{key_row, value_row, value_rows, key_ro
 use crate::parts::put_text;
 use crate::time::{moment_text, number_text};
 use csv::{Error, WriterBuilder};
-use reg_text::Sink;
+use reg_text::{Output, Sink};
 use reg_tree::{Node, Tree};
-use reg_tree_text::{DumpFault, Output, value_text};
+use reg_tree_text::{DumpFault, value_text};
 use std::alloc::{AllocError, Global};
 
 /// The bytes of a row.
@@ -45,7 +45,7 @@ fn row_text(alloc: Global, fields: &[&[u8]]) -> Result<String, AllocError>
 
 /// Tells a row.
 pub fn put_row<S: Sink>(
-    output: &mut Output,
+    output: &mut Output<String>,
     writer: &mut S,
     alloc: Global,
     fields: &[&[u8]],
@@ -59,7 +59,7 @@ pub fn put_row<S: Sink>(
 
 /// Tells the row of a value of that name, type and data.
 fn put_member<S: Sink>(
-    output: &mut Output,
+    output: &mut Output<String>,
     writer: &mut S,
     alloc: Global,
     path: &[u8],
@@ -89,7 +89,7 @@ fn put_member<S: Sink>(
 
 /// Tells the row of the value of a key at an index.
 fn put_value<S: Sink>(
-    output: &mut Output,
+    output: &mut Output<String>,
     writer: &mut S,
     alloc: Global,
     tree: &Tree,
@@ -111,7 +111,7 @@ fn put_value<S: Sink>(
 
 /// Tells the rows of a key's values, in their order.
 fn put_values<S: Sink>(
-    output: &mut Output,
+    output: &mut Output<String>,
     writer: &mut S,
     alloc: Global,
     tree: &Tree,
@@ -131,7 +131,7 @@ fn put_values<S: Sink>(
 
 /// Tells the row of a key at that path, with that time.
 fn put_line<S: Sink>(
-    output: &mut Output,
+    output: &mut Output<String>,
     writer: &mut S,
     alloc: Global,
     path: &[u8],
@@ -151,7 +151,7 @@ fn put_line<S: Sink>(
 
 /// Tells the rows of a key: its own, and those of its values.
 pub fn put_key<S: Sink>(
-    output: &mut Output,
+    output: &mut Output<String>,
     writer: &mut S,
     alloc: Global,
     tree: &Tree,

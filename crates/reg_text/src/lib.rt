@@ -2,10 +2,13 @@
 //!
 //! Its one contract: each function is exactly its definition in `specs/Texts.antt`, appended to a text, and [`write_counted`] says how
 //! many bytes a writer took, all unless it failed. What a device may be known to do besides reading and writing, that a call of it
-//! failed, is said by [`Sink`] and [`Source`], which each writer and each reader of std's is. It stands on no other crate of this
-//! repository, and has no type of its own.
+//! failed, is said by [`Sink`] and [`Source`], which each writer and each reader of std's is. [`Output`] gathers bytes, in a text or as
+//! they are ([`Gathered`]), sends them, and counts what the writer took (`specs/Outputs.antt`). It stands on no other crate of this
+//! repository.
 #![tactic(auto)]
 
+mod gathered;
+mod output;
 mod sinks;
 mod sources;
 
@@ -14,6 +17,8 @@ ghost use Rattle.std.specs.Io.KnownBytes.{Appends};
 ghost use Rattle.reg_text.specs.Failures.{Stays, Fails};
 ghost use Rattle.reg_text.specs.Texts.{byte_text, digits_text, escaped as escaped_text, is_plain as is_plain_byte};
 
+pub use gathered::Gathered;
+pub use output::{Output, OutputFault};
 pub use sinks::Sink;
 pub use sources::Source;
 use std::alloc::{AllocError, Global};

@@ -1,13 +1,14 @@
 -- A text on its way to a writer: gathered, sent, and stopped.
-use Rattle.std.proofs.Common.{◌≡◌, ℕ, ◌+◌, ◌≤◌, List, [], ◌++◌, length, take, Option, Some, None, refl, sym, ap, ◌∙◌, subst, arith, append_assoc, append-nil, length-append}
+use Rattle.std.proofs.Common.{◌≡◌, ℕ, ◌+◌, ◌≤◌, List, [], ◌++◌, length, take, Option, Some, None, refl, sym, ap, ◌∙◌, subst, arith, append_assoc, append-nil, length-append, inl, inr}
 use Rattle.std.specs.Prelude.{Result, Ok, Err, MatchResult, OnOk, IfErr}
 use Rattle.std.specs.Result.{IsErrAnd}
-use Rattle.std.specs.Io.KnownBytes.{Appends, Keeps}
+use Rattle.std.specs.Io.KnownBytes.{Appends}
 use Rattle.std.proofs.Math.Seq.{take-append_seam, take-append-add}
-use Rattle.std.proofs.lemmas.List.{take-append-le, take_all}
+use Rattle.std.proofs.lemmas.List.{take-append-le}
 use Rattle.reg_tree_text.specs.declared.fault.DumpFault.{DumpFault}
 use Rattle.reg_tree_text.specs.declared.fault.DumpFault.TheVariants.{Write, Memory}
 use Rattle.reg_text.specs.Failures.{Stays, Fails}
+use Rattle.reg_text.specs.Outputs.{IsSettled, IsCut}
 use Rattle.reg_text.proofs.FailureCounts.{stays-at, stays-then, fails-then}
 use Rattle.reg_tree_text.specs.DumpFronts.{IsStopped, IsBlamed}
 use Rattle.reg_tree_text.specs.Internal.Gathered.{WriterState, IsSoFar, IsGivenUp}
@@ -19,12 +20,6 @@ appends_then None b c x y p q = tt
 appends_then (Some xs) None c x y p q = absurd p
 appends_then (Some xs) (Some ys) None x y p q = absurd q
 appends_then (Some xs) (Some ys) (Some zs) x y p q = q ∙ (ap (λ (w : List ℕ). w ++ y) p ∙ append_assoc xs x y)
-
-appends_kept : (a b c : Option (List ℕ)) (x : List ℕ) → Appends a b x → Keeps b c → Appends a c x
-appends_kept None b c x p q = tt
-appends_kept (Some xs) None c x p q = absurd p
-appends_kept (Some xs) (Some ys) None x p q = absurd q
-appends_kept (Some xs) (Some ys) (Some zs) x p q = q ∙ p
 
 pub appends_none : (a : Option (List ℕ)) → Appends a a []
 appends_none None = tt
@@ -57,78 +52,54 @@ module _ (begin now : WriterState) (whole : List ℕ) where
         counts = s.counts;
       }
 
-  -- the writer took so many bytes of what was gathered
-  pub cut : (left gathered bytes : List ℕ) (written taken : ℕ) (after : WriterState) →
-      IsSoFar begin now whole left gathered written → bytes ≡ gathered →
-      taken ≤ length bytes → Appends now.0 after.0 (take taken bytes) → Fails now.1 after.1 →
-      IsGivenUp begin after whole (Write (written + taken))
-  cut left gathered bytes written taken after s same inside took failed =
-      let within : taken ≤ length gathered = subst (λ (w : List ℕ). taken ≤ length w) same inside in
-      let sent : Appends now.0 after.0 (take taken gathered) = subst (λ (w : List ℕ). Appends now.0 after.0 (take taken w)) same took in
+  -- the writer failed after it took a front of what was gathered
+  pub cut : (left gathered : List ℕ) (written counted : ℕ) (after : WriterState) →
+      IsSoFar begin now whole left gathered written → written + length gathered ≤ 18446744073709551615 →
+      IsCut now.0 after.0 gathered written counted → Fails now.1 after.1 → IsGivenUp begin after whole (Write counted)
+  cut left gathered written counted after s few c failed =
       let n = s.counts in
-      let parts : take (written + taken) whole ≡ s.sent ++ take taken gathered =
-      ap (λ (w : List ℕ). take (written + taken) w) s.splits
-      ∙ (ap (λ (k : ℕ). take (k + taken) (s.sent ++ (gathered ++ left))) n
-      ∙ (take-append-add s.sent (gathered ++ left) taken ∙ ap (λ (w : List ℕ). s.sent ++ w) (take-append-le taken gathered left within))) in
+      let within = c.within in
+      let says = c.says in
+      let exact : counted ≡ length s.sent + c.count = omega (arith, n, few, within, says) in
+      let parts : take counted whole ≡ s.sent ++ take c.count gathered =
+      ap (λ (w : List ℕ). take counted w) s.splits
+      ∙ (ap (λ (k : ℕ). take k (s.sent ++ (gathered ++ left))) exact
+      ∙ (take-append-add s.sent (gathered ++ left) c.count ∙ ap (λ (w : List ℕ). s.sent ++ w) (take-append-le c.count gathered left within))) in
       let long : length whole ≡ length s.sent + (length gathered + length left) =
       ap length s.splits ∙ (length-append s.sent (gathered ++ left) ∙ ap (λ (k : ℕ). length s.sent + k) (length-append gathered left)) in (
         (
-          omega (arith, n, long, within),
+          omega (arith, exact, long, within),
           subst (λ (w : List ℕ). Appends begin.0 after.0 w) (sym parts)
-              (appends_then begin.0 now.0 after.0 s.sent (take taken gathered) s.appends sent),
+              (appends_then begin.0 now.0 after.0 s.sent (take c.count gathered) s.appends c.sent),
         ),
         fails-then _ _ _ s.stays failed,
       )
 
-  -- it took all of it
-  pub flushes : (left gathered bytes cleared : List ℕ) (written taken : ℕ) (after : WriterState) →
-      IsSoFar begin now whole left gathered written → bytes ≡ gathered →
-      length bytes ≤ taken → taken ≤ length bytes → Appends now.0 after.0 (take taken bytes) → Stays now.1 after.1 → cleared ≡ [] →
-      IsSoFar begin after whole left cleared (written + taken)
-  flushes left gathered bytes cleared written taken after s same most inside took stay none =
-      let all : length gathered ≤ taken = subst (λ (w : List ℕ). length w ≤ taken) same most in
-      let within : taken ≤ length gathered = subst (λ (w : List ℕ). taken ≤ length w) same inside in
-      let sent : Appends now.0 after.0 (take taken gathered) = subst (λ (w : List ℕ). Appends now.0 after.0 (take taken w)) same took in
+  -- it took nothing, or all of it
+  pub settled : (left gathered more : List ℕ) (written counted : ℕ) (after : WriterState) →
+      IsSoFar begin now whole left gathered written → written + length gathered ≤ 18446744073709551615 →
+      IsSettled now.0 after.0 gathered more written counted → Stays now.1 after.1 → IsSoFar begin after whole left more counted
+  settled left gathered more written counted after s few (inl h) stay = record {
+    sent = s.sent;
+    appends = subst (λ (o : Option (List ℕ)). Appends begin.0 o s.sent) (sym h.0) s.appends;
+    stays = stays-then _ _ _ s.stays stay;
+    splits = s.splits ∙ ap (λ (w : List ℕ). s.sent ++ (w ++ left)) (sym h.1);
+    counts = h.2 ∙ s.counts;
+  }
+  settled left gathered more written counted after s few (inr h) stay =
       let n = s.counts in
       let l = length-append s.sent gathered in
+      let says = h.2 in
       record {
         sent = s.sent ++ gathered;
+        appends = appends_then begin.0 now.0 after.0 s.sent gathered s.appends h.0;
         stays = stays-then _ _ _ s.stays stay;
-        appends = appends_then begin.0 now.0 after.0 s.sent gathered s.appends
-            (subst (λ (w : List ℕ). Appends now.0 after.0 w) (take_all taken gathered all) sent);
-        splits = s.splits ∙ (sym (append_assoc s.sent gathered left) ∙ ap (λ (w : List ℕ). (s.sent ++ gathered) ++ (w ++ left)) (sym none));
-        counts = omega (arith, n, l, all, within);
+        splits = s.splits ∙ (sym (append_assoc s.sent gathered left) ∙ ap (λ (w : List ℕ). (s.sent ++ gathered) ++ (w ++ left)) (sym h.1));
+        counts = omega (arith, n, l, few, says);
       }
-
-  -- the writer keeps what it has
-  pub kept : (left gathered : List ℕ) (written : ℕ) (after : WriterState) → IsSoFar begin now whole left gathered written →
-      Keeps now.0 after.0 → Stays now.1 after.1 → IsSoFar begin after whole left gathered written
-  kept left gathered written after s k stay = record {
-    sent = s.sent;
-    appends = appends_kept begin.0 now.0 after.0 s.sent s.appends k;
-    stays = stays-then _ _ _ s.stays stay;
-    splits = s.splits;
-    counts = s.counts;
-  }
 
   sent_is : (left gathered : List ℕ) (written : ℕ) (s : IsSoFar begin now whole left gathered written) → take (length s.sent) whole ≡ s.sent
   sent_is left gathered written s = ap (λ (w : List ℕ). take (length s.sent) w) s.splits ∙ take-append_seam s.sent (gathered ++ left)
-
-  -- the writer keeps what it has, and failed
-  pub stops_counted : (left gathered : List ℕ) (written : ℕ) (after : WriterState) → IsSoFar begin now whole left gathered written →
-      Keeps now.0 after.0 → Fails now.1 after.1 → IsGivenUp begin after whole (Write written)
-  stops_counted left gathered written after s k failed =
-      let n = s.counts in
-      let long : length whole ≡ length s.sent + length (gathered ++ left) = ap length s.splits ∙
-      length-append s.sent (gathered ++ left) in (
-        (
-          omega (arith, n, long),
-          subst (λ (w : List ℕ). Appends begin.0 after.0 w)
-              (sym (ap (λ (k : ℕ). take k whole) n ∙ sent_is left gathered written s))
-              (appends_kept begin.0 now.0 after.0 s.sent s.appends k),
-        ),
-        fails-then _ _ _ s.stays failed,
-      )
 
   -- nothing more was sent
   pub stops_full : (left gathered : List ℕ) (written : ℕ) → IsSoFar begin now whole left gathered written → IsGivenUp begin now whole Memory

@@ -9,9 +9,9 @@ ghost use Rattle.reg_tree_text.specs.DumpTexts.{Told, root_line, key_line, key_l
 ghost use Rattle.reg_tree_text.specs.Internal.Gathered.{Puts};
 ghost use Rattle.reg_tree_text.specs.Internal.LineParts.{marks_part, time_part, kind_part, key_in_parts, value_in_parts};
 
-use crate::output::Output;
+use crate::output::{put_digits, put_escaped, settle};
 use crate::{Counts, DumpFault};
-use reg_text::Sink;
+use reg_text::{Output, Sink};
 use reg_tree::{Node, Tree};
 use std::alloc::{AllocError, Global};
 
@@ -52,7 +52,7 @@ pub fn write_counts(text: &mut String, counts: Counts) -> Result<(), AllocError>
 
 /// Tells the line of a value of that name, type and data.
 fn put_member<W: Sink>(
-    output: &mut Output,
+    output: &mut Output<String>,
     writer: &mut W,
     name: &[u8],
     kind: u32,
@@ -60,17 +60,17 @@ fn put_member<W: Sink>(
 ) -> Result<(), DumpFault>
     ensures { Puts output.old (W.contents writer.old, W.failures writer.old) output.new (W.contents writer.new, W.failures writer.new) (value_in_parts name.now kind bytes.now) result }
 {
-    write_part(&mut output.text, "value =")?;
-    output.put_escaped(writer, name)?;
-    write_kind(&mut output.text, kind)?;
-    output.put_digits(writer, bytes)?;
-    write_part(&mut output.text, "\n")?;
-    output.settle(writer)
+    write_part(&mut output.gathered, "value =")?;
+    put_escaped(output, writer, name)?;
+    write_kind(&mut output.gathered, kind)?;
+    put_digits(output, writer, bytes)?;
+    write_part(&mut output.gathered, "\n")?;
+    settle(output, writer)
 }
 
 /// Tells the line of a key at that path, with those marks, class, descriptor and time.
 fn put_fields<W: Sink>(
-    output: &mut Output,
+    output: &mut Output<String>,
     writer: &mut W,
     path: &[u8],
     marks: u16,
@@ -81,19 +81,19 @@ fn put_fields<W: Sink>(
     ensures { Puts output.old (W.contents writer.old, W.failures writer.old) output.new (W.contents writer.new, W.failures writer.new)
         (key_in_parts path.now marks class.now descriptor.now time) result }
 {
-    write_part(&mut output.text, "key =")?;
-    output.put_escaped(writer, path)?;
-    write_marks(&mut output.text, marks)?;
-    output.put_digits(writer, class)?;
-    write_part(&mut output.text, " security x")?;
-    output.put_digits(writer, descriptor)?;
-    write_time(&mut output.text, time)?;
-    output.settle(writer)
+    write_part(&mut output.gathered, "key =")?;
+    put_escaped(output, writer, path)?;
+    write_marks(&mut output.gathered, marks)?;
+    put_digits(output, writer, class)?;
+    write_part(&mut output.gathered, " security x")?;
+    put_digits(output, writer, descriptor)?;
+    write_time(&mut output.gathered, time)?;
+    settle(output, writer)
 }
 
 /// Tells the line of the value of a key at an index.
 fn put_value<W: Sink>(
-    output: &mut Output,
+    output: &mut Output<String>,
     writer: &mut W,
     alloc: Global,
     tree: &Tree,
@@ -113,7 +113,7 @@ fn put_value<W: Sink>(
 
 /// Tells the lines of a key's values, in their order.
 fn put_values<W: Sink>(
-    output: &mut Output,
+    output: &mut Output<String>,
     writer: &mut W,
     alloc: Global,
     tree: &Tree,
@@ -131,7 +131,7 @@ fn put_values<W: Sink>(
 
 /// Tells the line of a key.
 fn put_line<W: Sink>(
-    output: &mut Output,
+    output: &mut Output<String>,
     writer: &mut W,
     tree: &Tree,
     node: Node,
@@ -156,7 +156,7 @@ fn put_line<W: Sink>(
 
 /// Tells the lines of a key: its own, and those of its values.
 pub fn put_key<W: Sink>(
-    output: &mut Output,
+    output: &mut Output<String>,
     writer: &mut W,
     alloc: Global,
     tree: &Tree,
@@ -172,24 +172,28 @@ pub fn put_key<W: Sink>(
 }
 
 /// Tells the line of the root's name.
-pub fn put_root<W: Sink>(output: &mut Output, writer: &mut W, tree: &Tree) -> Result<(), DumpFault>
+pub fn put_root<W: Sink>(
+    output: &mut Output<String>,
+    writer: &mut W,
+    tree: &Tree,
+) -> Result<(), DumpFault>
     ensures { Puts output.old (W.contents writer.old, W.failures writer.old) output.new (W.contents writer.new, W.failures writer.new) (root_line tree.now.tree) result }
 {
     let name = tree.name(tree.root());
-    write_part(&mut output.text, "root =")?;
-    output.put_escaped(writer, name)?;
-    write_part(&mut output.text, "\n")?;
-    output.settle(writer)
+    write_part(&mut output.gathered, "root =")?;
+    put_escaped(output, writer, name)?;
+    write_part(&mut output.gathered, "\n")?;
+    settle(output, writer)
 }
 
 /// Tells the line that counts the keys and the values.
 pub fn put_counts<W: Sink>(
-    output: &mut Output,
+    output: &mut Output<String>,
     writer: &mut W,
     counts: Counts,
 ) -> Result<(), DumpFault>
     ensures { Puts output.old (W.contents writer.old, W.failures writer.old) output.new (W.contents writer.new, W.failures writer.new) (counts_line counts.keys counts.values) result }
 {
-    write_counts(&mut output.text, counts)?;
-    output.settle(writer)
+    write_counts(&mut output.gathered, counts)?;
+    settle(output, writer)
 }

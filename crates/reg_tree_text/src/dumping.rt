@@ -9,16 +9,16 @@ ghost use Rattle.reg_tree_text.specs.Internal.Gathered.{Puts};
 
 use crate::counting::count_key;
 use crate::dump_line::{put_counts, put_key, put_root};
-use crate::output::Output;
+use crate::output::finish;
 use crate::walk::Walk;
 use crate::{Counts, DumpFault};
-use reg_text::Sink;
+use reg_text::{Output, Sink};
 use reg_tree::Tree;
 use std::alloc::Global;
 
 /// Tells the lines of all keys, and counts them.
 fn put_keys<W: Sink>(
-    output: &mut Output,
+    output: &mut Output<String>,
     writer: &mut W,
     alloc: Global,
     tree: &Tree,
@@ -40,7 +40,7 @@ fn put_keys<W: Sink>(
 
 /// Tells all of a tree.
 fn put_tree<W: Sink>(
-    output: &mut Output,
+    output: &mut Output<String>,
     writer: &mut W,
     alloc: Global,
     tree: &Tree,
@@ -66,5 +66,5 @@ pub fn dump<W: Sink>(alloc: Global, tree: &Tree, writer: &mut W) -> Result<(), D
 {
     let mut output = Output::new(alloc);
     put_tree(&mut output, writer, alloc, tree)?;
-    output.finish(writer)
+    finish(&mut output, writer)
 }

@@ -1,5 +1,6 @@
 ghost use Rattle.std.specs.Prelude.{◌≡◌};
 
+use reg_text::OutputFault;
 use std::alloc::AllocError;
 use thiserror::Error;
 
@@ -21,5 +22,17 @@ impl From<AllocError> for DumpFault {
 
     fn from(_fault: AllocError) -> DumpFault {
         DumpFault::Memory
+    }
+}
+
+impl From<OutputFault> for DumpFault {
+    ghost use Rattle.reg_tree_text.specs.declared.fault.DumpFault.{DumpFault};
+
+    ghost from_gives = { λ fault e. e ≡ DumpFault.Write fault.written };
+
+    fn from(fault: OutputFault) -> DumpFault {
+        DumpFault::Write {
+            written: fault.written,
+        }
     }
 }

@@ -6,9 +6,9 @@
 //! [`list_at`] and [`get_at`] find the key or the value first, by a path and a name (`specs/PathQueries.antt`); where there is none, they say
 //! so and write nothing. It stands on reg_tree, whose trees it reads, and on reg_text.
 //!
-//! `walk` goes from key to key with a stack of those on the present path, `dump_line` and `list_line` tell a key, and `output` gathers
-//! text and counts what the writer took. Its types are [`Counts`], [`DumpFault`] and [`PathFault`], and [`Walk`] and [`Output`], by which
-//! other texts of a tree are told.
+//! `walk` goes from key to key with a stack of those on the present path, `dump_line` and `list_line` tell a key, and `output` sends what
+//! was gathered ([`settle`], [`finish`]), and names and data piece by piece ([`put_escaped`], [`put_digits`]). Its types are [`Counts`],
+//! [`DumpFault`] and [`PathFault`], and [`Walk`], by which other texts of a tree are told.
 #![tactic(auto)]
 
 mod counting;
@@ -32,7 +32,7 @@ pub use dumping::dump;
 pub use fault::DumpFault;
 pub use key_queries::{find_key, list_at};
 pub use listing::{list, list_tree};
-pub use output::Output;
+pub use output::{finish, put_digits, put_escaped, settle};
 pub use path_fault::PathFault;
 pub use value::value_text;
 pub use value_queries::get_at;

@@ -9,8 +9,9 @@ ghost use Rattle.reg_tree_text.specs.DumpTexts.{Told, name_of};
 ghost use Rattle.reg_tree_text.specs.Internal.Gathered.{Puts};
 ghost use Rattle.reg_tree_text.specs.Listings.{after_name, value_line, value_lines, key_line, told_lines};
 
-use crate::{DumpFault, Output};
-use reg_text::Sink;
+use crate::DumpFault;
+use crate::output::{put_escaped, settle};
+use reg_text::{Output, Sink};
 use reg_tree::{Node, Tree};
 use std::alloc::AllocError;
 
@@ -31,7 +32,7 @@ fn write_kind_and_size(text: &mut String, kind: u32, size: u32) -> Result<(), Al
 
 /// Tells the line of a value of that name and type and of so many bytes.
 fn put_member<W: Sink>(
-    output: &mut Output,
+    output: &mut Output<String>,
     writer: &mut W,
     name: &[u8],
     kind: u32,
@@ -39,15 +40,15 @@ fn put_member<W: Sink>(
 ) -> Result<(), DumpFault>
     ensures { Puts output.old (W.contents writer.old, W.failures writer.old) output.new (W.contents writer.new, W.failures writer.new) (value_line name.now kind size) result }
 {
-    write_part(&mut output.text, "value =")?;
-    output.put_escaped(writer, name)?;
-    write_kind_and_size(&mut output.text, kind, size)?;
-    output.settle(writer)
+    write_part(&mut output.gathered, "value =")?;
+    put_escaped(output, writer, name)?;
+    write_kind_and_size(&mut output.gathered, kind, size)?;
+    settle(output, writer)
 }
 
 /// Tells the line of the value of a key at an index.
 fn put_value<W: Sink>(
-    output: &mut Output,
+    output: &mut Output<String>,
     writer: &mut W,
     tree: &Tree,
     node: Node,
@@ -66,7 +67,7 @@ fn put_value<W: Sink>(
 
 /// Tells the lines of a key's values, in their order.
 pub fn put_values<W: Sink>(
-    output: &mut Output,
+    output: &mut Output<String>,
     writer: &mut W,
     tree: &Tree,
     node: Node,
@@ -82,18 +83,22 @@ pub fn put_values<W: Sink>(
 }
 
 /// Tells the line of a key of that name, or at the end of names joined by backslashes.
-pub fn put_name<W: Sink>(output: &mut Output, writer: &mut W, name: &[u8]) -> Result<(), DumpFault>
+pub fn put_name<W: Sink>(
+    output: &mut Output<String>,
+    writer: &mut W,
+    name: &[u8],
+) -> Result<(), DumpFault>
     ensures { Puts output.old (W.contents writer.old, W.failures writer.old) output.new (W.contents writer.new, W.failures writer.new) (key_line name.now) result }
 {
-    write_part(&mut output.text, "key =")?;
-    output.put_escaped(writer, name)?;
-    write_part(&mut output.text, "\n")?;
-    output.settle(writer)
+    write_part(&mut output.gathered, "key =")?;
+    put_escaped(output, writer, name)?;
+    write_part(&mut output.gathered, "\n")?;
+    settle(output, writer)
 }
 
 /// Tells the lines of the keys right below a key, in the order of their folded names.
 pub fn put_subkeys<W: Sink>(
-    output: &mut Output,
+    output: &mut Output<String>,
     writer: &mut W,
     tree: &Tree,
     node: Node,
@@ -114,7 +119,7 @@ pub fn put_subkeys<W: Sink>(
 
 /// Tells the lines of a key below the one that is listed: its own, with its path from there, and those of its values.
 pub fn put_key<W: Sink>(
-    output: &mut Output,
+    output: &mut Output<String>,
     writer: &mut W,
     tree: &Tree,
     node: Node,

@@ -9,14 +9,15 @@ ghost use Rattle.reg_tree_text.specs.Internal.Gathered.{Puts};
 ghost use Rattle.reg_tree_text.specs.Listings.{told_lines, keys_below, list_text, tree_text};
 
 use crate::list_line::{put_key, put_subkeys, put_values};
-use crate::{DumpFault, Output, Walk};
-use reg_text::Sink;
+use crate::output::finish;
+use crate::{DumpFault, Walk};
+use reg_text::{Output, Sink};
 use reg_tree::{Node, Tree};
 use std::alloc::Global;
 
 /// Tells what is listed of a key by itself.
 fn put_list<W: Sink>(
-    output: &mut Output,
+    output: &mut Output<String>,
     writer: &mut W,
     tree: &Tree,
     node: Node,
@@ -31,7 +32,7 @@ fn put_list<W: Sink>(
 
 /// Tells the lines of all keys below a key.
 fn put_below<W: Sink>(
-    output: &mut Output,
+    output: &mut Output<String>,
     writer: &mut W,
     alloc: Global,
     tree: &Tree,
@@ -57,7 +58,7 @@ fn put_below<W: Sink>(
 
 /// Tells what is listed of a key with all that is below it.
 fn put_tree<W: Sink>(
-    output: &mut Output,
+    output: &mut Output<String>,
     writer: &mut W,
     alloc: Global,
     tree: &Tree,
@@ -93,7 +94,7 @@ pub fn list<W: Sink>(
 {
     let mut output = Output::new(alloc);
     put_list(&mut output, writer, tree, node)?;
-    output.finish(writer)
+    finish(&mut output, writer)
 }
 
 /// Lists a key with all that is below it: a line for each of its values, and then for each key below it, in the order of a dump, a line
@@ -119,5 +120,5 @@ pub fn list_tree<W: Sink>(
 {
     let mut output = Output::new(alloc);
     put_tree(&mut output, writer, alloc, tree, node)?;
-    output.finish(writer)
+    finish(&mut output, writer)
 }

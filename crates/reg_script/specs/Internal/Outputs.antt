@@ -1,16 +1,11 @@
 -- What becomes of the replies on their way to a writer (this project's own).
-use Rattle.std.specs.Prelude.{◌≡◌, ℕ, ◌≤◌, ◌⊎◌, List, [], length, take, Option, Result, Ok, Err}
+use Rattle.std.specs.Prelude.{◌≡◌, ℕ, ◌≤◌, ◌⊎◌, List, length, take, Option, Result, Ok, Err}
 use Rattle.std.specs.Io.KnownBytes.{Appends}
 use Rattle.reg_script.specs.declared.engine.ScriptFault.{ScriptFault}
 use Rattle.reg_script.specs.declared.engine.ScriptFault.TheVariants.{Read, Write, TooLong, Memory}
 use Rattle.reg_script.specs.declared.failed.StrictFault.{StrictFault}
 use Rattle.reg_script.specs.declared.failed.StrictFault.TheVariants.{Script, Line}
 use Rattle.reg_script.specs.Stops.{counted}
-
--- nothing was sent, or all of the text, and none is left; the count of what was sent goes along
-abbrev pub IsSettled : Option (List ℕ) → Option (List ℕ) → List ℕ → List ℕ → ℕ → ℕ → Type 0
-IsSettled old new text left before after = ((new ≡ old) × (left ≡ text) × (after ≡ before)) ⊎
-    (Appends old new text × (left ≡ []) × (after ≡ counted before (length text)))
 
 -- the writer took a front of the text and no more, and the fault counts all that it ever took
 pub record IsCut (old new : Option (List ℕ)) (text : List ℕ) (before : ℕ) (fault : ScriptFault) : Type 0 where

@@ -41,7 +41,7 @@ position_of answers s hive sent = record {
   stand = stand_of answers s hive;
   lines = s.lines;
   begun = s.line.items;
-  gathered = string_bytes s.output.text;
+  gathered = string_bytes s.output.gathered;
   sent = sent;
   written = s.output.written;
   failed = s.failed;
@@ -153,11 +153,11 @@ pub record HaltsAtEnd (left : Option (List ℕ)) (old : Position) (bytes : List 
 abbrev pub Adds : {C : Type 0} → (C → Answers) → (Stand → List ℕ → Stand → Type 0) → Script → Hive C → Script → Hive C → Type 0
 Adds answers way old old_hive new new_hive =
     (reply : List ℕ) × way (stand_of answers old old_hive) reply (stand_of answers new new_hive) ×
-    (string_bytes new.output.text ≡ string_bytes old.output.text ++ reply) × (new.output.written ≡ old.output.written)
+    (string_bytes new.output.gathered ≡ string_bytes old.output.gathered ++ reply) × (new.output.written ≡ old.output.written)
 
 -- nothing was gathered, and the hive is as it was
 pub record IsUnchanged (old : Script) (old_hive : View) (new : Script) (new_hive : View) : Type 0 where
-  pub text : string_bytes new.output.text ≡ string_bytes old.output.text
+  pub text : string_bytes new.output.gathered ≡ string_bytes old.output.gathered
   pub written : new.output.written ≡ old.output.written
   pub hive : new_hive ≡ old_hive
 

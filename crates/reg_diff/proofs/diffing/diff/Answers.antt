@@ -9,14 +9,14 @@ returns-in_err-put_diff-clause-err g c =
     err_exits _ _ _ c.from_residual.ensures.1
     (c.in_err-put_diff.ensures (g.S.Sink.contents c.args.writer.now, g.S.Sink.failures c.args.writer.now)
     (diff_text c.args.old.now.tree c.args.new.now.tree) []
-    (so_far_start _ (diff_text c.args.old.now.tree c.args.new.now.tree) _ _ c.new-output.ensures.text c.new-output.ensures.written)).0
+    (so_far_start _ (diff_text c.args.old.now.tree c.args.new.now.tree) _ _ c.new-output.ensures.gathered c.new-output.ensures.written)).0
 
 pub returns-in_err-put_diff-clause-failures : goal.returns-in_err-put_diff-clause-failures
 returns-in_err-put_diff-clause-failures g c =
     exits _ _ _ _ c.from_residual.ensures.1
     (c.in_err-put_diff.ensures (g.S.Sink.contents c.args.writer.now, g.S.Sink.failures c.args.writer.now)
     (diff_text c.args.old.now.tree c.args.new.now.tree) []
-    (so_far_start _ (diff_text c.args.old.now.tree c.args.new.now.tree) _ _ c.new-output.ensures.text c.new-output.ensures.written)).1
+    (so_far_start _ (diff_text c.args.old.now.tree c.args.new.now.tree) _ _ c.new-output.ensures.gathered c.new-output.ensures.written)).1
 
 pub returns-in_err-finish-clause-err : goal.returns-in_err-finish-clause-err
 returns-in_err-finish-clause-err g c =
@@ -25,7 +25,7 @@ returns-in_err-finish-clause-err g c =
     (diff_text c.args.old.now.tree c.args.new.now.tree) []
     (c.in_ok-put_diff.ensures (g.S.Sink.contents c.args.writer.now, g.S.Sink.failures c.args.writer.now)
     (diff_text c.args.old.now.tree c.args.new.now.tree) []
-    (so_far_start _ (diff_text c.args.old.now.tree c.args.new.now.tree) _ _ c.new-output.ensures.text c.new-output.ensures.written))).0
+    (so_far_start _ (diff_text c.args.old.now.tree c.args.new.now.tree) _ _ c.new-output.ensures.gathered c.new-output.ensures.written))).0
 
 pub returns-in_err-finish-clause-failures : goal.returns-in_err-finish-clause-failures
 returns-in_err-finish-clause-failures g c =
@@ -34,7 +34,7 @@ returns-in_err-finish-clause-failures g c =
     (diff_text c.args.old.now.tree c.args.new.now.tree) []
     (c.in_ok-put_diff.ensures (g.S.Sink.contents c.args.writer.now, g.S.Sink.failures c.args.writer.now)
     (diff_text c.args.old.now.tree c.args.new.now.tree) []
-    (so_far_start _ (diff_text c.args.old.now.tree c.args.new.now.tree) _ _ c.new-output.ensures.text c.new-output.ensures.written))).1
+    (so_far_start _ (diff_text c.args.old.now.tree c.args.new.now.tree) _ _ c.new-output.ensures.gathered c.new-output.ensures.written))).1
 
 pub returns-clause-ok : goal.returns-clause-ok
 returns-clause-ok g c =
@@ -43,7 +43,7 @@ returns-clause-ok g c =
     (diff_text c.args.old.now.tree c.args.new.now.tree) []
     (c.in_ok-put_diff.ensures (g.S.Sink.contents c.args.writer.now, g.S.Sink.failures c.args.writer.now)
     (diff_text c.args.old.now.tree c.args.new.now.tree) []
-    (so_far_start _ (diff_text c.args.old.now.tree c.args.new.now.tree) _ _ c.new-output.ensures.text c.new-output.ensures.written)))
+    (so_far_start _ (diff_text c.args.old.now.tree c.args.new.now.tree) _ _ c.new-output.ensures.gathered c.new-output.ensures.written)))
     c.in_ok-finish.ensures.empty
 
 pub returns-clause-same : goal.returns-clause-same
@@ -53,7 +53,7 @@ returns-clause-same g c =
     (g.S.Sink.contents c.args.writer.now, g.S.Sink.failures c.args.writer.now) _ _ _
     (c.in_ok-put_diff.ensures (g.S.Sink.contents c.args.writer.now, g.S.Sink.failures c.args.writer.now)
     (diff_text c.args.old.now.tree c.args.new.now.tree) []
-    (so_far_start _ (diff_text c.args.old.now.tree c.args.new.now.tree) _ _ c.new-output.ensures.text c.new-output.ensures.written))
+    (so_far_start _ (diff_text c.args.old.now.tree c.args.new.now.tree) _ _ c.new-output.ensures.gathered c.new-output.ensures.written))
     c.is_untold-is_same.ensures
 
 pub returns-clause-failures : goal.returns-clause-failures
@@ -62,4 +62,4 @@ returns-clause-failures g c =
     (diff_text c.args.old.now.tree c.args.new.now.tree) []
     (c.in_ok-put_diff.ensures (g.S.Sink.contents c.args.writer.now, g.S.Sink.failures c.args.writer.now)
     (diff_text c.args.old.now.tree c.args.new.now.tree) []
-    (so_far_start _ (diff_text c.args.old.now.tree c.args.new.now.tree) _ _ c.new-output.ensures.text c.new-output.ensures.written))).stays
+    (so_far_start _ (diff_text c.args.old.now.tree c.args.new.now.tree) _ _ c.new-output.ensures.gathered c.new-output.ensures.written))).stays

@@ -11,6 +11,6 @@ invariant-loop-key g l =
     (counts : Counts) × (amid : IsAmid l.tree l.walk counts) ×
     ((begin : WriterState) → (whole left : List ℕ) →
     IsSoFar begin (g.W.Sink.contents l.initial.writer, g.W.Sink.failures l.initial.writer) whole
-    (side_text l.side l.tree.tree l.other.tree ++ left) (string_bytes l.initial.output.text) l.initial.output.written →
+    (side_text l.side l.tree.tree l.other.tree ++ left) (string_bytes l.initial.output.gathered) l.initial.output.written →
     IsSoFar begin (g.W.Sink.contents l.writer, g.W.Sink.failures l.writer) whole
-    (flat_map (told_changes l.side l.other.tree) (amid.here ∷ amid.rest) ++ left) (string_bytes l.output.text) l.output.written)
+    (flat_map (told_changes l.side l.other.tree) (amid.here ∷ amid.rest) ++ left) (string_bytes l.output.gathered) l.output.written)

@@ -8,6 +8,6 @@ abbrev pub invariant-loop-part : goal.invariant-loop-part
 invariant-loop-part g l =
     (begin : WriterState) → (whole left : List ℕ) →
     IsSoFar begin (g.W.Sink.contents l.initial.writer, g.W.Sink.failures l.initial.writer) whole (flat_map part_text l.parts ++ left)
-    (string_bytes l.initial.output.text) l.initial.output.written →
+    (string_bytes l.initial.output.gathered) l.initial.output.written →
     IsSoFar begin (g.W.Sink.contents l.writer, g.W.Sink.failures l.writer) whole (flat_map part_text (drop l.part-index l.parts) ++ left)
-    (string_bytes l.output.text) l.output.written
+    (string_bytes l.output.gathered) l.output.written

@@ -16,7 +16,7 @@ invariant-loop-index g l =
     ((begin : WriterState) → (whole left : List ℕ) →
     IsSoFar begin (g.W.Sink.contents l.initial.writer, g.W.Sink.failures l.initial.writer) whole
     (flat_map (come_line l.path (values_at l.old.tree p)) (values_at l.new.tree q) ++ left)
-    (string_bytes l.initial.output.text) l.initial.output.written →
+    (string_bytes l.initial.output.gathered) l.initial.output.written →
     IsSoFar begin (g.W.Sink.contents l.writer, g.W.Sink.failures l.writer) whole
     (flat_map (come_line l.path (values_at l.old.tree p)) (drop l.index (values_at l.new.tree q)) ++ left)
-    (string_bytes l.output.text) l.output.written)
+    (string_bytes l.output.gathered) l.output.written)

@@ -11,6 +11,6 @@ abbrev pub invariant-loop-index : goal.invariant-loop-index
 invariant-loop-index g l =
     (p : Path) → IsAt l.tree p l.node → (begin : WriterState) → (whole left : List ℕ) →
     IsSoFar begin (g.W.Sink.contents l.initial.writer, g.W.Sink.failures l.initial.writer) whole
-    (flat_map (value_line l.side l.path) (values_at l.tree.tree p) ++ left) (string_bytes l.initial.output.text) l.initial.output.written →
+    (flat_map (value_line l.side l.path) (values_at l.tree.tree p) ++ left) (string_bytes l.initial.output.gathered) l.initial.output.written →
     IsSoFar begin (g.W.Sink.contents l.writer, g.W.Sink.failures l.writer) whole
-    (flat_map (value_line l.side l.path) (drop l.index (values_at l.tree.tree p)) ++ left) (string_bytes l.output.text) l.output.written
+    (flat_map (value_line l.side l.path) (drop l.index (values_at l.tree.tree p)) ++ left) (string_bytes l.output.gathered) l.output.written

@@ -10,6 +10,6 @@ abbrev pub invariant-loop-index : goal.invariant-loop-index
 invariant-loop-index g l =
     (p : Path) → IsAt l.tree p l.node → (begin : WriterState) → (whole left : List ℕ) →
     IsSoFar begin (g.W.Sink.contents l.initial.writer, g.W.Sink.failures l.initial.writer) whole
-    (entries_pieces l.is_utf8 (values_at l.tree.tree p) ++ left) l.initial.output.bytes.items l.initial.output.written →
+    (entries_pieces l.is_utf8 (values_at l.tree.tree p) ++ left) l.initial.output.gathered.items l.initial.output.written →
     IsSoFar begin (g.W.Sink.contents l.writer, g.W.Sink.failures l.writer) whole
-    (entries_pieces l.is_utf8 (drop l.index (values_at l.tree.tree p)) ++ left) l.output.bytes.items l.output.written
+    (entries_pieces l.is_utf8 (drop l.index (values_at l.tree.tree p)) ++ left) l.output.gathered.items l.output.written

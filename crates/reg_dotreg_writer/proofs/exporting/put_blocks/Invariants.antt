@@ -12,6 +12,6 @@ invariant-loop-key g l =
     (all : List Told) → Goes l.tree l.initial.walk all → (w : IsWriting l.tree l.walk) ×
     ((begin : WriterState) → (whole left : List ℕ) →
     IsSoFar begin (g.W.Sink.contents l.initial.writer, g.W.Sink.failures l.initial.writer) whole
-    (flat_map (block_pieces l.is_utf8) all ++ left) l.initial.output.bytes.items l.initial.output.written →
+    (flat_map (block_pieces l.is_utf8) all ++ left) l.initial.output.gathered.items l.initial.output.written →
     IsSoFar begin (g.W.Sink.contents l.writer, g.W.Sink.failures l.writer) whole
-    (flat_map (block_pieces l.is_utf8) w.now ++ left) l.output.bytes.items l.output.written)
+    (flat_map (block_pieces l.is_utf8) w.now ++ left) l.output.gathered.items l.output.written)

@@ -15,7 +15,7 @@ returns-in_err-put_file-clause-err g c =
     as_err _ _ _ whole _ (file-told c.args.tree.now.tree c.root-root.ensures.limits c.args.is_utf8 p)
     (err_exits _ _ _ c.from_residual.ensures.1
     (c.in_err-put_file.ensures begin whole []
-    (so_far_start begin whole _ _ c.new-output.ensures.bytes c.new-output.ensures.written)).0)
+    (so_far_start begin whole _ _ c.new-output.ensures.gathered c.new-output.ensures.written)).0)
 
 pub returns-clause-ok : goal.returns-clause-ok
 returns-clause-ok g c =
@@ -26,7 +26,7 @@ returns-clause-ok g c =
     (told_ok begin _ whole _ _ c.finish.result
     (c.finish.ensures.puts begin whole []
     (c.in_ok-put_file.ensures begin whole []
-    (so_far_start begin whole _ _ c.new-output.ensures.bytes c.new-output.ensures.written)))
+    (so_far_start begin whole _ _ c.new-output.ensures.gathered c.new-output.ensures.written)))
     c.finish.ensures.empty)
 
 pub returns-clause-err : goal.returns-clause-err
@@ -38,7 +38,7 @@ returns-clause-err g c =
     (told_err begin _ whole _ _ c.finish.result
     (c.finish.ensures.puts begin whole []
     (c.in_ok-put_file.ensures begin whole []
-    (so_far_start begin whole _ _ c.new-output.ensures.bytes c.new-output.ensures.written))))
+    (so_far_start begin whole _ _ c.new-output.ensures.gathered c.new-output.ensures.written))))
 
 pub returns-in_err-put_file-clause-failures : goal.returns-in_err-put_file-clause-failures
 returns-in_err-put_file-clause-failures g c =
@@ -46,7 +46,7 @@ returns-in_err-put_file-clause-failures g c =
     let begin : WriterState = (g.W.Sink.contents c.args.writer.now, g.W.Sink.failures c.args.writer.now) in
     exits _ _ _ _ c.from_residual.ensures.1
     (c.in_err-put_file.ensures begin whole []
-    (so_far_start begin whole _ _ c.new-output.ensures.bytes c.new-output.ensures.written)).1
+    (so_far_start begin whole _ _ c.new-output.ensures.gathered c.new-output.ensures.written)).1
 
 pub returns-clause-failures : goal.returns-clause-failures
 returns-clause-failures g c =
@@ -55,4 +55,4 @@ returns-clause-failures g c =
     told_failures begin _ whole _ _ c.finish.result
     (c.finish.ensures.puts begin whole []
     (c.in_ok-put_file.ensures begin whole []
-    (so_far_start begin whole _ _ c.new-output.ensures.bytes c.new-output.ensures.written)))
+    (so_far_start begin whole _ _ c.new-output.ensures.gathered c.new-output.ensures.written)))

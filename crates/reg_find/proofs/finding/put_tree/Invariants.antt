@@ -10,7 +10,7 @@ invariant-loop-key g l =
     (amid : IsAmid l.tree l.walk) × (g.P.Pattern.matches l.pattern ≡ g.P.Pattern.matches l.initial.pattern) ×
     ((begin : WriterState) → (whole left : List ℕ) →
     IsSoFar begin (g.W.Sink.contents l.initial.writer, g.W.Sink.failures l.initial.writer) whole
-    (found_text (g.P.Pattern.matches l.initial.pattern) l.scope l.tree.tree ++ left) (string_bytes l.initial.output.text) l.initial.output.written →
+    (found_text (g.P.Pattern.matches l.initial.pattern) l.scope l.tree.tree ++ left) (string_bytes l.initial.output.gathered) l.initial.output.written →
     IsSoFar begin (g.W.Sink.contents l.writer, g.W.Sink.failures l.writer) whole
     (flat_map (found_lines (g.P.Pattern.matches l.initial.pattern) l.scope) (amid.here ∷ amid.rest) ++ left)
-    (string_bytes l.output.text) l.output.written)
+    (string_bytes l.output.gathered) l.output.written)

@@ -13,7 +13,7 @@ invariant-loop-index g l =
     ((p : Path) → IsAt l.tree p l.walk.node → (begin : WriterState) → (whole left : List ℕ) →
     IsSoFar begin (g.W.Sink.contents l.initial.writer, g.W.Sink.failures l.initial.writer) whole
     (flat_map (value_found (g.P.Pattern.matches l.initial.pattern) l.scope l.walk.path.items) (values_at l.tree.tree p) ++ left)
-    (string_bytes l.initial.output.text) l.initial.output.written →
+    (string_bytes l.initial.output.gathered) l.initial.output.written →
     IsSoFar begin (g.W.Sink.contents l.writer, g.W.Sink.failures l.writer) whole
     (flat_map (value_found (g.P.Pattern.matches l.initial.pattern) l.scope l.walk.path.items) (drop l.index (values_at l.tree.tree p)) ++ left)
-    (string_bytes l.output.text) l.output.written)
+    (string_bytes l.output.gathered) l.output.written)

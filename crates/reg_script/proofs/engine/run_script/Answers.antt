@@ -14,17 +14,17 @@ returns-in-Ok-close-clause-at_end g c =
 pub returns-in-Ok-close-clause-lines : goal.returns-in-Ok-close-clause-lines
 returns-in-Ok-close-clause-lines g c =
     at_ok _ c.close.result _ c.in-Ok-close.is
-    (runs_whole _ _ _ _ _ _ _ _ c.read_all-ended.result c.close.result refl c.new-2.ensures.items c.new.ensures.text c.new.ensures.written refl refl
+    (runs_whole _ _ _ _ _ _ _ _ c.read_all-ended.result c.close.result refl c.new-2.ensures.items c.new.ensures.gathered c.new.ensures.written refl refl
     c.read_all-ended.ensures.lines c.close.ensures)
 
 pub returns-in-Ok-close-clause-spared : goal.returns-in-Ok-close-clause-spared
 returns-in-Ok-close-clause-spared g c =
     at_ok _ c.close.result _ c.in-Ok-close.is
-    (runs_sparing _ _ _ _ _ _ _ _ c.read_all-ended.result c.close.result refl c.new-2.ensures.items c.new.ensures.text c.new.ensures.written refl refl
+    (runs_sparing _ _ _ _ _ _ _ _ c.read_all-ended.result c.close.result refl c.new-2.ensures.items c.new.ensures.gathered c.new.ensures.written refl refl
     c.read_all-ended.ensures.lines c.close.ensures)
 
 pub returns-clause-stops : goal.returns-clause-stops
 returns-clause-stops g c =
     at_err _ c.close.result _ c.in-Err.is
-    (runs_into _ _ _ _ _ _ _ _ c.read_all-ended.result c.close.result refl c.new-2.ensures.items c.new.ensures.text c.new.ensures.written refl refl
+    (runs_into _ _ _ _ _ _ _ _ c.read_all-ended.result c.close.result refl c.new-2.ensures.items c.new.ensures.gathered c.new.ensures.written refl refl
     c.read_all-ended.ensures.lines c.close.ensures c.read_all-ended.ensures.at_end c.read_all-ended.ensures.err)

@@ -12,6 +12,6 @@ invariant-loop-key g l =
     (here : Told) → (rest : List Told) → Stands l.tree l.fn.start here rest → (amid : IsAmid l.tree l.walk) ×
     ((begin : WriterState) → (whole left : List ℕ) →
     IsSoFar begin (g.S.Sink.contents l.initial.writer, g.S.Sink.failures l.initial.writer) whole (flat_map key_rows rest ++ left)
-    (string_bytes l.initial.output.text) l.initial.output.written →
+    (string_bytes l.initial.output.gathered) l.initial.output.written →
     IsSoFar begin (g.S.Sink.contents l.writer, g.S.Sink.failures l.writer) whole (flat_map key_rows amid.rest ++ left)
-    (string_bytes l.output.text) l.output.written)
+    (string_bytes l.output.gathered) l.output.written)

@@ -8,7 +8,7 @@ returns-in_err-put_table-clause-err g c =
     λ p key.
     err_exits _ _ _ c.from_residual.ensures.1
     (c.in_err-put_table.ensures p key (g.S.Sink.contents c.args.writer.now, g.S.Sink.failures c.args.writer.now) (csv_text c.args.tree.now.tree p) []
-    (so_far_start _ (csv_text c.args.tree.now.tree p) _ _ c.new-output.ensures.text c.new-output.ensures.written)).0
+    (so_far_start _ (csv_text c.args.tree.now.tree p) _ _ c.new-output.ensures.gathered c.new-output.ensures.written)).0
 
 pub returns-clause-ok : goal.returns-clause-ok
 returns-clause-ok g c =
@@ -16,7 +16,7 @@ returns-clause-ok g c =
     told_ok (g.S.Sink.contents c.args.writer.now, g.S.Sink.failures c.args.writer.now) _ (csv_text c.args.tree.now.tree p) _ _ _
     (c.finish.ensures.puts (g.S.Sink.contents c.args.writer.now, g.S.Sink.failures c.args.writer.now) (csv_text c.args.tree.now.tree p) []
     (c.in_ok-put_table.ensures p key (g.S.Sink.contents c.args.writer.now, g.S.Sink.failures c.args.writer.now) (csv_text c.args.tree.now.tree p) []
-    (so_far_start _ (csv_text c.args.tree.now.tree p) _ _ c.new-output.ensures.text c.new-output.ensures.written)))
+    (so_far_start _ (csv_text c.args.tree.now.tree p) _ _ c.new-output.ensures.gathered c.new-output.ensures.written)))
     c.finish.ensures.empty
 
 pub returns-clause-err : goal.returns-clause-err
@@ -25,7 +25,7 @@ returns-clause-err g c =
     told_err (g.S.Sink.contents c.args.writer.now, g.S.Sink.failures c.args.writer.now) _ (csv_text c.args.tree.now.tree p) _ _ c.finish.result
     (c.finish.ensures.puts (g.S.Sink.contents c.args.writer.now, g.S.Sink.failures c.args.writer.now) (csv_text c.args.tree.now.tree p) []
     (c.in_ok-put_table.ensures p key (g.S.Sink.contents c.args.writer.now, g.S.Sink.failures c.args.writer.now) (csv_text c.args.tree.now.tree p) []
-    (so_far_start _ (csv_text c.args.tree.now.tree p) _ _ c.new-output.ensures.text c.new-output.ensures.written)))
+    (so_far_start _ (csv_text c.args.tree.now.tree p) _ _ c.new-output.ensures.gathered c.new-output.ensures.written)))
 
 pub returns-in_err-put_table-clause-failures : goal.returns-in_err-put_table-clause-failures
 returns-in_err-put_table-clause-failures g c =
@@ -33,7 +33,7 @@ returns-in_err-put_table-clause-failures g c =
     let key = c.requires.1 in
     exits _ _ _ _ c.from_residual.ensures.1
     (c.in_err-put_table.ensures p key (g.S.Sink.contents c.args.writer.now, g.S.Sink.failures c.args.writer.now) (csv_text c.args.tree.now.tree p) []
-    (so_far_start _ (csv_text c.args.tree.now.tree p) _ _ c.new-output.ensures.text c.new-output.ensures.written)).1
+    (so_far_start _ (csv_text c.args.tree.now.tree p) _ _ c.new-output.ensures.gathered c.new-output.ensures.written)).1
 
 pub returns-clause-failures : goal.returns-clause-failures
 returns-clause-failures g c =
@@ -42,4 +42,4 @@ returns-clause-failures g c =
     told_failures (g.S.Sink.contents c.args.writer.now, g.S.Sink.failures c.args.writer.now) _ (csv_text c.args.tree.now.tree p) _ _ c.finish.result
     (c.finish.ensures.puts (g.S.Sink.contents c.args.writer.now, g.S.Sink.failures c.args.writer.now) (csv_text c.args.tree.now.tree p) []
     (c.in_ok-put_table.ensures p key (g.S.Sink.contents c.args.writer.now, g.S.Sink.failures c.args.writer.now) (csv_text c.args.tree.now.tree p) []
-    (so_far_start _ (csv_text c.args.tree.now.tree p) _ _ c.new-output.ensures.text c.new-output.ensures.written)))
+    (so_far_start _ (csv_text c.args.tree.now.tree p) _ _ c.new-output.ensures.gathered c.new-output.ensures.written)))

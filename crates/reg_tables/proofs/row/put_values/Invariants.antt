@@ -10,6 +10,6 @@ abbrev pub invariant-loop-index : goal.invariant-loop-index
 invariant-loop-index g l =
     (p : Path) → IsAt l.tree p l.node → (begin : WriterState) → (whole left : List ℕ) →
     IsSoFar begin (g.S.Sink.contents l.initial.writer, g.S.Sink.failures l.initial.writer) whole (value_rows l.path (values_at l.tree.tree p) ++ left)
-    (string_bytes l.initial.output.text) l.initial.output.written →
+    (string_bytes l.initial.output.gathered) l.initial.output.written →
     IsSoFar begin (g.S.Sink.contents l.writer, g.S.Sink.failures l.writer) whole (value_rows l.path (drop l.index (values_at l.tree.tree p)) ++ left)
-    (string_bytes l.output.text) l.output.written
+    (string_bytes l.output.gathered) l.output.written

@@ -11,6 +11,6 @@ invariant-loop-index g l =
     (p : Path) → IsAt l.tree p l.node → IsNext l.tree p l.node l._index l.next ×
     ((begin : WriterState) → (whole left : List ℕ) →
     IsSoFar begin (g.W.Sink.contents l.initial.writer, g.W.Sink.failures l.initial.writer) whole
-    (flat_map (child_line l.tree.tree) (children_of l.tree.tree p) ++ left) (string_bytes l.initial.output.text) l.initial.output.written →
+    (flat_map (child_line l.tree.tree) (children_of l.tree.tree p) ++ left) (string_bytes l.initial.output.gathered) l.initial.output.written →
     IsSoFar begin (g.W.Sink.contents l.writer, g.W.Sink.failures l.writer) whole
-    (flat_map (child_line l.tree.tree) (drop l._index (children_of l.tree.tree p)) ++ left) (string_bytes l.output.text) l.output.written)
+    (flat_map (child_line l.tree.tree) (drop l._index (children_of l.tree.tree p)) ++ left) (string_bytes l.output.gathered) l.output.written)

@@ -8,14 +8,14 @@ returns-in_err-put_tree-clause-err g c =
     λ p at.
     err_exits _ _ _ c.from_residual.ensures.1
     (c.in_err-put_tree.ensures p at (g.W.Sink.contents c.args.writer.now, g.W.Sink.failures c.args.writer.now) (tree_text c.args.tree.now.tree p) []
-    (so_far_start _ (tree_text c.args.tree.now.tree p) _ _ c.new-output.ensures.text c.new-output.ensures.written)).0
+    (so_far_start _ (tree_text c.args.tree.now.tree p) _ _ c.new-output.ensures.gathered c.new-output.ensures.written)).0
 
 pub returns-in_err-put_tree-clause-failures : goal.returns-in_err-put_tree-clause-failures
 returns-in_err-put_tree-clause-failures g c =
     let p = c.requires.0 in
     exits _ _ _ _ c.from_residual.ensures.1
     (c.in_err-put_tree.ensures p c.requires.1 (g.W.Sink.contents c.args.writer.now, g.W.Sink.failures c.args.writer.now) (tree_text c.args.tree.now.tree p) []
-    (so_far_start _ (tree_text c.args.tree.now.tree p) _ _ c.new-output.ensures.text c.new-output.ensures.written)).1
+    (so_far_start _ (tree_text c.args.tree.now.tree p) _ _ c.new-output.ensures.gathered c.new-output.ensures.written)).1
 
 pub returns-clause-ok : goal.returns-clause-ok
 returns-clause-ok g c =
@@ -23,7 +23,7 @@ returns-clause-ok g c =
     told_ok (g.W.Sink.contents c.args.writer.now, g.W.Sink.failures c.args.writer.now) _ (tree_text c.args.tree.now.tree p) _ _ _
     (c.finish.ensures.puts (g.W.Sink.contents c.args.writer.now, g.W.Sink.failures c.args.writer.now) (tree_text c.args.tree.now.tree p) []
     (c.in_ok-put_tree.ensures p at (g.W.Sink.contents c.args.writer.now, g.W.Sink.failures c.args.writer.now) (tree_text c.args.tree.now.tree p) []
-    (so_far_start _ (tree_text c.args.tree.now.tree p) _ _ c.new-output.ensures.text c.new-output.ensures.written)))
+    (so_far_start _ (tree_text c.args.tree.now.tree p) _ _ c.new-output.ensures.gathered c.new-output.ensures.written)))
     c.finish.ensures.empty
 
 pub returns-clause-err : goal.returns-clause-err
@@ -32,7 +32,7 @@ returns-clause-err g c =
     told_err (g.W.Sink.contents c.args.writer.now, g.W.Sink.failures c.args.writer.now) _ (tree_text c.args.tree.now.tree p) _ _ c.finish.result
     (c.finish.ensures.puts (g.W.Sink.contents c.args.writer.now, g.W.Sink.failures c.args.writer.now) (tree_text c.args.tree.now.tree p) []
     (c.in_ok-put_tree.ensures p at (g.W.Sink.contents c.args.writer.now, g.W.Sink.failures c.args.writer.now) (tree_text c.args.tree.now.tree p) []
-    (so_far_start _ (tree_text c.args.tree.now.tree p) _ _ c.new-output.ensures.text c.new-output.ensures.written)))
+    (so_far_start _ (tree_text c.args.tree.now.tree p) _ _ c.new-output.ensures.gathered c.new-output.ensures.written)))
 
 pub returns-clause-failures : goal.returns-clause-failures
 returns-clause-failures g c =
@@ -40,4 +40,4 @@ returns-clause-failures g c =
     told_failures (g.W.Sink.contents c.args.writer.now, g.W.Sink.failures c.args.writer.now) _ (tree_text c.args.tree.now.tree p) _ _ c.finish.result
     (c.finish.ensures.puts (g.W.Sink.contents c.args.writer.now, g.W.Sink.failures c.args.writer.now) (tree_text c.args.tree.now.tree p) []
     (c.in_ok-put_tree.ensures p c.requires.1 (g.W.Sink.contents c.args.writer.now, g.W.Sink.failures c.args.writer.now) (tree_text c.args.tree.now.tree p) []
-    (so_far_start _ (tree_text c.args.tree.now.tree p) _ _ c.new-output.ensures.text c.new-output.ensures.written)))
+    (so_far_start _ (tree_text c.args.tree.now.tree p) _ _ c.new-output.ensures.gathered c.new-output.ensures.written)))

@@ -12,6 +12,6 @@ invariant-loop-key g l =
     (p : Path) → IsAt l.tree p l.fn.node → (amid : IsAmid l.tree l.walk) ×
     ((begin : WriterState) → (whole left : List ℕ) →
     IsSoFar begin (g.W.Sink.contents l.initial.writer, g.W.Sink.failures l.initial.writer) whole
-    (flat_map told_lines (keys_below l.tree.tree p) ++ left) (string_bytes l.initial.output.text) l.initial.output.written →
+    (flat_map told_lines (keys_below l.tree.tree p) ++ left) (string_bytes l.initial.output.gathered) l.initial.output.written →
     IsSoFar begin (g.W.Sink.contents l.writer, g.W.Sink.failures l.writer) whole (flat_map told_lines amid.rest ++ left)
-    (string_bytes l.output.text) l.output.written)
+    (string_bytes l.output.gathered) l.output.written)

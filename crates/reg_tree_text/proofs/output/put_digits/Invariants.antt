@@ -1,14 +1,14 @@
 use Rattle.std.proofs.Common.{ℕ, List, ◌++◌, ◌-◌, length, drop, string_bytes}
 use Rattle.reg_text.specs.Texts.{digits_text}
 use Rattle.reg_tree_text.specs.Internal.Gathered.{WriterState, IsSoFar}
-use Rattle.reg_tree_text.proofs.output.Output.put_digits.Given as goal
+use Rattle.reg_tree_text.proofs.output.put_digits.Given as goal
 
 abbrev pub invariant-loop-from : goal.invariant-loop-from
 invariant-loop-from g l =
     (begin : WriterState) → (whole left : List ℕ) →
     IsSoFar begin (g.W.Sink.contents l.initial.writer, g.W.Sink.failures l.initial.writer) whole (digits_text l.bytes ++ left)
-    (string_bytes l.initial.self.text) l.initial.self.written →
-    IsSoFar begin (g.W.Sink.contents l.writer, g.W.Sink.failures l.writer) whole (digits_text (drop l.from l.bytes) ++ left) (string_bytes l.self.text) l.self.written
+    (string_bytes l.initial.output.gathered) l.initial.output.written →
+    IsSoFar begin (g.W.Sink.contents l.writer, g.W.Sink.failures l.writer) whole (digits_text (drop l.from l.bytes) ++ left) (string_bytes l.output.gathered) l.output.written
 
 abbrev pub decreases-loop-from : goal.decreases-loop-from
 decreases-loop-from g l = length l.bytes - l.from
