@@ -32,8 +32,8 @@ use std::alloc::Global;
 /// All cells of the change are carved before anything is written, by
 /// [`carve_change`](reg_arena::Arena::carve_change) and with the sizes of [`plan_set`](crate::plan_set).
 /// [`ArenaFault::Full`]: no free cell has room for them, and with a bin more there would be more than 268,435,456 bytes of
-/// bins. [`ArenaFault::Memory`]: a growth was refused. After either the arena is as before. The bins grow by at most
-/// 1,310,720 bytes.
+/// bins. [`ArenaFault::Memory`]: a growth was refused. After either the arena is as before. The bins grow only where no free
+/// cell has room for all of the cells, and by at most 1,310,720 bytes.
 pub fn set_at(
     alloc: Global,
     arena: &mut Arena,
@@ -80,8 +80,8 @@ pub fn set_at(
 /// goes to the end, where there is room below 16,384 values. It is a search for the name and then [`set_at`]. Answers the list
 /// as it is then.
 ///
-/// [`ArenaFault::Full`] and [`ArenaFault::Memory`] as `set_at` has them. After either the arena is as before. The bins grow by
-/// at most 1,310,720 bytes.
+/// [`ArenaFault::Full`] and [`ArenaFault::Memory`] as `set_at` has them. After either the arena is as before. The bins grow only
+/// where no free cell has room for all of the cells, and by at most 1,310,720 bytes.
 pub fn set(
     alloc: Global,
     arena: &mut Arena,
@@ -110,6 +110,8 @@ pub fn set(
         (total_of (set_sizes (heap_of arena.old) list.count list.offset name.now (length bytes.now))) }
     ensures near { result ≡ Err ArenaFault.Full → BINS_LIMIT < length arena.old.bytes + GROWTH_BOUND }
     ensures grows { OnOk result (length arena.new.bytes ≤ length arena.old.bytes + GROWTH_BOUND) }
+    ensures growth { OnOk result (GrowsFor arena.old.bytes arena.new.bytes
+        (set_sizes (heap_of arena.old) list.count list.offset name.now (length bytes.now))) }
     ensures kept { OnOk result (length arena.old.bytes ≤ length arena.new.bytes) }
 {
     let place = find(arena, list, name);
