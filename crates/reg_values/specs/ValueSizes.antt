@@ -1,8 +1,9 @@
 -- The cells that a set of a value takes (Suhanov, Windows registry file format specification, "Cell", "Key values list",
 -- "Key value", "Big data").
-use Rattle.std.specs.Prelude.{ℕ, zero, suc, ◌+◌, ◌-◌, ◌*◌, ◌==◌, ◌&&◌, nat_lt, nat_le, not, min, Bool, if◌then◌else◌, Option, Some, None, List}
+use Rattle.std.specs.Prelude.{ℕ, zero, suc, ◌+◌, ◌-◌, ◌*◌, ◌/◌, ◌==◌, ◌&&◌, nat_lt, nat_le, not, min, Bool, if◌then◌else◌, Option, Some, None, List}
 use Rattle.std.specs.Prelude.{[], ◌∷◌, ◌++◌, length}
 use Rattle.std.specs.Option.{option_and_then}
+use Rattle.reg_heap.specs.declared.limits.TheConstants.{VALUES_LIMIT}
 use Rattle.reg_heap.specs.Members.{index_named}
 use Rattle.reg_heap.specs.Heaps.{Heap}
 use Rattle.reg_arena.specs.NewCells.{cell_size}
@@ -29,9 +30,14 @@ data_sizes size =
 abbrev pub has_room : Heap → ℕ → ℕ → Bool
 has_room heap count offset = not (count == 0) && nat_le (4 * count + 4) (length (held heap offset))
 
+-- for how many values a list is made that moves and then holds so many: for just these up to 64, and else for a quarter more, at most for
+-- 16,384
+unfoldable pub room_for : ℕ → ℕ
+room_for count = if nat_le count 64 then count else min (count + count / 4) VALUES_LIMIT
+
 -- the cell of a list that gets one value more: none where the list's own cell has room
 unfoldable pub list_sizes : Heap → ℕ → ℕ → List ℕ
-list_sizes heap count offset = if has_room heap count offset then [] else cell_size (4 * count + 4) ∷ []
+list_sizes heap count offset = if has_room heap count offset then [] else cell_size (4 * room_for (count + 1)) ∷ []
 
 -- new data stays in the old data's one cell, which has the size that it needs
 unfoldable pub stays : Heap → ValueFields → ℕ → Bool

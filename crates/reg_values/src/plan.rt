@@ -11,7 +11,7 @@ ghost use Rattle.reg_arena.specs.Arena.{heap_of};
 ghost use Rattle.reg_arena.specs.NewCells.{total_of};
 ghost use Rattle.reg_values.specs.ValueLists.{AreValues};
 ghost use Rattle.reg_values.specs.NewValues.{told, all_told, MayFollow, one_value_sizes, all_value_sizes};
-ghost use Rattle.reg_values.specs.ValueSizes.{data_sizes, segment_sizes, list_sizes, has_room as has_room_of};
+ghost use Rattle.reg_values.specs.ValueSizes.{data_sizes, segment_sizes, list_sizes, room_for as room_of, has_room as has_room_of};
 ghost use Rattle.reg_values.specs.ValueSizes.{stays as stays_of, sizes_by, set_sizes};
 
 use crate::big::segments_for;
@@ -19,6 +19,7 @@ use crate::finding::{cell_of, find, record_at};
 use crate::making::NewValue;
 use crate::{INLINE_LIMIT, ValuesList};
 use reg_arena::{Arena, cell_size};
+use reg_heap::limits::VALUES_LIMIT;
 use reg_records::{SEGMENT_SIZE, ValueFields};
 use std::alloc::{AllocError, Global};
 
@@ -27,6 +28,9 @@ const HEAD: u32 = 20;
 
 /// The length of a big data record, in bytes.
 const BIG_HEAD: u32 = 8;
+
+/// Up to how many values a list that moves is made for just these.
+const EXACT: u32 = 64;
 
 /// Puts the sizes of the cells of data of a size behind those of `sizes`.
 #[tactic(auto, unfolding(crate::specs::ValueSizes::data_sizes, reg_records::specs::BigData::segment_size))]
@@ -80,6 +84,20 @@ pub(crate) fn stays(arena: &Arena, old: ValueFields, size: usize) -> bool
         && cell_size(size as u32) as usize == arena.content(old.offset).len() + 4
 }
 
+/// For how many values a list is made that moves and then holds so many: from the 65th on for a quarter more, at most for 16,384, so that
+/// a key's values, set one by one, carve cells for their list that grow with their number alone.
+#[tactic(auto, unfolding(crate::specs::ValueSizes::room_for))]
+fn room_for(count: u32) -> u32
+    requires { count ≤ VALUES_LIMIT + 1 }
+    ensures is { result ≡ room_of count }
+    ensures most { result ≤ VALUES_LIMIT + 1 }
+{
+    if count <= EXACT {
+        return count;
+    }
+    (count + count / 4).min(VALUES_LIMIT)
+}
+
 /// Puts the size of the cell that a list moves to for one value more, if it moves, behind those of `sizes`.
 #[tactic(auto, unfolding(crate::specs::ValueSizes::list_sizes))]
 fn plan_list(sizes: &mut Vec<u32>, arena: &Arena, list: ValuesList) -> Result<(), AllocError>
@@ -90,7 +108,7 @@ fn plan_list(sizes: &mut Vec<u32>, arena: &Arena, list: ValuesList) -> Result<()
     if has_room(arena, list) {
         return Ok(());
     }
-    sizes.push(cell_size(4 * list.count + 4))?;
+    sizes.push(cell_size(4 * room_for(list.count + 1)))?;
     Ok(())
 }
 

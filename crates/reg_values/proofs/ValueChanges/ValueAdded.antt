@@ -10,7 +10,7 @@ use Rattle.reg_heap.specs.declared.limits.TheConstants.{VALUES_LIMIT, DATA_LIMIT
 use Rattle.reg_arena.specs.NewCells.{AreSizes}
 use Rattle.reg_records.specs.RecordCells.{HasRoom, held}
 use Rattle.reg_arena.specs.NewCells.{cell_size}
-use Rattle.reg_values.specs.ValueSizes.{data_sizes, list_sizes, sizes_by, has_room}
+use Rattle.reg_values.specs.ValueSizes.{data_sizes, room_for, list_sizes, sizes_by, has_room}
 use Rattle.reg_values.proofs.ValueData.NewCellRoom.{new-room, list-one-more, list-two}
 use Rattle.reg_values.proofs.ValueData.FilledCells.{fills-room}
 use Rattle.reg_values.proofs.ValueData.CellSizeTotals.{makes}
@@ -151,12 +151,12 @@ module _ (h0 h1 : Heap) (all : List ℕ) (s l : ℕ) (ds : List ℕ) (a : AreNew
 
 pub room-sizes : (h : Heap) (count offset name size : ℕ) → has_room h count offset ≡ true → sizes_by h count offset name size None ≡ cell_size (20 + name) ∷ data_sizes size
 unfolding list_sizes
-room-sizes h count offset name size r = ap (λ b. cell_size (20 + name) ∷ (cond b [] (cell_size (4 * count + 4) ∷ []) ++ data_sizes size)) r
+room-sizes h count offset name size r = ap (λ b. cell_size (20 + name) ∷ (cond b [] (cell_size (4 * room_for (count + 1)) ∷ []) ++ data_sizes size)) r
 
 pub full-sizes : (h : Heap) (count offset name size : ℕ) → has_room h count offset ≡ false →
-    sizes_by h count offset name size None ≡ cell_size (20 + name) ∷ cell_size (4 * count + 4) ∷ data_sizes size
+    sizes_by h count offset name size None ≡ cell_size (20 + name) ∷ cell_size (4 * room_for (count + 1)) ∷ data_sizes size
 unfolding list_sizes
-full-sizes h count offset name size r = ap (λ b. cell_size (20 + name) ∷ (cond b [] (cell_size (4 * count + 4) ∷ []) ++ data_sizes size)) r
+full-sizes h count offset name size r = ap (λ b. cell_size (20 + name) ∷ (cond b [] (cell_size (4 * room_for (count + 1)) ∷ []) ++ data_sizes size)) r
 
 -- the list's own cell has room
 pub list-space : (h0 h1 h2 : Heap) (count offset : ℕ) (cells more : List ℕ) → has_room h0 count offset ≡ true → IsSome (h0 offset) →

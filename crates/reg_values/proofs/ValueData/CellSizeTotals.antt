@@ -1,5 +1,5 @@
 -- The sizes of new cells, one by one and together.
-use Rattle.std.proofs.Common.{◌≡◌, ℕ, zero, suc, ◌+◌, ◌-◌, ◌*◌, ◌%◌, ◌<◌, ◌≤◌, nat_le, min, cond, Bool, true, false, Option, Some, None, List, [], ◌∷◌, ◌++◌, length, map, is_some, get_or}
+use Rattle.std.proofs.Common.{◌≡◌, ℕ, zero, suc, ◌+◌, ◌-◌, ◌*◌, ◌/◌, ◌%◌, ◌<◌, ◌≤◌, nat_le, min, cond, Bool, true, false, Option, Some, None, List, [], ◌∷◌, ◌++◌, length, map, is_some, get_or}
 use Rattle.std.proofs.Common.{refl, sym, ap, ◌∙◌, arith}
 use Rattle.std.specs.List.{AllByRecursion, list_all}
 use Rattle.std.proofs.lemmas.Bool.{and_parts, leb-true}
@@ -16,7 +16,7 @@ use Rattle.reg_records.specs.declared.db.TheConstants.{SEGMENT_SIZE}
 use Rattle.reg_records.specs.BigData.{segment_size, segments_for}
 use Rattle.reg_values.specs.ValueLists.{Makes}
 use Rattle.reg_arena.specs.NewCells.{cell_size}
-use Rattle.reg_values.specs.ValueSizes.{segment_sizes, data_sizes, list_sizes, sizes_by, has_room, stays, new_data_sizes}
+use Rattle.reg_values.specs.ValueSizes.{segment_sizes, data_sizes, room_for, list_sizes, sizes_by, has_room, stays, new_data_sizes}
 use Rattle.reg_records.specs.KeyValues.{KeyValueRecord}
 use Rattle.reg_values.proofs.ValueListing.FoundValues.{held-is}
 use Rattle.reg_values.proofs.ValueFreeing.FrameChains.{allocated-le, none-there, there-one, times-same}
@@ -86,21 +86,38 @@ pub total-append : (xs ys : List ℕ) → total_of (xs ++ ys) ≡ total_of xs + 
 total-append [] ys = omega arith
 total-append (x ∷ xs) ys = let k = total-append xs ys in omega (arith, k)
 
+-- a list that moves is made for as many values as it then holds, at least
+pub room-least : (n : ℕ) → n ≤ VALUES_LIMIT → n ≤ room_for n
+unfolding room_for
+room-least n l = by (nat_le n 64)
+  where
+    by : (b : Bool) → n ≤ cond b n (min (n + n / 4) VALUES_LIMIT)
+    by true = omega arith
+    by false = omega (arith, l)
+
+room-most : (n : ℕ) → n ≤ VALUES_LIMIT + 1 → room_for n ≤ VALUES_LIMIT + 1
+unfolding room_for
+room-most n l = by (nat_le n 64)
+  where
+    by : (b : Bool) → cond b n (min (n + n / 4) VALUES_LIMIT) ≤ VALUES_LIMIT + 1
+    by true = omega (arith, l)
+    by false = omega arith
+
 list-ok : (h : Heap) (count offset : ℕ) → AreSizes (list_sizes h count offset)
 unfolding list_sizes
 list-ok h count offset = by (has_room h count offset)
   where
-    by : (b : Bool) → AreSizes (cond b [] (cell_size (4 * count + 4) ∷ []))
+    by : (b : Bool) → AreSizes (cond b [] (cell_size (4 * room_for (count + 1)) ∷ []))
     by true = tt
-    by false = (cell-ok (4 * count + 4), tt)
+    by false = (cell-ok (4 * room_for (count + 1)), tt)
 
 list-total : (h : Heap) (count offset : ℕ) → count ≤ VALUES_LIMIT → total_of (list_sizes h count offset) ≤ 65560
 unfolding list_sizes
 list-total h count offset l = by (has_room h count offset)
   where
-    by : (b : Bool) → total_of (cond b [] (cell_size (4 * count + 4) ∷ [])) ≤ 65560
+    by : (b : Bool) → total_of (cond b [] (cell_size (4 * room_for (count + 1)) ∷ [])) ≤ 65560
     by true = omega arith
-    by false = omega (arith, l)
+    by false = let m = room-most (count + 1) (omega (arith, l)) in omega (arith, m)
 
 pub add-ok : (h : Heap) (count offset name size : ℕ) → AreSizes (sizes_by h count offset name size None)
 add-ok h count offset name size = (cell-ok (20 + name), all-app _ (list_sizes h count offset) (data_sizes size) (list-ok h count offset) (data-ok size))

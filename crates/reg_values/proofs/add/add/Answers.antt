@@ -9,7 +9,7 @@ use Rattle.reg_values.proofs.ValueListing.FoundValues.{list-there, same-read}
 use Rattle.reg_values.proofs.ValueListing.ValueListFrame.{list-open}
 use Rattle.reg_values.proofs.ValueData.FilledCells.{fills-room}
 use Rattle.reg_values.proofs.ValueData.NewCellRoom.{room-less}
-use Rattle.reg_values.proofs.ValueData.CellSizeTotals.{add-ok, add-total, value-name}
+use Rattle.reg_values.proofs.ValueData.CellSizeTotals.{add-ok, add-total, room-least, value-name}
 use Rattle.reg_values.proofs.ValueChanges.KeptSizes.{fills-first, new-first}
 use Rattle.reg_values.proofs.ValueChanges.ValueAdded.{was, list2, owns2, beside2, added, add-makes, new-all, one-rooms, one-parts, two-long, two-rooms, two-list, two-parts, room-sizes}
 use Rattle.reg_values.proofs.ValueChanges.ValueAdded.{full-sizes, list-space, some-count, became-as}
@@ -186,7 +186,7 @@ move_list-requires-clause-room c =
     let all = c.as_slice-all.result.now in
     let a = new-all h0 h1 c.in_ok-cells.cells.items all c.deref.result.now _ c.in_ok-cells.ensures.ok c.as_slice-all.ensures.value (c.deref.ensures.value ∙ c.in-Ok.ensures) in
     let a1 = subst (AreNew h0 h1 all) (full-sizes h0 n p (length c.args.name.now) (length c.args.bytes.now) (sym c.has_room-room.ensures ∙ c.if-room.false)) a in
-    fills-room h1 (heap_of c.put_value-2.new.arena) _ (get_or all 1 0) _ c.put_value-2.ensures.fills (room-less h1 (get_or all 1 0) _ (4 * n + 4) (omega arith) (two-list h0 h1 all _ _ _ a1))
+    fills-room h1 (heap_of c.put_value-2.new.arena) _ (get_or all 1 0) _ c.put_value-2.ensures.fills (room-less h1 (get_or all 1 0) _ (4 * n + 4) (let f = c.requires.few in let r = room-least (n + 1) (omega (arith, f)) in omega (arith, r)) (two-list h0 h1 all _ _ _ a1))
 
 pub returns-clause-ok : goal.returns-clause-ok
 returns-clause-ok c = λ members met e.
