@@ -7,3 +7,4 @@ pub mod StoredData
 pub mod NewCellRoom
 pub mod WrittenValues
 pub mod CellSizeTotals
+pub mod RoomRows
