@@ -520,6 +520,9 @@ pub fn create(
         × BelongsThere (record { bins = arena.old; root = t.root; tree = tree_in arena.old.bytes t.root }) t.path (path_of path.now) place
         × Makes (heap_of arena.old) (heap_of arena.new)
         (create_sizes (record { bins = arena.old; root = t.root; tree = tree_in arena.old.bytes t.root }) t.path (path_of path.now) place
+        (option_map (λ descriptor. descriptor.now) given.entry))
+        × GrowsFor arena.old.bytes arena.new.bytes
+        (create_sizes (record { bins = arena.old; root = t.root; tree = tree_in arena.old.bytes t.root }) t.path (path_of path.now) place
         (option_map (λ descriptor. descriptor.now) given.entry))) }
     ensures same { IfOk result (λ made. made.is_new ≡ false → arena.new ≡ arena.old) }
     ensures limit { (t : IsHere arena.old.bytes from.offset) → from.depth ≡ length t.path →

@@ -5,16 +5,17 @@
 //!
 //! Win32 registry reference, `RegSetKeySecurity`.
 
-ghost use Rattle.std.specs.Prelude.{◌≡◌, ◌≤◌, ◌<◌, ◌+◌, ℕ, List, [], ◌∷◌, Err, None, length, OnOk, OnErr, IfOk, IfErr};
+ghost use Rattle.std.specs.Prelude.{◌≡◌, ◌≤◌, ◌<◌, ◌+◌, ℕ, List, [], ◌∷◌, Err, None, length, option_map, OnOk, OnErr, IfOk, IfErr};
 ghost use Rattle.reg_heap.specs.declared.limits.TheConstants.{BINS_LIMIT, DESCRIPTOR_LIMIT, GROWTH_BOUND};
 ghost use Rattle.reg_heap.specs.Edits.{with_descriptor};
 ghost use Rattle.reg_heap.specs.Kinds.{times};
 ghost use Rattle.reg_arena.specs.Arena.{heap_of};
+ghost use Rattle.reg_arena.specs.EachCell.{GrowsFor};
 ghost use Rattle.reg_arena.specs.NewCells.{cell_size};
 ghost use Rattle.reg_values.specs.ValueLists.{Makes};
 ghost use Rattle.reg_security.specs.Rings.{DescriptorCells, Finds, cell_of};
 ghost use Rattle.reg_tree.specs.TreeKeys.{tree_in};
-ghost use Rattle.reg_tree.specs.CellSizes.{security_sizes, LacksRoom};
+ghost use Rattle.reg_tree.specs.CellSizes.{planned_sizes, security_sizes, LacksRoom};
 ghost use Rattle.reg_tree.specs.Internal.TreeInvariant.{IsHere, IsChanged, TreeInvariant};
 ghost use Rattle.reg_tree.specs.Internal.KeyNodeChanges.{SameSizes};
 ghost use Rattle.reg_tree.specs.Internal.LengthChanges.{LengthsStay};
@@ -94,6 +95,8 @@ fn carve_for(
         × LacksRoom arena.old (cell_size (20 + length descriptor.now) ∷ [])) }
     ensures err { OnErr result (arena.new ≡ arena.old) }
     ensures grows { OnOk result (length arena.new.bytes ≤ length arena.old.bytes + GROWTH_BOUND) }
+    ensures growth { IfOk result (λ cell. GrowsFor arena.old.bytes arena.new.bytes
+        (planned_sizes (option_map (λ _. cell_size (20 + length descriptor.now)) cell))) }
     ensures kept { OnOk result (length arena.old.bytes ≤ length arena.new.bytes) }
 {
     let Ok(size) = expect(alloc, securities, descriptor, None) else {
@@ -189,6 +192,8 @@ pub fn set(
         IfErr result (λ fault. fault ≡ ArenaFault.Full → LacksRoom arena.old (security_sizes (tree_in arena.old.bytes t.root) descriptor.now)) }
     ensures err { OnErr result (arena.new ≡ arena.old) }
     ensures grows { OnOk result (length arena.new.bytes ≤ length arena.old.bytes + GROWTH_BOUND) }
+    ensures growth { (t : IsHere arena.old.bytes key) → t.table ≡ securities.old →
+        OnOk result (GrowsFor arena.old.bytes arena.new.bytes (security_sizes (tree_in arena.old.bytes t.root) descriptor.now)) }
     ensures kept { OnOk result (length arena.old.bytes ≤ length arena.new.bytes) }
 {
     let cell = match carve_for(alloc, arena, securities, descriptor) {

@@ -11,6 +11,7 @@ ghost use Rattle.reg_heap.specs.Edits.{edited, descriptor_of, with_descriptor, w
 ghost use Rattle.reg_heap.specs.Edits.{child_path, may_not_go, missing, last_there, is_within, is_under, without_tree, emptied, any_kept_within, any_kept_under};
 ghost use Rattle.reg_arena.specs.Arena.{IsSound, heap_of};
 ghost use Rattle.reg_arena.specs.declared.TheConstants.{CARVE_LIMIT};
+ghost use Rattle.reg_arena.specs.EachCell.{GrowsFor};
 ghost use Rattle.reg_arena.specs.NewBin.{IsBinSize};
 ghost use Rattle.reg_arena.specs.NewCells.{cell_size as cell_size_of, total_of};
 ghost use Rattle.reg_values.specs.ValueLists.{Makes, Tells};
@@ -341,8 +342,8 @@ impl Tree {
     /// The cells that come are those of its list and its data, where they need some, each of its size.
     ///
     /// `Limit` where the name is new and there are 16,384 values; `Full` only where no free cell has room for all the cells that
-    /// it takes together and one bin more for them would pass the limit of 268,435,456 bytes; `Memory`. The bins grow by at
-    /// most 1,310,720 bytes.
+    /// it takes together and one bin more for them would pass the limit of 268,435,456 bytes; `Memory`. The bins grow only
+    /// where no free cell has room for all of these together, and by at most 1,310,720 bytes.
     pub fn set_value(
         &mut self,
         alloc: Global,
@@ -370,6 +371,8 @@ impl Tree {
         ensures others { IfErr result (λ fault. (fault ≡ TreeFault.Limit) ⊎ ((fault ≡ TreeFault.Full) ⊎ (fault ≡ TreeFault.Memory))) }
         ensures err { OnErr result (self.new ≡ self.old) }
         ensures grows { OnOk result (length self.new.bins.bytes ≤ length self.old.bins.bytes + GROWTH_BOUND) }
+        ensures growth { OnOk result (GrowsFor self.old.bins.bytes self.new.bins.bytes
+            (value_sizes (heap_of self.old.bins) node.offset name.now (length bytes.now))) }
         ensures kept { OnOk result (length self.old.bins.bytes ≤ length self.new.bins.bytes) }
     {
         values::set(
@@ -470,8 +473,8 @@ impl Tree {
     ///
     /// `Limit` where a key is missing and more than 32 are, or the path has more than 512 names from the root on, or the
     /// first missing key's parent has 60,000 subkeys; `Full` only where no free cell has room for all the cells that it takes
-    /// together and one bin more for them would pass the limit of 268,435,456 bytes; `Memory`. The bins grow by at most
-    /// 1,310,720 bytes.
+    /// together and one bin more for them would pass the limit of 268,435,456 bytes; `Memory`. The bins grow only where no free
+    /// cell has room for all of these together, and by at most 1,310,720 bytes.
     pub fn create(
         &mut self,
         alloc: Global,
@@ -488,6 +491,8 @@ impl Tree {
         ensures cells { (p : Path) → IsAt self.old p from →
             OnOk result ((place : Place) × BelongsThere self.old p (path_of path.now) place
             × Makes (heap_of self.old.bins) (heap_of self.new.bins) (create_sizes self.old p (path_of path.now) place
+            (option_map (λ descriptor. descriptor.now) given.entry))
+            × GrowsFor self.old.bins.bytes self.new.bins.bytes (create_sizes self.old p (path_of path.now) place
             (option_map (λ descriptor. descriptor.now) given.entry))) }
         ensures lengths { (p : Path) → IsAt self.old p from →
             OnOk result (ChangesLengths self.old self.new (last_there self.old.tree p (path_of path.now))
@@ -531,7 +536,8 @@ impl Tree {
     /// the last of them. After a fault the tree is as before.
     ///
     /// `Full` only where no free cell has room for all the cells that it takes together and one bin more for them would pass the
-    /// limit of 268,435,456 bytes; `Memory`. The bins grow by at most 1,310,720 bytes.
+    /// limit of 268,435,456 bytes; `Memory`. The bins grow only where no free cell has room for all of these together, and by at
+    /// most 1,310,720 bytes.
     pub fn create_at(
         &mut self,
         alloc: Global,
@@ -550,6 +556,8 @@ impl Tree {
         ensures cells { (from : Node) → (path : List ℕ) → IsWalkedTo self.old from path reached.entry → (p : Path) → IsAt self.old p from →
             OnOk result ((place : Place) × BelongsThere self.old p (path_of path) place
             × Makes (heap_of self.old.bins) (heap_of self.new.bins) (create_sizes self.old p (path_of path) place
+            (option_map (λ descriptor. descriptor.now) given.entry))
+            × GrowsFor self.old.bins.bytes self.new.bins.bytes (create_sizes self.old p (path_of path) place
             (option_map (λ descriptor. descriptor.now) given.entry))) }
         ensures lengths { (from : Node) → (path : List ℕ) → IsWalkedTo self.old from path reached.entry → (p : Path) → IsAt self.old p from →
             OnOk result (ChangesLengths self.old self.new (last_there self.old.tree p (path_of path))
@@ -580,8 +588,8 @@ impl Tree {
     /// a fault the tree is as before.
     ///
     /// The cell that comes is the security's, of its size, where no key has the descriptor yet. `Full` only where no free cell has
-    /// room for it and one bin more for it would pass the limit of 268,435,456 bytes; `Memory`. The bins grow by at most 1,310,720
-    /// bytes.
+    /// room for it and one bin more for it would pass the limit of 268,435,456 bytes; `Memory`. The bins grow only where no free cell
+    /// has room for it, and by at most 1,310,720 bytes.
     pub fn set_security(
         &mut self,
         alloc: Global,
@@ -600,6 +608,7 @@ impl Tree {
         ensures space { IfErr result (λ fault. fault ≡ ArenaFault.Full → LacksRoom self.old.bins (security_sizes self.old.tree descriptor.now)) }
         ensures err { OnErr result (self.new ≡ self.old) }
         ensures grows { OnOk result (length self.new.bins.bytes ≤ length self.old.bins.bytes + GROWTH_BOUND) }
+        ensures growth { OnOk result (GrowsFor self.old.bins.bytes self.new.bins.bytes (security_sizes self.old.tree descriptor.now)) }
         ensures kept { OnOk result (length self.old.bins.bytes ≤ length self.new.bins.bytes) }
     {
         security::set(

@@ -173,6 +173,7 @@ pub fn set(
         LacksRoom arena.old (value_sizes (heap_of arena.old) key name.now (length bytes.now))) }
     ensures err { OnErr result (arena.new ≡ arena.old) }
     ensures grows { OnOk result (length arena.new.bytes ≤ length arena.old.bytes + GROWTH_BOUND) }
+    ensures growth { OnOk result (GrowsFor arena.old.bytes arena.new.bytes (value_sizes (heap_of arena.old) key name.now (length bytes.now))) }
     ensures kept { OnOk result (length arena.old.bytes ≤ length arena.new.bytes) }
 {
     let place = index(arena, key, name);

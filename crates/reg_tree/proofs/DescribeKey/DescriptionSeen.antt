@@ -4,6 +4,7 @@ use Rattle.std.specs.Prelude.{Result, Ok, Err, OnOk, OnErr, IfErr}
 use Rattle.reg_heap.specs.Paths.{Path, Rec}
 use Rattle.reg_heap.specs.Edits.{edited}
 use Rattle.reg_arena.specs.Arena.{Bins, heap_of}
+use Rattle.reg_arena.specs.EachCell.{GrowsFor}
 use Rattle.reg_arena.specs.declared.ArenaFault.{ArenaFault}
 use Rattle.reg_arena.specs.declared.ArenaFault.TheVariants.{Full}
 use Rattle.reg_security.specs.Rings.{DescriptorCells}
@@ -54,6 +55,13 @@ module _ (bins : Bins) (root : ℕ) {table : DescriptorCells} (holds : TreeInvar
       IsThere now node → OnOk result (Makes (heap_of now.bins) (heap_of new) (security_sizes now.tree descriptor))
   described_cells descriptor ok some =
       subst (λ (k : Keys). OnOk result (Makes (heap_of k.bins) (heap_of new) (security_sizes k.tree descriptor))) view_is
+      (ok (there_at bins root holds now view_is node some) refl)
+
+  pub described_growth : (descriptor : List ℕ) →
+      ((t : Here) → t.table ≡ table → OnOk result (GrowsFor bins.bytes new.bytes (security_sizes (tree_in bins.bytes t.root) descriptor))) →
+      IsThere now node → OnOk result (GrowsFor now.bins.bytes new.bytes (security_sizes now.tree descriptor))
+  described_growth descriptor ok some =
+      subst (λ (k : Keys). OnOk result (GrowsFor k.bins.bytes new.bytes (security_sizes k.tree descriptor))) view_is
       (ok (there_at bins root holds now view_is node some) refl)
 
   pub described_space : (descriptor : List ℕ) →

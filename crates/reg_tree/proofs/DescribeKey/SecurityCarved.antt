@@ -1,4 +1,5 @@
--- A cell carved for a descriptor, if it takes one: the tree is as it was, and may be described; and what came when it was.
+-- A cell carved for a descriptor, if it takes one: the tree is as it was, and may be described; and what came when it was, and how the
+-- bins grew.
 use Rattle.std.proofs.Common.{◌≡◌, ℕ, zero, suc, ◌+◌, ◌<◌, Option, Some, None, IsSome, is_some, cond, List, [], ◌∷◌, length, refl, sym, ap, ◌∙◌, subst, arith}
 use Rattle.std.specs.Option.{option_map}
 use Rattle.std.proofs.lemmas.Bool.{false≢true}
@@ -7,6 +8,7 @@ use Rattle.reg_heap.specs.Edits.{edited, with_descriptor}
 use Rattle.reg_heap.specs.Heaps.{Heap, CellFrame, allocated}
 use Rattle.reg_heap.specs.Kinds.{times}
 use Rattle.reg_arena.specs.Arena.{Bins, heap_of}
+use Rattle.reg_arena.specs.EachCell.{GrowsFor}
 use Rattle.reg_arena.specs.NewCells.{cell_size}
 use Rattle.reg_records.specs.RecordCells.{held}
 use Rattle.reg_records.specs.KeySecurities.{KeySecurityRecord}
@@ -22,13 +24,14 @@ use Rattle.reg_values.proofs.ValueFreeing.FrameChains.{times-same}
 use Rattle.reg_index.specs.Subkeys.{KeepsCells, taken}
 use Rattle.reg_security.specs.Rings.{DescriptorCells, Finds, cell_of}
 use Rattle.reg_security.proofs.TableCells.{finds-same}
-use Rattle.reg_tree.specs.CellSizes.{security_sizes}
+use Rattle.reg_tree.specs.CellSizes.{planned_sizes, security_sizes}
 use Rattle.reg_tree.specs.KeyLengths.{lengths_of}
 use Rattle.reg_tree.specs.TreeKeys.{tree_in}
 use Rattle.reg_tree.specs.Internal.DescriptorChange.{IsCarvedFor, IsDescribable, IsDescribed, IsPlaced}
 use Rattle.reg_tree.specs.Internal.KeyNodeChanges.{LeavesOthers}
 use Rattle.reg_tree.specs.Internal.LengthChanges.{LengthsStay}
 use Rattle.reg_tree.specs.Internal.TreeInvariant.{HasShortClasses, IsHere, IsChanged}
+use Rattle.reg_tree.proofs.InsertKey.CreatePathMade.{growth-then}
 use Rattle.reg_tree.proofs.InsertKey.SpareCellsCarved.{calm, shape-spared, tree-spared, offsets-spared}
 use Rattle.reg_tree.proofs.Invariant.CellReadings.{key-exists, key-moved, is_some_of}
 use Rattle.reg_tree.proofs.Invariant.DescribedKeys.{described_sizes}
@@ -190,3 +193,13 @@ module _ (old mid : Bins) (before after : DescriptorCells) (descriptor : List �
       (let e = t.holds.shape.exact x in
       let n : ◌≡◌ {A = ℕ} (allocated h x) 0 = ap (λ (o : Option (List ℕ)). cond (is_some o) 1 0) (was-none h k x c.1) in
       omega (arith, e, n)))
+
+  -- ---- how the bins grew
+
+  pub grows : (cell : Option ℕ) → IsCarvedFor old mid before after descriptor cell → (new : Bins) → length new.bytes ≡ length mid.bytes →
+      GrowsFor old.bytes mid.bytes (planned_sizes (option_map (λ _. cell_size (20 + length descriptor)) cell)) →
+      GrowsFor old.bytes new.bytes (security_sizes (tree_in old.bytes t.root) descriptor)
+  grows None c new long g =
+      subst (GrowsFor old.bytes new.bytes) (sym (sizes-none c.1.1)) (growth-then old.bytes mid.bytes new.bytes [] long g)
+  grows (Some x) c new long g =
+      subst (GrowsFor old.bytes new.bytes) (sym (sizes-one c.0.1)) (growth-then old.bytes mid.bytes new.bytes (cell_size (20 + length descriptor) ∷ []) long g)

@@ -5,8 +5,8 @@ use Rattle.reg_names.specs.declared.TheConstants.{PATH_LIMIT}
 use Rattle.reg_names.specs.Names.{folded}
 use Rattle.reg_heap.specs.Paths.{Path}
 use Rattle.reg_heap.specs.Edits.{with_keys, missing, last_there}
-use Rattle.reg_heap.specs.Heaps.{Heap}
 use Rattle.reg_arena.specs.Arena.{Bins, heap_of}
+use Rattle.reg_arena.specs.EachCell.{GrowsFor}
 use Rattle.reg_values.specs.ValueLists.{Makes}
 use Rattle.reg_security.specs.Rings.{DescriptorCells}
 use Rattle.reg_index.specs.declared.Place.{Place}
@@ -37,6 +37,10 @@ pub on_ok : {A E P Q : Type 0} (r : Result A E) → (P → Q) → OnOk r P → O
 on_ok (Ok x) f h = f h
 on_ok (Err e) f h = h
 
+pub on_both : {A E P Q R : Type 0} (r : Result A E) → (P → Q → R) → OnOk r P → OnOk r Q → OnOk r R
+on_both (Ok x) f h g = f h g
+on_both (Err e) f h g = h
+
 pub if_full : {A E P Q : Type 0} (full : E) (r : Result A E) → (P → Q) → IfErr r (λ fault. fault ≡ full → P) → IfErr r (λ fault. fault ≡ full → Q)
 if_full full (Ok x) f h = h
 if_full full (Err e) f h = λ same. f (h same)
@@ -45,12 +49,15 @@ module _ (bins : Bins) (root : ℕ) {table : DescriptorCells} (holds : TreeInvar
   pub from_at : (node : Node) → IsThere now node → (t : IsHere bins.bytes node.offset) × (t.table ≡ table) × (node.depth ≡ length t.path)
   from_at node some = (here_at bins root holds now view_is node some.0 some.1, refl, some.1.depth)
 
-  -- the cells that come
-  pub cells_created : {A E : Type 0} (h : Heap) (result : Result A E) (p : Path) (names : List (List ℕ)) (given : Option (List ℕ)) →
-      OnOk result ((place : Place) × BelongsThere (seen_as bins root) p names place × Makes (heap_of bins) h (create_sizes (seen_as bins root) p names place given)) →
-      OnOk result ((place : Place) × BelongsThere now p names place × Makes (heap_of now.bins) h (create_sizes now p names place given))
-  cells_created h result p names given c =
-      subst (λ (k : Keys). OnOk result ((place : Place) × BelongsThere k p names place × Makes (heap_of k.bins) h (create_sizes k p names place given))) view_is c
+  -- the cells that come, and how the bins grew for them
+  pub cells_created : {A E : Type 0} (new : Bins) (result : Result A E) (p : Path) (names : List (List ℕ)) (given : Option (List ℕ)) →
+      OnOk result ((place : Place) × BelongsThere (seen_as bins root) p names place × Makes (heap_of bins) (heap_of new) (create_sizes (seen_as bins root) p names place given)
+      × GrowsFor bins.bytes new.bytes (create_sizes (seen_as bins root) p names place given)) →
+      OnOk result ((place : Place) × BelongsThere now p names place × Makes (heap_of now.bins) (heap_of new) (create_sizes now p names place given)
+      × GrowsFor now.bins.bytes new.bytes (create_sizes now p names place given))
+  cells_created new result p names given c =
+      subst (λ (k : Keys). OnOk result ((place : Place) × BelongsThere k p names place × Makes (heap_of k.bins) (heap_of new) (create_sizes k p names place given)
+      × GrowsFor k.bins.bytes new.bytes (create_sizes k p names place given))) view_is c
 
   -- no room for them
   pub room_created : {A E : Type 0} (full : E) (result : Result A E) (p : Path) (names : List (List ℕ)) (given : Option (List ℕ)) →

@@ -228,6 +228,7 @@ module _ (bins : Bins) (from : TreeNode) (t : IsHere bins.bytes from.offset) (pa
 
   pub no_cells : (given : Option (List ℕ)) → path_of rest ≡ [] →
       (place : Place) × BelongsThere seen t.path (path_of path) place × Makes heap heap (create_sizes seen t.path (path_of path) place given)
+      × GrowsFor bins.bytes bins.bytes (create_sizes seen t.path (path_of path) place given)
   no_cells given e = (
     first_place,
     belongs_there first_place (λ name others f. absurd (let n = ap length (sym e ∙ f) in omega (arith, n))),
@@ -236,6 +237,7 @@ module _ (bins : Bins) (from : TreeNode) (t : IsHere bins.bytes from.offset) (pa
         (created_sizes first_place ∙ ap (λ names. sizes_of (planned heap parent.offset first_place) (map own_sizes names)) e) ∙
         ap (λ names. given_sizes seen.tree names given) (reached.missing-are bins.bytes from t path parent rest r moment ∙ e)))
         (record { offsets = []; sizes_are = refl; once = λ z. omega arith; fresh = λ z l. absurd (omega (arith, l)); only = λ z none there. absurd (false≢true (sym (ap is_some none) ∙ there)) }),
+    inl refl,
   )
 
   pub created_cells : (mid new : List ℕ) (place : Place) (more last spare : List ℕ) → IsSpared bins.bytes mid parent.offset place (path_of rest) more last spare →

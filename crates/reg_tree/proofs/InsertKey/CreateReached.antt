@@ -5,8 +5,8 @@ use Rattle.reg_names.specs.Names.{path_of}
 use Rattle.reg_heap.specs.Paths.{Path, Tree}
 use Rattle.reg_heap.specs.Edits.{are_too_many, missing, last_there}
 use Rattle.reg_arena.specs.Arena.{Bins, heap_of}
+use Rattle.reg_arena.specs.EachCell.{GrowsFor}
 use Rattle.reg_arena.specs.declared.ArenaFault.{ArenaFault}
-use Rattle.reg_heap.specs.Heaps.{Heap}
 use Rattle.reg_index.specs.declared.Place.{Place}
 use Rattle.reg_security.specs.Rings.{DescriptorCells}
 use Rattle.reg_values.specs.ValueLists.{Makes}
@@ -22,7 +22,7 @@ use Rattle.reg_tree.specs.Internal.KeyCreation.{IsCreated, LeadsTo}
 use Rattle.reg_tree.specs.Internal.PathWalks.{Reaches}
 use Rattle.reg_tree.specs.Internal.ReachedPlaces.{BelongsFirst}
 use Rattle.reg_tree.proofs.Invariant.NodeLemmas.{seen_as, here_at, of_tree}
-use Rattle.reg_tree.proofs.InsertKey.CreateKeepsNodes.{if_ok, on_made, on_ok, if_full, cells_created, room_created, holds_after, keys_made, lengths_made, noted_made}
+use Rattle.reg_tree.proofs.InsertKey.CreateKeepsNodes.{if_ok, on_made, on_both, if_full, cells_created, room_created, holds_after, keys_made, lengths_made, noted_made}
 use Rattle.reg_tree.proofs.InsertKey.CreatePath.{new_some}
 use Rattle.reg_tree.proofs.InsertKey.CreatePathMade.{belongs_there}
 use Rattle.reg_tree.proofs.PathWalk.ReachedSeen.{named}
@@ -48,12 +48,14 @@ module _ (bins : Bins) (root : ℕ) {table : DescriptorCells} (holds : TreeInvar
       let l = leads_at from path r p at in
       belongs_there bins from l.here path reached.node reached.missing.now l.reaches 0 reached.place (place_at from path r)
 
-  -- the cells that come where it belongs, and no room for them
-  pub cells_reached : {A E : Type 0} (h : Heap) (result : Result A E) (given : Option (List ℕ)) (from : Node) (path : List ℕ) → IsWalkedTo now from path reached → (p : Path) → IsAt now p from →
-      OnOk result (Makes (heap_of bins) h (create_sizes (seen_as bins root) p (path_of path) reached.place given)) →
-      OnOk result ((place : Place) × BelongsThere now p (path_of path) place × Makes (heap_of now.bins) h (create_sizes now p (path_of path) place given))
-  cells_reached h result given from path r p at c =
-      cells_created bins root holds now view_is h result p (path_of path) given (on_ok result (λ m. (reached.place, belongs_seen from path r p at, m)) c)
+  -- the cells that come where it belongs, how the bins grew for them, and no room for them
+  pub cells_reached : {A E : Type 0} (new : Bins) (result : Result A E) (given : Option (List ℕ)) (from : Node) (path : List ℕ) → IsWalkedTo now from path reached → (p : Path) → IsAt now p from →
+      OnOk result (Makes (heap_of bins) (heap_of new) (create_sizes (seen_as bins root) p (path_of path) reached.place given)) →
+      OnOk result (GrowsFor bins.bytes new.bytes (create_sizes (seen_as bins root) p (path_of path) reached.place given)) →
+      OnOk result ((place : Place) × BelongsThere now p (path_of path) place × Makes (heap_of now.bins) (heap_of new) (create_sizes now p (path_of path) place given)
+      × GrowsFor now.bins.bytes new.bytes (create_sizes now p (path_of path) place given))
+  cells_reached new result given from path r p at c g =
+      cells_created bins root holds now view_is new result p (path_of path) given (on_both result (λ m grown. (reached.place, belongs_seen from path r p at, m, grown)) c g)
 
   pub room_reached : {A E : Type 0} (full : E) (result : Result A E) (given : Option (List ℕ)) (from : Node) (path : List ℕ) → IsWalkedTo now from path reached → (p : Path) → IsAt now p from →
       IfErr result (λ fault. fault ≡ full → LacksRoom bins (create_sizes (seen_as bins root) p (path_of path) reached.place given)) →

@@ -55,6 +55,7 @@ returns-in-Ok-clause-cells c = λ t same d. (
   c.reach-reached.result.place,
   belongs_there c.args.arena.now c.args.from t c.args.path.now _ _ c.reach-reached.ensures.reaches c.args.moment _ c.reach-reached.ensures.place.belongs,
   c.in-Ok.ensures.cells c.args.from c.args.path.now (record { here = t; depth = d; reaches = c.reach-reached.ensures.reaches }) same,
+  c.in-Ok.ensures.growth c.args.from c.args.path.now (record { here = t; depth = d; reaches = c.reach-reached.ensures.reaches }) same,
 )
 
 pub returns-in-Ok-clause-limit : goal.returns-in-Ok-clause-limit

@@ -1,6 +1,6 @@
 use Rattle.std.proofs.Common.{sym, subst}
 use Rattle.reg_tree.specs.CellSizes.{LacksRoom}
-use Rattle.reg_tree.proofs.DescribeKey.SecurityCarved.{describable, is-changed, lengths-stay, makes, sizes-one}
+use Rattle.reg_tree.proofs.DescribeKey.SecurityCarved.{describable, grows, is-changed, lengths-stay, makes, sizes-one}
 use Rattle.reg_tree.proofs.security.set.Goals as goal
 
 pub returns-in-Err-clause-space : goal.returns-in-Err-clause-space
@@ -25,3 +25,7 @@ pub returns-clause-cells : goal.returns-clause-cells
 returns-clause-cells c = λ t same.
     makes _ c.carve_for.new.arena _ _ _ _ t same c.in-Ok.cell c.in-Ok.ensures.ok c.describe.new.arena _ _
     (c.describe.ensures.described (describable _ c.carve_for.new.arena _ _ _ _ t same c.in-Ok.cell c.in-Ok.ensures.ok))
+
+pub returns-clause-growth : goal.returns-clause-growth
+returns-clause-growth c = λ t same.
+    grows _ c.carve_for.new.arena _ _ _ _ t same c.in-Ok.cell c.in-Ok.ensures.ok c.describe.new.arena c.describe.ensures.long c.in-Ok.ensures.growth

@@ -1,7 +1,6 @@
 use Rattle.std.proofs.Common.{◌≡◌, ◌↔◌, true, Err, refl}
 use Rattle.reg_names.specs.Names.{path_of}
 use Rattle.reg_heap.specs.Paths.{Tree}
-use Rattle.reg_arena.specs.Arena.{heap_of}
 use Rattle.reg_heap.specs.Edits.{are_too_many}
 use Rattle.reg_tree.specs.declared.fault.TreeFault.TheVariants.{Limit, Full}
 use Rattle.reg_tree.proofs.Invariant.NodeLemmas.{here_at, of_tree}
@@ -27,7 +26,7 @@ returns-clause-limit c = λ p at.
 
 pub returns-clause-cells : goal.returns-clause-cells
 returns-clause-cells c = λ p at.
-    cells_created _ _ c.self.invariant _ c.self.view_is (heap_of c.create.new.arena) c.create.result p (path_of c.args.path.now) _
+    cells_created _ _ c.self.invariant _ c.self.view_is c.create.new.arena c.create.result p (path_of c.args.path.now) _
     (c.create.ensures.cells (here_at _ _ c.self.invariant _ c.self.view_is c.args.from p at) refl at.depth)
 
 pub returns-clause-same : goal.returns-clause-same

@@ -1,5 +1,4 @@
 use Rattle.std.proofs.Common.{refl}
-use Rattle.reg_arena.specs.Arena.{heap_of}
 use Rattle.reg_arena.specs.declared.ArenaFault.TheVariants.{Full}
 use Rattle.reg_tree.proofs.InsertKey.CreateReached.{leads_at, place_at, cells_reached, room_reached, leads_there, holds_made, keys_seen, lengths_seen, noted_seen}
 use Rattle.reg_tree.proofs.tree.Tree.create_at.Goals as goal
@@ -22,8 +21,9 @@ returns-clause-ok c = λ from path r p at.
 
 pub returns-clause-cells : goal.returns-clause-cells
 returns-clause-cells c = λ from path r p at.
-    cells_reached _ _ c.self.invariant _ c.self.view_is c.args.reached (heap_of c.create_at.new.arena) c.create_at.result _ from path r p at
+    cells_reached _ _ c.self.invariant _ c.self.view_is c.args.reached c.create_at.new.arena c.create_at.result _ from path r p at
     (c.create_at.ensures.cells from path (leads_at _ _ c.self.invariant _ c.self.view_is c.args.reached from path r p at) refl)
+    (c.create_at.ensures.growth from path (leads_at _ _ c.self.invariant _ c.self.view_is c.args.reached from path r p at) refl)
 
 pub returns-clause-lengths : goal.returns-clause-lengths
 returns-clause-lengths c =

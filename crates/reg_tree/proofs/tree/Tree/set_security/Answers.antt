@@ -1,5 +1,5 @@
 use Rattle.std.proofs.Common.{refl}
-use Rattle.reg_tree.proofs.DescribeKey.DescriptionSeen.{described_holds, described_tree, described_nodes, described_lengths, described_cells, described_space}
+use Rattle.reg_tree.proofs.DescribeKey.DescriptionSeen.{described_holds, described_tree, described_nodes, described_lengths, described_cells, described_growth, described_space}
 use Rattle.reg_tree.proofs.Invariant.NodeLemmas.{there_at}
 use Rattle.reg_tree.proofs.tree.Tree.set_security.Goals as goal
 
@@ -16,6 +16,10 @@ returns-clause-ok c = described_tree _ _ c.self.invariant _ c.self.view_is c.set
 pub returns-clause-cells : goal.returns-clause-cells
 returns-clause-cells c =
     described_cells _ _ c.self.invariant _ c.self.view_is c.set.new.arena c.set.new.securities c.set.result c.args.node c.args.descriptor.now c.set.ensures.cells c.requires.node
+
+pub returns-clause-growth : goal.returns-clause-growth
+returns-clause-growth c =
+    described_growth _ _ c.self.invariant _ c.self.view_is c.set.new.arena c.set.new.securities c.set.result c.args.node c.args.descriptor.now c.set.ensures.growth c.requires.node
 
 pub returns-clause-nodes : goal.returns-clause-nodes
 returns-clause-nodes c = described_nodes _ _ c.self.invariant _ c.self.view_is c.set.new.arena c.set.new.securities c.set.result c.args.node _ c.set.ensures.ok c.requires.node
