@@ -7,6 +7,7 @@ pub mod FailedCalls
 pub mod ProgressLemmas
 pub mod LinesThatFail
 pub mod ScriptHalts
+pub mod ScriptParts
 pub mod ScriptEnds
 pub mod KeptKeys
 pub mod OneText

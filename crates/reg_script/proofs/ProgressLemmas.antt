@@ -1,10 +1,10 @@
 -- A script's bytes, taken one after another.
-use Rattle.std.proofs.Common.{◌≡◌, ◌≢◌, ℕ, ◌+◌, ◌<◌, ◌≤◌, false, eqb, List, [], ◌∷◌, ◌++◌, length, get_or, take, Option, Some, None, refl, sym, subst, ap, ◌∙◌, arith, append_assoc}
+use Rattle.std.proofs.Common.{◌≡◌, ◌≢◌, ℕ, ◌+◌, ◌<◌, ◌≤◌, false, eqb, List, [], ◌∷◌, ◌++◌, length, take, Option, Some, None, refl, sym, subst, ap, ◌∙◌, arith, append_assoc}
 use Rattle.std.proofs.Common.{append-nil, inl, inr, Bool}
 use Rattle.std.specs.List.{AllByRecursion}
 use Rattle.std.specs.Io.KnownBytes.{Appends, Consumes, Keeps}
 use Rattle.std.proofs.lemmas.Bool.Decides.{nat_tests}
-use Rattle.std.proofs.lemmas.List.{take_more, length-append}
+use Rattle.std.proofs.lemmas.List.{length-append}
 use Rattle.reg_callbacks.specs.Asking.{Answers, asks}
 use Rattle.reg_callbacks.specs.Lists.{answers_of}
 use Rattle.reg_callbacks.specs.declared.callbacks.Callbacks.{Callbacks}
@@ -35,10 +35,6 @@ line_last b (d ∷ ds) h = rw (other b h.0, line_last d ds h.1) refl
 pub line_alone : (line : List ℕ) → 0 < length line → HasNoFeed line → lines_of line ≡ line ∷ []
 line_alone [] some h = absurd (omega (arith, some))
 line_alone (b ∷ bs) some h = line_last b bs h
-
-pub no_feed_push : (begun : List ℕ) (b : ℕ) → HasNoFeed begun → b ≢ 10 → HasNoFeed (begun ++ b ∷ [])
-no_feed_push [] b h k = (k, tt)
-no_feed_push (d ∷ ds) b h k = (h.0, no_feed_push ds b h.1 k)
 
 fed_then : (ls ms : List (List ℕ)) → with_feeds (ls ++ ms) ≡ with_feeds ls ++ with_feeds ms
 fed_then [] ms = refl
@@ -140,38 +136,6 @@ takes_then a b c xs ys h k = record {
   spares = λ strict. k.spares (h.strict ∙ strict) ∙ h.spares strict;
 }
 
--- a byte that is no LF joins the line that was begun
-pub takes_byte : (old : Position) (b : ℕ) (line : List ℕ) → IsSteady old → old.lines < most_lines → length old.begun < longest_line →
-    b ≢ 10 →
-    line ≡ old.begun ++ b ∷ [] → Takes old (b ∷ []) (record old { begun = line })
-takes_byte old b line steady fewer shorter plain e =
-    subst (λ (w : List ℕ). Takes old (b ∷ []) (record old { begun = w })) (sym e) (record {
-      steady = record {
-        no_feed = no_feed_push old.begun b steady.no_feed plain;
-        short = omega (arith, shorter, length-append old.begun (b ∷ []));
-        few = steady.few;
-        one_more = λ _. fewer;
-        count = steady.count;
-        few_failed = steady.few_failed;
-      };
-      ended = [];
-      splits = refl;
-      are_lines = tt;
-      counts = omega arith;
-      replies = [];
-      said = (refl, refl);
-      passes = record {
-        passed = [];
-        appends = appends_none old.sent;
-        gathers = append-nil old.gathered;
-        counts = omega
-            (arith, steady.count);
-      };
-      fails = omega arith;
-      strict = refl;
-      spares = λ strict. refl;
-    })
-
 -- an LF ends the line that was begun
 pub takes_ended : (old new : Position) (b : ℕ) → b ≡ 10 → IsSteady old → old.lines < most_lines → EndsLine old new → Takes old (b ∷ []) new
 takes_ended old new b is steady fewer h =
@@ -248,12 +212,6 @@ takes_settled a b bytes gathered sent written h settles =
       strict = h.strict;
       spares = h.spares;
     }
-
--- one more byte of some bytes
-pub takes_more : (a b c : Position) (bytes : List ℕ) (i : ℕ) → i < length bytes → Takes a (take i bytes) b →
-    Takes b (get_or bytes i 0 ∷ []) c → Takes a (take (i + 1) bytes) c
-takes_more a b c bytes i below h k =
-    subst (λ (w : List ℕ). Takes a w c) (sym (take_more bytes i 0 below)) (takes_then a b c (take i bytes) (get_or bytes i 0 ∷ []) h k)
 
 -- ---- what is read
 

@@ -59,19 +59,19 @@ none_whole : (old new : Position) (begin : ℕ) (callbacks : Callbacks) (hive : 
 none_whole old new begin callbacks hive script start e strict =
     subst (λ (n : ℕ). HaveFailed n (lines_of script) hive new.stand.hive) (e.spares strict ∙ start.failed) (failed_whole old new begin callbacks hive script start e)
 
--- what was written is the script's lines, the last of which left the moment so, and so many of which failed
+-- what was written are the replies to the script's lines, the last of which left the moment so, and so many of which failed
 abbrev pub IsWhole : ℕ → Callbacks → View → View → ℕ → ℕ → Option (List ℕ) → Option (List ℕ) → Option (List ℕ) → Option (List ℕ) → Type 0
 IsWhole begin callbacks hive new moment failed unread left before after =
     (script : List ℕ) × (text : List ℕ) × Consumes unread left script × LinesFrom begin callbacks hive script text new moment × Appends before after text ×
     AreWithin (lines_of script) × HaveFailed failed (lines_of script) hive new
 
--- what was written is the script's lines, the last of which left the moment so
+-- what was written are the replies to the script's lines, the last of which left the moment so
 abbrev pub IsRunTo : ℕ → Callbacks → View → View → ℕ → Option (List ℕ) → Option (List ℕ) → Option (List ℕ) → Option (List ℕ) → Type 0
 IsRunTo begin callbacks hive new moment unread left before after =
     (script : List ℕ) × (text : List ℕ) × Consumes unread left script × LinesFrom begin callbacks hive script text new moment × Appends before after text ×
     AreWithin (lines_of script)
 
--- what was written is the script's lines
+-- what was written are the replies to the script's lines
 abbrev pub IsRun : Callbacks → View → View → Option (List ℕ) → Option (List ℕ) → Option (List ℕ) → Option (List ℕ) → Type 0
 IsRun callbacks hive new unread left before after =
     (script : List ℕ) × (text : List ℕ) × Consumes unread left script × Lines callbacks hive script text new × Appends before after text ×

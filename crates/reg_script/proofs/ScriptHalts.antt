@@ -1,10 +1,10 @@
 -- A script that can't go on.
-use Rattle.std.proofs.Common.{◌≡◌, ◌≢◌, ℕ, ◌+◌, ◌*◌, ◌<◌, ◌≤◌, List, [], ◌∷◌, ◌++◌, length, get_or, take, drop, Option, refl, sym, subst, ap, ◌∙◌, arith, append_assoc, append-nil, inl, inr, min, true}
+use Rattle.std.proofs.Common.{◌≡◌, ◌≢◌, ℕ, ◌+◌, ◌*◌, ◌<◌, ◌≤◌, List, [], ◌∷◌, ◌++◌, length, take, Option, refl, sym, subst, ap, ◌∙◌, arith, append_assoc, append-nil, inl, inr, min, true}
 use Rattle.std.specs.List.{AllByRecursion}
 use Rattle.std.specs.Io.KnownBytes.{Appends, Consumes, IsAtEnd}
 use Rattle.std.proofs.Math.Seq.{take-append-add}
-use Rattle.std.proofs.lemmas.List.{take_more, take-append-drop, length-append, length-take}
-use Rattle.reg_script.specs.declared.engine.TheConstants.{LINES_LIMIT, LINE_LIMIT, READS_LIMIT}
+use Rattle.std.proofs.lemmas.List.{length-append, length-take}
+use Rattle.reg_script.specs.declared.engine.TheConstants.{LINES_LIMIT, READS_LIMIT}
 use Rattle.reg_model.specs.Callbacks.{Callbacks}
 use Rattle.reg_calls.specs.Views.{View}
 use Rattle.reg_script.specs.declared.engine.ScriptFault.{ScriptFault}
@@ -19,7 +19,7 @@ use Rattle.reg_script.specs.Internal.Outputs.{IsCut}
 use Rattle.reg_script.specs.Stops.{longest_line, most_lines, HasNoFeed, AreWithin, IsTooLong, PassesBound, IsTaken, EndsWithFeed, IsLeft}
 use Rattle.reg_script.specs.Stops.{AreWritten}
 use Rattle.reg_script.specs.Internal.Progress.{Position, IsSteady, with_feeds, IsLine, Passes, Takes, IsIdle, Place, among, past, IsEnded, IsLineFault, IsFault, Halts, HaltsAtEnd}
-use Rattle.reg_script.proofs.ProgressLemmas.{lines_fed, lines_short, no_feed_push, takes_none, takes_then}
+use Rattle.reg_script.proofs.ProgressLemmas.{lines_fed, lines_short, takes_none, takes_then}
 use Rattle.reg_script.proofs.ProgressLemmas.{appends_then}
 
 -- ---- more bytes behind those that were not taken
@@ -100,28 +100,9 @@ pub halts_at : (place : Place) (old new : Position) (bytes : List ℕ) (fault : 
 halts_at place old new bytes fault now h same faults =
     record { mid = now; front = bytes; back = []; splits = sym (append-nil bytes); takes = h; hive = same; faults = faults }
 
--- at one of some bytes
-pub halts_in : (a b new : Position) (bytes : List ℕ) (i : ℕ) (fault : StrictFault) → i < length bytes → Takes a (take i bytes) b →
-    Halts among b (get_or bytes i 0 ∷ []) new fault → Halts among a bytes new fault
-halts_in a b new bytes i fault below h k =
-    let front = halts_after among a b new (take i bytes) (get_or bytes i 0 ∷ []) fault h k in
-    let upto = subst (λ (w : List ℕ). Halts among a w new fault) (sym (take_more bytes i 0 below)) front in
-    subst (λ (w : List ℕ). Halts among a w new fault) (take-append-drop (i + 1) bytes)
-    (halts_before a new (take (i + 1) bytes) (drop (i + 1) bytes) fault upto)
-
--- a line too many, or a byte too many in a line
+-- a line too many
 pub too_many_lines : (lines : ℕ) (begun : List ℕ) (b : ℕ) → lines ≤ most_lines → most_lines ≤ lines → PassesBound lines (begun ++ b ∷ [])
 too_many_lines lines begun b few many = inl (omega (arith, few, many), omega (arith, length-append begun (b ∷ [])))
-
-pub line_too_long : (lines : ℕ) (begun : List ℕ) (b : ℕ) → HasNoFeed begun → b ≢ 10 → longest_line ≤ length begun →
-    PassesBound lines (begun ++ b ∷ [])
-line_too_long lines begun b no_feed plain long = inr (record {
-  line = begun ++ b ∷ [];
-  more = [];
-  bytes_are = sym (append-nil (begun ++ b ∷ []));
-  no_feed = no_feed_push begun b no_feed plain;
-  long = omega (arith, long, length-append begun (b ∷ []));
-})
 
 -- ---- how many bytes there are within the bounds
 
@@ -283,14 +264,6 @@ many_lines lines h = h
 pub few_lines : (lines : ℕ) → lines < LINES_LIMIT → lines < most_lines
 unfolding most_lines
 few_lines lines h = h
-
-pub long_line : (line : List ℕ) → LINE_LIMIT ≤ length line → longest_line ≤ length line
-unfolding longest_line
-long_line line h = h
-
-pub short_line : (line : List ℕ) → length line < LINE_LIMIT → length line < longest_line
-unfolding longest_line
-short_line line h = h
 
 -- no memory for what the line that was begun says, or it failed
 pub halts_line : (old new : Position) (b : ℕ) (fault : StrictFault) → b ≡ 10 → IsSteady old → old.lines < most_lines → IsLineFault old fault new →

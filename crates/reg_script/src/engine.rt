@@ -1,6 +1,7 @@
 //! The script: one call a line, one reply a line.
 
-ghost use Rattle.std.specs.Prelude.{◌≡◌, ◌<◌, ◌≤◌, ℕ, List, ◌∷◌, [], IfOk, OnOk, length, string_bytes, ◌+◌, OnErr, IfErr, Option, true};
+ghost use Rattle.std.specs.Prelude.{◌≡◌, ◌<◌, ◌≤◌, ℕ, List, ◌∷◌, ◌++◌, [], IfOk, OnOk, length, string_bytes, ◌+◌, OnErr, IfErr, Option, true};
+ghost use Rattle.std.specs.List.{position_or_len};
 ghost use Rattle.std.specs.Io.KnownBytes.{IsAtEnd, Appends, Consumes};
 ghost use Rattle.reg_calls.specs.HiveView.{view_of, callbacks_of, asks_of};
 ghost use Rattle.reg_script.specs.LineWords.{lines_of};
@@ -10,7 +11,7 @@ ghost use Rattle.reg_script.specs.Lines.{IsSaid, Lines, LinesTo, LinesFrom};
 ghost use Rattle.reg_script.specs.Stops.{fault_number, HasNoFeed, AreWithin, Stops, StopsFrom};
 ghost use Rattle.reg_script.specs.FailedLines.{HaveFailed, StopsStrictly};
 ghost use Rattle.reg_script.specs.Internal.Progress.{IsSteady, Adds, IsUnchanged, Takes, Halts, HaltsAtEnd, Ends, among, past, position_of, stand_of};
-ghost use Rattle.reg_script.specs.Internal.Progress.{IsAnswered, KeepsLine, EndsLine, IsLineFault, EndsLast};
+ghost use Rattle.reg_script.specs.Internal.Progress.{is_feed, JoinsWithin, IsPartFault, IsAnswered, KeepsLine, EndsLine, IsLineFault, EndsLast};
 ghost use Rattle.reg_script.specs.Internal.StrictEnds.{StopsBy};
 
 use crate::failed::{FailedLine, Ran, StrictFault, Went, went_with};
@@ -94,6 +95,16 @@ impl ScriptFault {
     }
 }
 
+/// The place of the first LF, or behind the last byte where there is none.
+fn first_feed(bytes: &[u8]) -> usize
+    ensures { result ≡ position_or_len is_feed bytes.now }
+{
+    bytes
+        .iter()
+        .position(|byte| *byte == b'\n')
+        .unwrap_or(bytes.len())
+}
+
 /// A script under way.
 #[derive(Drop)]
 struct Script {
@@ -112,38 +123,52 @@ struct Script {
 }
 
 impl Script {
-    /// Takes the next byte of the script.
-    fn take_byte<W: Write, C: Callback>(
+    /// Takes bytes of which none is an LF: they join the line that was begun. After a fault that is as before.
+    #[tactic(auto, unfolding(crate::specs::Stops::longest_line, crate::specs::Stops::most_lines))]
+    fn take_part(&mut self, part: &[u8]) -> Result<(), ScriptFault>
+        ensures same { self.new ≡ record self.old { line = self.new.line } }
+        ensures ok { OnOk result (self.new.line.items ≡ self.old.line.items ++ part.now) }
+        ensures within { OnOk result (JoinsWithin self.old.lines self.old.line.items part.now) }
+        ensures err { IfErr result (λ fault. IsPartFault self.old.lines self.old.line.items part.now fault) }
+    {
+        if part.is_empty() {
+            return Ok(());
+        }
+        if LINES_LIMIT <= self.lines {
+            return Err(ScriptFault::TooLong);
+        }
+        if part.len() > LINE_LIMIT.saturating_sub(self.line.len()) {
+            return Err(ScriptFault::TooLong);
+        }
+        match self.line.extend_from_slice(part) {
+            Ok(()) => Ok(()),
+            Err(_) => Err(ScriptFault::Memory),
+        }
+    }
+
+    /// Takes an LF: it ends the line that was begun, which is answered.
+    fn take_feed<W: Write, C: Callback>(
         &mut self,
         hive: &mut Hive<C>,
         writer: &mut W,
-        byte: u8,
     ) -> Result<(), StrictFault>
         ensures callbacks { callbacks_of hive.new ≡ callbacks_of hive.old }
         ensures ok { OnOk result (IsSteady (position_of C.answers self.old hive.old (W.contents writer.old)) →
-            Takes (position_of C.answers self.old hive.old (W.contents writer.old)) (byte ∷ [])
+            Takes (position_of C.answers self.old hive.old (W.contents writer.old)) (10 ∷ [])
             (position_of C.answers self.new hive.new (W.contents writer.new))) }
         ensures err { IfErr result (λ fault. IsSteady (position_of C.answers self.old hive.old (W.contents writer.old)) →
-            Halts among (position_of C.answers self.old hive.old (W.contents writer.old)) (byte ∷ [])
+            Halts among (position_of C.answers self.old hive.old (W.contents writer.old)) (10 ∷ [])
             (position_of C.answers self.new hive.new (W.contents writer.new)) fault) }
     {
         if self.lines >= LINES_LIMIT {
             return Err(StrictFault::Script(ScriptFault::TooLong));
         }
-        if byte == b'\n' {
-            self.end_line(hive)?;
-            settle(&mut self.output, writer)?;
-            return Ok(());
-        }
-        if self.line.len() >= LINE_LIMIT {
-            return Err(StrictFault::Script(ScriptFault::TooLong));
-        }
-        match self.line.push(byte) {
-            Ok(()) => Ok(()),
-            Err(_) => Err(StrictFault::Script(ScriptFault::Memory)),
-        }
+        self.end_line(hive)?;
+        settle(&mut self.output, writer)?;
+        Ok(())
     }
 
+    /// Takes bytes of the script, line by line.
     fn take_bytes<W: Write, C: Callback>(
         &mut self,
         hive: &mut Hive<C>,
@@ -158,9 +183,15 @@ impl Script {
             Halts among (position_of C.answers self.old hive.old (W.contents writer.old)) bytes.now
             (position_of C.answers self.new hive.new (W.contents writer.new)) fault) }
     {
-        for byte in bytes {
-            self.take_byte(hive, writer, *byte)?;
+        let mut rest = bytes;
+        let mut place = first_feed(rest);
+        while place < rest.len() {
+            self.take_part(&rest[..place])?;
+            self.take_feed(hive, writer)?;
+            rest = &rest[place + 1..];
+            place = first_feed(rest);
         }
+        self.take_part(rest)?;
         Ok(())
     }
 

@@ -7,6 +7,7 @@ use Rattle.reg_calls.specs.Views.{View}
 use Rattle.reg_calls.specs.HiveView.{view_of, asks_of}
 use Rattle.reg_calls.specs.declared.hive.Hive.{Hive}
 use Rattle.reg_script.specs.declared.engine.Script.{Script}
+use Rattle.reg_script.specs.declared.engine.ScriptFault.{ScriptFault}
 use Rattle.reg_script.specs.declared.engine.ScriptFault.TheVariants.{Read, Write, TooLong, Memory}
 use Rattle.reg_script.specs.declared.failed.Went.{Went}
 use Rattle.reg_script.specs.declared.failed.Went.TheVariants.{Well, Wrong}
@@ -19,6 +20,10 @@ use Rattle.reg_script.specs.Lines.{Stand, IsSaid, AreSaid}
 use Rattle.reg_script.specs.FailedLines.{wants_entry, one_if, wanting, Fails}
 use Rattle.reg_script.specs.Internal.Outputs.{IsCut}
 use Rattle.reg_script.specs.Stops.{counted, longest_line, most_lines, HasNoFeed, PassesBound}
+
+-- a byte is an LF
+abbrev pub is_feed : ℕ → Bool
+is_feed byte = byte == 10
 
 -- a position in a script: where it stands, how many lines have ended, the bytes of the line that hasn't, the replies that were
 -- gathered, what the writer holds, the count of what it took, how many lines failed, and whether the script stops at such a line
@@ -87,6 +92,15 @@ pub record Takes (old : Position) (bytes : List ℕ) (new : Position) : Type 0 w
   pub fails : new.failed + length new.stand.hive.journal ≡ old.failed + (wanting ended + length old.stand.hive.journal)
   pub strict : new.strict ≡ old.strict
   pub spares : old.strict ≡ true → new.failed ≡ old.failed
+
+-- bytes join the line that was begun, within the bounds
+abbrev pub JoinsWithin : ℕ → List ℕ → List ℕ → Type 0
+JoinsWithin lines begun part = (part ≡ []) ⊎ ((lines < most_lines) × (length begun + length part ≤ longest_line))
+
+-- why they don't: a line too many, or one too long; or memory lacks
+abbrev pub IsPartFault : ℕ → List ℕ → List ℕ → ScriptFault → Type 0
+IsPartFault lines begun part fault = (fault ≡ Memory)
+    ⊎ ((fault ≡ TooLong) × (0 < length part) × ((most_lines ≤ lines) ⊎ (longest_line < length begun + length part)))
 
 -- nothing was gathered or sent
 pub record IsIdle (old new : Position) : Type 0 where
