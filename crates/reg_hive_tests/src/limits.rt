@@ -1,11 +1,9 @@
 //! What is refused, and that a refusal leaves the hive as it was.
-use crate::support::{
-    ALL, Action, Question, assert_same, do_all, new_hive, set, status_and_report,
-};
+use crate::support::{ALL, Action, Question, do_all, new_hive, set, status_and_report};
 use reg_calls::NewFault;
 use reg_fixtures::{PlainHive, Registry};
 use reg_model::{Call, Change, Step};
-use reg_test_support::assert_report;
+use reg_test_support::{assert_report, assert_same};
 use std::alloc::Global;
 use std::test::Fail;
 
@@ -58,7 +56,7 @@ fn set_in_another(alloc: Global) -> Result<u32, Fail> {
 
 #[test]
 fn another_hive(rt: HostRuntime) -> Result<(), Fail> {
-    assert_same(&rt, &set_in_another(rt.alloc())?, &6);
+    assert_same(&set_in_another(rt.alloc())?, &6)?;
     Ok(())
 }
 
@@ -71,9 +69,9 @@ fn fault_of(alloc: Global, root_name: &[u8], descriptor: &[u8]) -> Option<NewFau
 #[test]
 fn new_faults(rt: HostRuntime) -> Result<(), Fail> {
     let fault = fault_of(rt.alloc(), b"A", &[]);
-    assert_same(&rt, &fault, &Some(NewFault::Descriptor));
+    assert_same(&fault, &Some(NewFault::Descriptor))?;
     let fault = fault_of(rt.alloc(), b"", &[]);
-    assert_same(&rt, &fault, &Some(NewFault::Name));
+    assert_same(&fault, &Some(NewFault::Name))?;
     Ok(())
 }
 

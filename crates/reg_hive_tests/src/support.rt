@@ -1,19 +1,12 @@
-//! What the tests share: a comparison, what is done to a new hive, and what is told of it as text. Whoever owns a hive does nothing but
-//! hand it on, and who is lent one takes any [`Registry`]: a function is the longer to check the more it does with a hive.
+//! What the tests share: what is done to a new hive, and what is told of it as text. Whoever owns a hive does nothing but hand it on, and
+//! who is lent one takes any [`Registry`]: a function is the longer to check the more it does with a hive.
 use reg_fixtures::{PlainHive, Registry};
 use reg_model::{AnswerBody, Bytes, Change, Query};
 use std::alloc::Global;
-use std::fmt::Debug;
-use std::process::Abort;
 use std::test::Fail;
 
 /// Every right.
 pub const ALL: u32 = 983_103;
-
-/// Stops where a value isn't what was wanted.
-pub fn assert_same<T: PartialEq + Debug>(rt: &impl Abort, value: &T, wanted: &T) {
-    assert_eq!(rt; value, wanted);
-}
 
 /// What session 0 does to a hive, by handle 0 where it needs one.
 #[derive(Clone, Copy)]

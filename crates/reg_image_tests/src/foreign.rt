@@ -1,7 +1,7 @@
 //! Images as other programs write them, in every form that is read, and what they load to. The forms come from the format's tables.
-use crate::support::{assert_same, image_of, loaded_bytes, loaded_twice};
+use crate::support::{image_of, loaded_bytes, loaded_twice};
 use reg_fixtures::{drafted, script_of_keys, table_of_keys};
-use reg_test_support::assert_report;
+use reg_test_support::{assert_report, assert_same};
 use std::alloc::Global;
 use std::test::Fail;
 
@@ -304,6 +304,6 @@ fn five_hundred_and_one_keys_of_one_list(rt: HostRuntime) -> Result<(), Fail> {
     let alloc = rt.alloc();
     let wanted = two_lists_report(alloc)?;
     assert_report(one_list_report(alloc), wanted.as_str())?;
-    assert_same(&rt, &wanted.as_str().lines().count(), &504);
+    assert_same(&wanted.as_str().lines().count(), &504)?;
     Ok(())
 }

@@ -1,4 +1,4 @@
-//! What the tests of images share: a comparison, the image of a hive on which a script was run, and what an image loads to, as text.
+//! What the tests of images share: the image of a hive on which a script was run, and what an image loads to, as text.
 //! Whoever owns a hive does nothing but hand it on, and who is lent one takes any that is [`Imaged`]: a function is the longer to check
 //! the more it does with a hive.
 use reg_callbacks::NoCallback;
@@ -7,15 +7,8 @@ use reg_image::{WriteFault, image, load, write_hive};
 use reg_script::{FRESH_DESCRIPTOR, run};
 use reg_tree_text::dump;
 use std::alloc::Global;
-use std::fmt::Debug;
 use std::io::Read;
-use std::process::Abort;
 use std::test::Fail;
-
-/// Stops where a value isn't what was wanted.
-pub fn assert_same<T: PartialEq + Debug>(rt: &impl Abort, value: &T, wanted: &T) {
-    assert_eq!(rt; value, wanted);
-}
 
 /// A hive of the root `ROOT` with that descriptor, made at moment 0.
 pub fn fresh_hive(alloc: Global) -> Result<PlainHive, Fail> {

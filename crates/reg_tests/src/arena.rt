@@ -3,10 +3,9 @@
 ghost use Rattle.std.specs.Prelude.{◌≡◌, ◌-◌, ◌≤◌, ◌%◌, replicate, true, Some, IsSome, IfOk};
 ghost use Rattle.reg_arena.specs.Arena.{heap_of};
 
-use crate::support::assert_same;
 use reg_arena::{Arena, ArenaFault, list_of};
 use reg_fixtures::is_among;
-use reg_test_support::assert_report;
+use reg_test_support::{assert_report, assert_same};
 use std::alloc::Global;
 use std::test::Fail;
 
@@ -301,9 +300,9 @@ fn list_for(size: u32) -> Option<usize> {
 
 // The lists 0 to 15 have one size each, and the others those from a least to a largest one.
 #[test]
-fn sizes_have_their_lists(rt: HostRuntime) -> Result<(), Fail> {
+fn sizes_have_their_lists() -> Result<(), Fail> {
     for list in 0..16u32 {
-        assert_same(&rt, &list_for(8 * list + 8), &Some(list as usize));
+        assert_same(&list_for(8 * list + 8), &Some(list as usize))?;
     }
     for (list, least, largest) in [
         (16, 136, 248),
@@ -315,8 +314,8 @@ fn sizes_have_their_lists(rt: HostRuntime) -> Result<(), Fail> {
         (22, 8_192, 16_376),
         (23, 16_384, 268_435_424),
     ] {
-        assert_same(&rt, &list_for(least), &Some(list));
-        assert_same(&rt, &list_for(largest), &Some(list));
+        assert_same(&list_for(least), &Some(list))?;
+        assert_same(&list_for(largest), &Some(list))?;
     }
     Ok(())
 }

@@ -3,10 +3,9 @@
 ghost use Rattle.std.specs.Prelude.{IfSome, ◌≤◌, ◌<◌, length};
 ghost use Rattle.reg_tree.specs.TreeKeys.{IsThere};
 
-use crate::support::assert_same;
 use reg_fixtures::deep;
 use reg_names::{check_path, check_value_name};
-use reg_test_support::assert_report;
+use reg_test_support::{assert_report, assert_same};
 use reg_tree::{Node, Tree, TreeFault};
 use std::alloc::Global;
 use std::test::Fail;
@@ -175,8 +174,8 @@ fn is_limited(alloc: Global, names: usize) -> Result<bool, Fail> {
 
 #[test]
 fn a_path_of_thirty_three_missing_names_is_too_long(rt: HostRuntime) -> Result<(), Fail> {
-    assert_same(&rt, &is_limited(rt.alloc(), 32)?, &false);
-    assert_same(&rt, &is_limited(rt.alloc(), 33)?, &true);
+    assert_same(&is_limited(rt.alloc(), 32)?, &false)?;
+    assert_same(&is_limited(rt.alloc(), 33)?, &true)?;
     Ok(())
 }
 

@@ -20,5 +20,3 @@ mod names;
 mod records;
 #[cfg(test)]
 mod rings;
-#[cfg(test)]
-mod support;

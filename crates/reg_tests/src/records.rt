@@ -2,14 +2,13 @@
 ghost use Rattle.std.specs.Prelude.{◌≤◌};
 
 use crate::arena::carved;
-use crate::support::assert_same;
 use reg_arena::Arena;
 use reg_names::check_value_name;
 use reg_records::{
-    KeyFields, ListEntry, ListForm, ListHead, RecordFault, SecurityFields, ValueFields, entry_at,
+    KeyFields, ListEntry, ListForm, ListHead, SecurityFields, ValueFields, entry_at,
     offset_at, put_list, read_list, read_nk, read_sk, read_vk,
 };
-use reg_test_support::assert_report;
+use reg_test_support::{assert_report, assert_same};
 use reg_values::laws::no_values_are_no_list;
 use reg_values::{ValuesList, plan_set};
 use std::alloc::Global;
@@ -107,37 +106,37 @@ const LEAF_ENTRIES: [ListEntry; 2] = [
 ];
 
 #[test]
-fn records_are_read(rt: HostRuntime) -> Result<(), RecordFault> {
+fn records_are_read() -> Result<(), Fail> {
     let root = read_nk(&ROOT)?;
-    assert_same(&rt, &root.fields, &ROOT_FIELDS);
-    assert_same(&rt, &root.name, &b"ROOT".as_slice());
+    assert_same(&root.fields, &ROOT_FIELDS)?;
+    assert_same(&root.name, &b"ROOT".as_slice())?;
     let mode = read_vk(&MODE)?;
-    assert_same(&rt, &mode.fields, &MODE_FIELDS);
-    assert_same(&rt, &mode.name, &b"Mode".as_slice());
+    assert_same(&mode.fields, &MODE_FIELDS)?;
+    assert_same(&mode.name, &b"Mode".as_slice())?;
     let security = read_sk(&SECURITY)?;
-    assert_same(&rt, &security.fields, &SECURITY_FIELDS);
-    assert_same(&rt, &security.descriptor, &&SECURITY[20..]);
+    assert_same(&security.fields, &SECURITY_FIELDS)?;
+    assert_same(&security.descriptor, &&SECURITY[20..])?;
     let offset = offset_at(&[0, 0, 0, 0, 0x78, 0x56, 0x34, 0x12], 1);
-    assert_same(&rt, &offset, &0x1234_5678);
+    assert_same(&offset, &0x1234_5678)?;
     Ok(())
 }
 
 #[test]
-fn a_list_is_read(rt: HostRuntime) -> Result<(), RecordFault> {
+fn a_list_is_read() -> Result<(), Fail> {
     let head = read_list(&LEAF)?;
     let wanted = ListHead {
         form: ListForm::HashLeaf,
         count: 2,
     };
-    assert_same(&rt, &head, &wanted);
+    assert_same(&head, &wanted)?;
     let second = entry_at(&LEAF, ListForm::HashLeaf, 1);
-    assert_same(&rt, &second, &LEAF_ENTRIES[1]);
+    assert_same(&second, &LEAF_ENTRIES[1])?;
     let second = entry_at(&LEAF, ListForm::IndexLeaf, 1);
     let wanted = ListEntry {
         offset: 115_481,
         hint: 0,
     };
-    assert_same(&rt, &second, &wanted);
+    assert_same(&second, &wanted)?;
     Ok(())
 }
 
@@ -157,7 +156,7 @@ fn list_put(alloc: Global) -> Result<Vec<u8>, Fail> {
 #[test]
 fn a_list_is_put(rt: HostRuntime) -> Result<(), Fail> {
     let content = list_put(rt.alloc())?;
-    assert_same(&rt, &content.as_slice(), &LEAF.as_slice());
+    assert_same(&content.as_slice(), &LEAF.as_slice())?;
     Ok(())
 }
 

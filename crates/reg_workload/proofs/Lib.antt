@@ -1,6 +1,6 @@
 mod RowsOfConstants
-pub mod ChanceLemmas
 pub mod KeyChainLemmas
 pub mod KeyStepLemmas
 pub mod LiveCellLemmas
+pub mod NumberLemmas
 pub mod OpenKeyLemmas

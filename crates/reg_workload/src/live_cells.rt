@@ -2,8 +2,7 @@
 ghost use Rattle.std.specs.Prelude.{◌≡◌, ◌+◌, ◌-◌, [], length, OnOk};
 ghost use Rattle.reg_workload.specs.LiveCells.{AreLive, FreesChosen};
 
-use rand_core::utils::NextWord;
-use rand_pcg::Pcg32;
+use crate::Chance;
 use reg_arena::{Arena, ArenaFault};
 use std::alloc::{AllocError, Global};
 
@@ -14,7 +13,7 @@ pub struct LiveCells {
     arena: Arena,
     offsets: Vec<u32>,
     chosen: Vec<u32>,
-    numbers: Pcg32,
+    chance: Chance,
     ghost live: { AreLive arena.bytes offsets.items chosen.items },
 }
 
@@ -27,7 +26,7 @@ impl LiveCells {
             arena: Arena::new(alloc),
             offsets: Vec::new(alloc),
             chosen: Vec::new(alloc),
-            numbers: Pcg32::new(42, 54),
+            chance: Chance::new(42),
         }
     }
 
@@ -85,7 +84,7 @@ impl LiveCells {
     fn carve_one(&mut self) -> Result<(), ArenaFault>
         ensures { OnOk result (length self.new.offsets.items ≡ length self.old.offsets.items + 1) }
     {
-        let size = 16 + self.numbers.next_word() % 31 * 8;
+        let size = 16 + self.chance.word() % 31 * 8;
         self.arena.carve(&[size], &mut self.offsets)
     }
 
@@ -99,7 +98,7 @@ impl LiveCells {
         if self.offsets.is_empty() {
             return Ok(());
         }
-        let index = self.numbers.next_word() as usize % self.offsets.len();
+        let index = self.chance.below(self.offsets.len());
         let cell = self.offsets.swap_remove(index);
         self.chosen.push(cell)?;
         Ok(())

@@ -1,6 +1,6 @@
 use Rattle.std.proofs.Common.{◌≡◌, ◌+◌, ℕ, length}
 use Rattle.reg_heap.specs.Kinds.{times}
-use Rattle.reg_workload.proofs.chance.take_at_random.Given as goal
+use Rattle.reg_workload.proofs.numbers.take_at_random.Given as goal
 
 abbrev pub invariant-loop-i : goal.invariant-loop-i
 invariant-loop-i l = record {

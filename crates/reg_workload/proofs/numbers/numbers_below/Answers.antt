@@ -1,6 +1,6 @@
 use Rattle.std.proofs.Common.{◌∙◌, ap, ◌++◌, ◌∷◌, [], List, ℕ}
-use Rattle.reg_workload.proofs.ChanceLemmas.{one_more}
-use Rattle.reg_workload.proofs.chance.numbers_below.Goals as goal
+use Rattle.reg_workload.proofs.NumberLemmas.{one_more}
+use Rattle.reg_workload.proofs.numbers.numbers_below.Goals as goal
 
 pub loop-number-preserved : goal.loop-number-preserved
 loop-number-preserved c =
