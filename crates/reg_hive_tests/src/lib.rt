@@ -13,6 +13,8 @@ mod limits;
 #[cfg(test)]
 mod many_keys;
 #[cfg(test)]
+mod questions;
+#[cfg(test)]
 mod random_keys;
 #[cfg(test)]
 mod securities;

@@ -4,12 +4,13 @@ use crate::many_keys::{delete, make_closed, name_at};
 use crate::support::{ALL, Action, do_all, new_hive};
 use reg_fixtures::{PlainHive, Registry, SubkeyLists, allocated, subkeys};
 use reg_test_support::assert_report;
+use reg_workload::Chance;
 use std::alloc::Global;
 use std::collections::BTreeMap;
 use std::test::Fail;
 
 /// How many names there are.
-const NAMES: u32 = 2_000;
+const NAMES: usize = 2_000;
 
 /// How many calls there are in a batch.
 const BATCH: u32 = 1_500;
@@ -29,7 +30,7 @@ struct RandomKeys<H> {
     alloc: Global,
     hive: H,
     names: BTreeMap<String, String>,
-    chance: u64,
+    chance: Chance,
 }
 
 /// Whether each list has a key and none more than 500, and several lists an index root.
@@ -48,26 +49,17 @@ impl<H: Registry> RandomKeys<H> {
             alloc,
             hive: new_hive(alloc, 20)?,
             names: BTreeMap::new(alloc),
-            chance: 1,
+            chance: Chance::new(1),
         };
         let actions = [Action::Open(ALL), Action::Create(b"Keys", None)];
         let _status = do_all(alloc, &mut keys.hive, &actions)?;
         Ok(keys)
     }
 
-    /// A number below a bound that looks like chance, by Knuth's linear congruence of 64 bits.
-    fn number_below(&mut self, bound: u32) -> u32 {
-        self.chance = self
-            .chance
-            .wrapping_mul(6_364_136_223_846_793_005)
-            .wrapping_add(1_442_695_040_888_963_407);
-        ((self.chance >> 33) as u32).checked_rem(bound).unwrap_or(0)
-    }
-
     /// A spelling of the name of a number.
-    fn spelling(&mut self, number: u32) -> Result<String, Fail> {
+    fn spelling(&mut self, number: usize) -> Result<String, Fail> {
         let alloc = self.alloc;
-        match self.number_below(3) {
+        match self.chance.below(3) {
             0 => Ok(format!(in alloc; "Key{number}")?),
             1 => Ok(format!(in alloc; "KEY{number}")?),
             _ => Ok(format!(in alloc; "key{number}")?),
@@ -75,7 +67,7 @@ impl<H: Registry> RandomKeys<H> {
     }
 
     /// Makes the key of a number, which is new where the map hasn't its name.
-    fn make(&mut self, number: u32) -> Result<(), Fail> {
+    fn make(&mut self, number: usize) -> Result<(), Fail> {
         let spelling = self.spelling(number)?;
         let name = format!(in self.alloc; "KEY{number}")?;
         let is_there = self.names.contains_key(name.as_str());
@@ -91,7 +83,7 @@ impl<H: Registry> RandomKeys<H> {
     }
 
     /// Deletes the key of a number, which is there where the map has its name.
-    fn delete(&mut self, number: u32) -> Result<(), Fail> {
+    fn delete(&mut self, number: usize) -> Result<(), Fail> {
         let spelling = self.spelling(number)?;
         let name = format!(in self.alloc; "KEY{number}")?;
         let status = delete(self.alloc, &mut self.hive, ABOVE, spelling.as_bytes())?;
@@ -103,10 +95,10 @@ impl<H: Registry> RandomKeys<H> {
     }
 
     /// Makes and deletes keys at random: of eight calls so many make one.
-    fn run_batch(&mut self, making: u32) -> Result<(), Fail> {
+    fn run_batch(&mut self, making: usize) -> Result<(), Fail> {
         for _call in 0..BATCH {
-            let number = self.number_below(NAMES);
-            if self.number_below(8) < making {
+            let number = self.chance.below(NAMES);
+            if self.chance.below(8) < making {
                 self.make(number)?;
             } else {
                 self.delete(number)?;
@@ -135,7 +127,7 @@ impl<H: Registry> RandomKeys<H> {
     /// What the hive tells of the key's subkeys one after the other, each with a space behind it, up to the status behind the last.
     fn report(&self) -> Result<String, Fail> {
         let mut text = String::new(self.alloc);
-        for index in 0..=NAMES {
+        for index in 0..=NAMES as u32 {
             let name = name_at(self.alloc, &self.hive, ABOVE, index)?;
             write!(text, "{} ", name.as_str())?;
             if name.as_str() == "259" {

@@ -1,0 +1,315 @@
+//! Which calls callbacks are asked of: of one that a cause before them refuses none is asked, of each other call but a Close each is, once,
+//! from the highest altitude down to the first that refuses. A callback decides by what it is shown alone, and so no clause sees a
+//! question too many.
+//!
+//! The rows are those of the rules' tables: each call, where it is accepted and by each of its refusals. Four causes are left out: a full
+//! journal, bins without room and want of memory take more than a test has, and no call gives a key the mark 0x08.
+use reg_callbacks::Callback;
+use reg_calls::Hive;
+use reg_model::{Change, Query};
+use reg_script::run;
+use reg_test_support::assert_report;
+use std::alloc::Global;
+use std::cell::Cell;
+use std::rc::Rc;
+use std::test::Fail;
+
+/// A row has what it is about, a script from the fresh hive on, a call, its reply, and the digits of the callbacks that are asked of it, in
+/// their order, where all let it go on. `;` ends a line of the script, and `{N TEXT}` is the text N times, with `#` for how many times it
+/// came before.
+const ROWS: &str = "\
+OpenRoot |  | root 983103 | 0 handle 0 | 321
+OpenRoot, mask |  | root 1048576 | 87 | 0
+OpenKey | root 983103;create 0 =A 983103; | open 0 =A 983103 | 0 handle 2 | 321
+OpenKey, same key | root 983103; | open 0 = 983103 | 0 handle 1 | 321
+OpenKey, no handle | root 983103; | open 9 = 983103 | 6 | 0
+OpenKey, deleted key | root 983103;create 0 =K 983103;delkey 0 =K; | open 1 = 983103 | 1018 | 0
+OpenKey, path | root 983103; | open 0 =\\ 983103 | 87 | 0
+OpenKey, mask | root 983103; | open 0 = 1048576 | 87 | 0
+OpenKey, no key | root 983103; | open 0 =A 983103 | 2 | 321
+CreateKey | root 983103; | create 0 =A\\B 983103 x01 | 0 handle 1 disposition 1 | 321
+CreateKey, key there | root 983103;create 0 =A 983103; | create 0 =A 983103 | 0 handle 2 disposition 2 | 321
+CreateKey, no handle | root 983103; | create 9 =A 983103 | 6 | 0
+CreateKey, deleted key | root 983103;create 0 =K 983103;delkey 0 =K; | create 1 =A 983103 | 1018 | 0
+CreateKey, path | root 983103; | create 0 =A\\\\B 983103 | 87 | 0
+CreateKey, mask | root 983103; | create 0 =A 1048576 | 87 | 0
+CreateKey, no byte of a descriptor | root 983103; | create 0 =A 983103 x | 87 | 0
+CreateKey, 65,536 of them | root 983103; | create 0 =A 983103 x{65536 00} | 87 | 0
+CreateKey, 33 keys missing | root 983103; | create 0 =a{32 \\a} 983103 | 1450 | 0
+CreateKey, 513 names | root 983103;{512 create # =a 983103;} | create 512 =a 983103 | 1450 | 0
+SetValue | root 983103; | set 0 =v 4 x01 | 0 | 321
+SetValue, value there | root 983103;set 0 =v 4 x01; | set 0 =v 4 x02 | 0 | 321
+SetValue, no handle | root 983103; | set 9 =v 4 x01 | 6 | 0
+SetValue, deleted key | root 983103;create 0 =K 983103;delkey 0 =K; | set 1 =v 4 x01 | 1018 | 0
+SetValue, name | root 983103; | set 0 =%80 4 x01 | 87 | 0
+SetValue, data | root 983103; | set 0 =v 4 x{1048577 00} | 87 | 0
+SetValue, right | root 983101; | set 0 =v 4 x01 | 5 | 0
+DeleteValue | root 983103;set 0 =v 4 x01; | delvalue 0 =v | 0 | 321
+DeleteValue, no handle | root 983103; | delvalue 9 =v | 6 | 0
+DeleteValue, deleted key | root 983103;create 0 =K 983103;delkey 0 =K; | delvalue 1 =v | 1018 | 0
+DeleteValue, name | root 983103; | delvalue 0 =%80 | 87 | 0
+DeleteValue, right | root 983101; | delvalue 0 =v | 5 | 0
+DeleteValue, no value | root 983103; | delvalue 0 =v | 2 | 321
+DeleteKey | root 983103;create 0 =A 983103; | delkey 0 =A | 0 | 321
+DeleteKey, no handle | root 983103; | delkey 9 =A | 6 | 0
+DeleteKey, deleted key | root 983103;create 0 =K 983103;delkey 0 =K; | delkey 1 =A | 1018 | 0
+DeleteKey, path | root 983103; | delkey 0 =\\ | 87 | 0
+DeleteKey, empty path | root 983103; | delkey 0 = | 87 | 0
+DeleteKey, no key | root 983103; | delkey 0 =A | 2 | 321
+DeleteKey, subkeys | root 983103;create 0 =A\\B 983103; | delkey 0 =A | 5 | 321
+DeleteTree | root 983103;create 0 =A\\B 983103; | deltree 0 =A | 0 | 321
+DeleteTree, empty path | root 983103;create 0 =A\\B 983103;set 0 =v 4 x01; | deltree 0 = | 0 | 321
+DeleteTree, no handle | root 983103; | deltree 9 =A | 6 | 0
+DeleteTree, deleted key | root 983103;create 0 =K 983103;delkey 0 =K; | deltree 1 = | 1018 | 0
+DeleteTree, path | root 983103; | deltree 0 =\\ | 87 | 0
+DeleteTree, right | root 917567;create 0 =A 983103; | deltree 0 =A | 5 | 0
+DeleteTree, right for the empty path | root 983101; | deltree 0 = | 5 | 0
+DeleteTree, no key | root 983101; | deltree 0 =A | 2 | 321
+SetSecurity | root 983103; | setsec 0 x01 | 0 | 321
+SetSecurity, no handle | root 983103; | setsec 9 x01 | 6 | 0
+SetSecurity, deleted key | root 983103;create 0 =K 983103;delkey 0 =K; | setsec 1 x01 | 1018 | 0
+SetSecurity, no byte | root 983103; | setsec 0 x | 87 | 0
+SetSecurity, 65,536 bytes | root 983103; | setsec 0 x{65536 00} | 87 | 0
+SetSecurity, right | root 720959; | setsec 0 x01 | 5 | 0
+Notify | root 983103; | notify 0 4 0 | 0 watch 1 | 321
+Notify, no handle | root 983103; | notify 9 4 0 | 6 | 0
+Notify, deleted key | root 983103;create 0 =K 983103;delkey 0 =K; | notify 1 4 0 | 1018 | 0
+Notify, filter of no kind | root 983103; | notify 0 0 0 | 87 | 0
+Notify, filter of another bit | root 983103; | notify 0 20 0 | 87 | 0
+Notify, right | root 983087; | notify 0 4 0 | 5 | 0
+Close | root 983103; | close 0 | 0 | 0
+Close, no handle | root 983103; | close 9 | 6 | 0
+Close, deleted key | root 983103;create 0 =K 983103;delkey 0 =K; | close 1 | 0 | 0
+QueryValue | root 983103;set 0 =v 4 x01; | query 0 =v 1 | 0 type 4 size 1 x01 | 321
+QueryValue, no room given | root 983103;set 0 =v 4 x01; | query 0 =v - | 0 type 4 size 1 | 321
+QueryValue, no handle | root 983103; | query 9 =v 1 | 6 | 0
+QueryValue, deleted key | root 983103;create 0 =K 983103;delkey 0 =K; | query 1 =v 1 | 1018 | 0
+QueryValue, name | root 983103; | query 0 =%80 1 | 87 | 0
+QueryValue, right | root 983102; | query 0 =v 1 | 5 | 0
+QueryValue, no value | root 983103; | query 0 =v 1 | 2 | 321
+QueryValue, room | root 983103;set 0 =v 4 x01; | query 0 =v 0 | 234 type 4 size 1 | 321
+EnumKey | root 983103;create 0 =A 983103; | enumkey 0 0 1 | 0 =A time 0 | 321
+EnumKey, no handle | root 983103; | enumkey 9 0 1 | 6 | 0
+EnumKey, deleted key | root 983103;create 0 =K 983103;delkey 0 =K; | enumkey 1 0 1 | 1018 | 0
+EnumKey, right | root 983095; | enumkey 0 0 1 | 5 | 0
+EnumKey, index | root 983103; | enumkey 0 0 1 | 259 | 321
+EnumKey, room | root 983103;create 0 =A 983103; | enumkey 0 0 0 | 234 size 1 | 321
+EnumValue | root 983103;set 0 =v 4 x01; | enumvalue 0 0 1 1 | 0 =v type 4 size 1 x01 | 321
+EnumValue, no handle | root 983103; | enumvalue 9 0 1 1 | 6 | 0
+EnumValue, deleted key | root 983103;create 0 =K 983103;delkey 0 =K; | enumvalue 1 0 1 1 | 1018 | 0
+EnumValue, right | root 983102; | enumvalue 0 0 1 1 | 5 | 0
+EnumValue, index | root 983103; | enumvalue 0 0 1 1 | 259 | 321
+EnumValue, room for the name | root 983103;set 0 =v 4 x01; | enumvalue 0 0 0 1 | 234 type 4 size 1 | 321
+EnumValue, room for the data | root 983103;set 0 =v 4 x01; | enumvalue 0 0 1 0 | 234 type 4 size 1 | 321
+QueryInfo | root 983103; | info 0 | 0 subkeys 0 longest 0 values 0 longest 0 largest 0 security 1 time 0 | 321
+QueryInfo, no handle | root 983103; | info 9 | 6 | 0
+QueryInfo, deleted key | root 983103;create 0 =K 983103;delkey 0 =K; | info 1 | 1018 | 0
+QueryInfo, right | root 983102; | info 0 | 5 | 0
+GetSecurity | root 983103; | getsec 0 1 | 0 x07 | 321
+GetSecurity, no handle | root 983103; | getsec 9 1 | 6 | 0
+GetSecurity, deleted key | root 983103;create 0 =K 983103;delkey 0 =K; | getsec 1 1 | 1018 | 0
+GetSecurity, right | root 852031; | getsec 0 1 | 5 | 0
+GetSecurity, room | root 983103; | getsec 0 0 | 122 size 1 | 321";
+
+/// Those of calls that one count or another refuses, where there is as much as there may be.
+const CROWDED: &str = "\
+OpenRoot, handles | {16384 root 983103;} | root 983103 | 1450 | 0
+OpenKey, handles | {16384 root 983103;} | open 0 = 983103 | 1450 | 0
+CreateKey, handles | {16384 root 983103;} | create 0 =A 983103 | 1450 | 0
+CreateKey, 60,000 subkeys | root 983103;{15000 create 0 =a# 983103;}as 1;root 983103;{15000 create 15001 =b# 983103;}\
+as 2;root 983103;{15000 create 30002 =c# 983103;}as 3;root 983103;{15000 create 45003 =d# 983103;} | create 0 =e 983103 | 1450 | 0
+SetValue, values | root 983103;{16384 set 0 =# 4 x;} | set 0 =v 4 x01 | 1450 | 0
+Notify, notifications | root 983103;{4096 notify 0 4 0;} | notify 0 4 0 | 1450 | 0";
+
+/// A row's parts.
+#[derive(Clone, Copy)]
+struct Row<'a> {
+    name: &'a str,
+    setup: &'a str,
+    call: &'a str,
+    reply: &'a str,
+    asked: &'a str,
+}
+
+/// The status that the callback in the middle refuses by.
+const REFUSAL: u32 = 77;
+
+/// Answers a status to each call, and notes that it was asked: its digit behind those of the callbacks that were asked before.
+#[derive(Drop)]
+struct Noting {
+    digit: u32,
+    status: u32,
+    asked: Rc<Cell<u32>>,
+}
+
+impl Noting {
+    fn note(&self) {
+        let before = self.asked.get().wrapping_mul(10);
+        self.asked.set(before.wrapping_add(self.digit));
+    }
+}
+
+impl Callback for Noting {
+    ghost answers = { λ callback session moment path seen. callback.status };
+
+    fn pre_change(&self, _: u8, _: u64, _: &[u8], _: &Change) -> u32 {
+        self.note();
+        self.status
+    }
+
+    fn pre_query(&self, _: u8, _: &[u8], _: &Query) -> u32 {
+        self.note();
+        self.status
+    }
+}
+
+fn parse(row: &str) -> Option<Row<'_>> {
+    let mut parts = row.split(" | ");
+    Some(Row {
+        name: parts.next()?,
+        setup: parts.next()?,
+        call: parts.next()?,
+        reply: parts.next()?,
+        asked: parts.next()?,
+    })
+}
+
+/// Appends a text so many times: the number, a space and the text.
+fn push_repeated(alloc: Global, to: &mut String, repeated: &str) -> Result<(), Fail> {
+    let Some((count, text)) = repeated.split_once(' ') else {
+        return Err("a number is missing".into());
+    };
+    let is_numbered = text.contains('#');
+    for turn in 0..count.parse::<u32>()? {
+        if is_numbered {
+            let number = format!(in alloc; "{turn}")?;
+            to.push_str(text.replace(alloc, '#', number.as_str())?.as_str())?;
+        } else {
+            to.push_str(text)?;
+        }
+    }
+    Ok(())
+}
+
+/// The lines that a row's text stands for.
+fn lines_of(alloc: Global, text: &str) -> Result<String, Fail> {
+    let mut lines = String::new(alloc);
+    for piece in text.split('{') {
+        match piece.split_once('}') {
+            Some((repeated, rest)) => {
+                push_repeated(alloc, &mut lines, repeated)?;
+                lines.push_str(rest)?;
+            }
+            None => lines.push_str(piece)?,
+        }
+    }
+    Ok(lines.as_str().replace(alloc, ';', "\n")?)
+}
+
+/// What a hive replies to lines.
+fn replies(alloc: Global, hive: &mut Hive<Noting>, lines: &str) -> Result<String, Fail> {
+    let mut input = lines.as_bytes();
+    let mut output = Vec::new(alloc);
+    run(alloc, &mut input, &mut output, hive)?;
+    Ok(String::from_utf8(output)?)
+}
+
+/// Registers three callbacks, whose digits rise with their altitudes. The one in the middle answers this status, and the others 0.
+fn register(hive: &mut Hive<Noting>, status: u32, asked: &Rc<Cell<u32>>) -> Result<(), Fail> {
+    for (altitude, digit, status) in [(100, 1, 0), (300, 3, 0), (200, 2, status)] {
+        let callback = Noting {
+            digit,
+            status,
+            asked: asked.clone()?,
+        };
+        if hive.register(callback, altitude).is_err() {
+            return Err("not registered".into());
+        }
+    }
+    Ok(())
+}
+
+/// What a hive replies to a call after a script, and which callbacks were asked of the call.
+fn asked_in(
+    alloc: Global,
+    hive: &mut Hive<Noting>,
+    setup: &str,
+    call: &str,
+    status: u32,
+) -> Result<String, Fail> {
+    let asked = Rc::new(alloc, Cell::new(0))?;
+    let _made = replies(alloc, hive, setup)?;
+    register(hive, status, &asked)?;
+    let reply = replies(alloc, hive, call)?;
+    Ok(format!(in alloc; "{} | {}", reply.as_str().trim_end(), asked.get())?)
+}
+
+fn fresh_hive(alloc: Global) -> Result<Hive<Noting>, Fail> {
+    let hive = Hive::new(alloc, b"ROOT", &[7], 0)?;
+    Ok(hive)
+}
+
+/// What `asked_in` tells of a fresh hive.
+fn asked_of(alloc: Global, setup: &str, call: &str, status: u32) -> Result<String, Fail> {
+    let mut hive = fresh_hive(alloc)?;
+    asked_in(alloc, &mut hive, setup, call, status)
+}
+
+/// Whether a row's call is one of which callbacks are asked.
+fn is_asked(row: Row<'_>) -> bool {
+    row.asked != "0"
+}
+
+/// A row's reply and the callbacks that are asked, where the one in the middle refuses its call; and, where they are asked, the same where
+/// all let it go on.
+fn report_of(alloc: Global, row: Row<'_>) -> Result<String, Fail> {
+    let setup = lines_of(alloc, row.setup)?;
+    let call = lines_of(alloc, row.call)?;
+    let mut text = format!(in alloc; "{}: ", row.name)?;
+    let refused = asked_of(alloc, setup.as_str(), call.as_str(), REFUSAL)?;
+    text.push_str(refused.as_str())?;
+    if is_asked(row) {
+        let passed = asked_of(alloc, setup.as_str(), call.as_str(), 0)?;
+        write!(text, "; {}", passed.as_str())?;
+    }
+    Ok(text)
+}
+
+/// What is wanted of a row: a call of which the callbacks are asked is refused by the one in the middle, and then the lowest isn't asked.
+fn wanted_of(alloc: Global, row: Row<'_>) -> Result<String, Fail> {
+    let Row {
+        name,
+        reply,
+        asked,
+        ..
+    } = row;
+    if is_asked(row) {
+        return Ok(format!(in alloc; "{name}: {REFUSAL} | 32; {reply} | {asked}")?);
+    }
+    Ok(format!(in alloc; "{name}: {reply} | 0")?)
+}
+
+fn check(alloc: Global, row: &str) -> Result<(), Fail> {
+    let Some(row) = parse(row) else {
+        return Err("a part is missing".into());
+    };
+    let wanted = wanted_of(alloc, row)?;
+    assert_report(report_of(alloc, row), wanted.as_str())
+}
+
+fn check_all(alloc: Global, rows: &str) -> Result<(), Fail> {
+    for row in rows.split('\n') {
+        check(alloc, row)?;
+    }
+    Ok(())
+}
+
+#[test]
+fn callbacks_are_asked_in_their_place(rt: HostRuntime) -> Result<(), Fail> {
+    check_all(rt.alloc(), ROWS)
+}
+
+#[test]
+fn nobody_is_asked_where_a_count_refuses(rt: HostRuntime) -> Result<(), Fail> {
+    check_all(rt.alloc(), CROWDED)
+}
