@@ -4,8 +4,9 @@
 //! Its contracts are those of [`serve_stream`], which does what is asked of standard input (the status is 0 only where that was done,
 //! and 1 where a script's fault, a load fault, a failed write or want of memory ended it), and of [`tool`], which reads a command line
 //! before, and answers 2 for words that ask for nothing of the kind, and then nothing is touched. [`refuse_words`] tells these words'
-//! fault. [`perform`] and [`report_stop`] are the two halves of [`serve_stream`]. It stands on reg_words, which reads the words by
-//! `clap`, and on reg_script, reg_image, reg_tree_text and reg_calls. Its one type is [`Stop`], what ended a request early.
+//! fault. [`perform`] and [`report_stop`] are the two halves of [`serve_stream`], and [`say`] tells a line on the side. It stands on
+//! reg_words, which reads the words by `clap`, and on reg_script, reg_image, reg_tree_text and reg_calls. Its one type is [`Stop`], what
+//! ended a request early.
 //!
 //! `scripts` has what `run` does, `images` what `dump` and `check` do, and `reports` what is told on the side.
 #![tactic(auto)]
@@ -24,7 +25,7 @@ use crate::scripts::{run_script, run_to_image};
 pub use failure::Stop;
 use reg_text::Sink;
 use reg_words::{StreamRequest, read_stream_words};
-pub use reports::{refuse_words, report_stop};
+pub use reports::{refuse_words, report_stop, say};
 use std::alloc::Global;
 use std::io::{Read, Write};
 

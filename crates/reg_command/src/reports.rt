@@ -14,7 +14,7 @@ use reg_text::{Sink, write_counted};
 use std::alloc::{AllocError, Global};
 
 /// Tells a line. What a writer doesn't take is lost.
-fn say<E: Sink>(errors: &mut E, line: &[u8])
+pub fn say<E: Sink>(errors: &mut E, line: &[u8])
     ensures { IsSaid line.now (E.contents errors.old) (E.contents errors.new) (E.failures errors.old) (E.failures errors.new) }
 {
     let _ = write_counted(errors, line);

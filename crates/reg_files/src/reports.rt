@@ -2,19 +2,19 @@
 
 ghost use Rattle.std.specs.Prelude.{◌≡◌, ◌++◌, false, ◌&&◌, IfOk, MatchResult, codes, string_bytes, List, ℕ};
 ghost use Rattle.reg_text.specs.Texts.{line_feed};
-ghost use Rattle.reg_command.specs.Failures.{IsSaid};
 ghost use Rattle.reg_files.specs.Serving.{IsReported};
 ghost use Rattle.reg_files.specs.Internal.Cuts.{is_cut, is_diff_end_cut, is_save_end_cut};
 ghost use Rattle.reg_files.specs.Internal.Outcomes.{Settles};
 
 use crate::fault::{DiffEnd, Fault, SaveEnd};
+use reg_command::say;
 use reg_dotreg_reader::ReadFault;
 use reg_model::statuses::{
     ACCESS_DENIED, FILE_NOT_FOUND, INVALID_HANDLE, INVALID_PARAMETER, KEY_DELETED,
     NO_SYSTEM_RESOURCES, NOT_ENOUGH_MEMORY,
 };
 use reg_script::{FailedLine, ScriptFault};
-use reg_text::{Sink, write_counted, write_escaped};
+use reg_text::{Sink, write_escaped};
 use reg_tree_image::LoadFault;
 use reg_words::EditRequest;
 use std::alloc::{AllocError, Global};
@@ -115,13 +115,6 @@ fn fault_line(alloc: Global, file: &str, fault: &Fault) -> Result<String, AllocE
 {
     let what = fault_text(alloc, file, fault)?;
     format!(in alloc; "error {what}\n")
-}
-
-/// Writes a line of a report. What a writer doesn't take is lost.
-pub fn say<E: Sink>(errors: &mut E, line: &[u8])
-    ensures { IsSaid line.now (E.contents errors.old) (E.contents errors.new) (E.failures errors.old) (E.failures errors.new) }
-{
-    let _ = write_counted(errors, line);
 }
 
 /// Reports what ended a command on a file.

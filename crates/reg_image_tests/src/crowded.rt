@@ -35,7 +35,10 @@ fn push_key(
     for number in 0..values {
         let line = first.saturating_add(number.saturating_mul(2));
         let record = line.saturating_add(1);
-        write!(table, "\nfill 510 x6161616161616161\nvk 4080 @{line} 3 1 =v{number:05}")?;
+        write!(
+            table,
+            "\nfill 510 x6161616161616161\nvk 4080 @{line} 3 1 =v{number:05}"
+        )?;
         write!(list, " @{record}")?;
     }
     let line = first.saturating_add(values.saturating_mul(2));

@@ -5,8 +5,8 @@ use crate::arena::carved;
 use reg_arena::Arena;
 use reg_names::check_value_name;
 use reg_records::{
-    KeyFields, ListEntry, ListForm, ListHead, SecurityFields, ValueFields, entry_at,
-    offset_at, put_list, read_list, read_nk, read_sk, read_vk,
+    KeyFields, ListEntry, ListForm, ListHead, SecurityFields, ValueFields, entry_at, offset_at,
+    put_list, read_list, read_nk, read_sk, read_vk,
 };
 use reg_test_support::{assert_report, assert_same};
 use reg_values::laws::no_values_are_no_list;
