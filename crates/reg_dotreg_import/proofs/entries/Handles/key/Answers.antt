@@ -45,7 +45,7 @@ returns-clause-ok g c before s i =
     let m = subst (λ (o : Option ℕ). IsMade mid (view_of c.make.new.hive) now.moment (CreateKey now.root c.args.path ALL_RIGHTS None) o) c.in-Some.is
     c.in_ok-key.ensures.ok in
     key-applied before now mid s c.args.path (c.leave.ensures.rooted before s i) (view_of c.make.new.hive) c.in-Some.key c.in_ok-copy.copy
-    c.in_ok-copy.ensures m
+    c.in_ok-copy.ensures.ok m
 
 pub returns-clause-led : goal.returns-clause-led
 returns-clause-led g c before s i =
