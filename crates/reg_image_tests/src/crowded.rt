@@ -67,7 +67,10 @@ fn crowded_image(alloc: Global) -> Result<Vec<u8>, Fail> {
 
 /// The fault of the image after a change, as its number. The image is then as it was.
 fn fault_after(alloc: Global, image: &mut [u8], changes: &str) -> Result<String, Fail> {
-    let kept = image[4096..8192].to_vec(alloc)?;
+    let Some(page) = image.get(4096..8192) else {
+        return Err(Fail::new(format_args!("no bins")));
+    };
+    let kept = page.to_vec(alloc)?;
     put_changes(alloc, image, changes)?;
     let fault = loaded_bytes(alloc, image)?;
     put(image, 4096, &kept)?;
