@@ -1,6 +1,6 @@
 //! What is gathered on its way to a writer.
 
-ghost use Rattle.std.specs.Prelude.{◌≡◌, ◌+◌, ◌<◌, ◌≤◌, nat_le, [], length, OnOk, IfErr};
+ghost use Rattle.std.specs.Prelude.{◌≡◌, ◌+◌, ◌<◌, ◌≤◌, nat_le, [], length, IsOk, OnOk, OnErr, IfErr};
 ghost use Rattle.std.specs.Io.KnownBytes.{Appends};
 ghost use Rattle.reg_text.specs.Failures.{Stays, Fails};
 ghost use Rattle.reg_text.specs.Outputs.{IsSettled, IsCut, saturated};
@@ -61,6 +61,7 @@ impl<T: Gathered> Output<T> {
         ensures stays { OnOk result (Stays (W.failures writer.old) (W.failures writer.new)) }
         ensures err { IfErr result
             (λ e. IsCut (W.contents writer.old) (W.contents writer.new) (T.bytes self.old.gathered) self.old.written e.written) }
+        ensures kept { OnErr result (T.bytes self.new.gathered ≡ T.bytes self.old.gathered) }
         ensures fails { IfErr result (λ _. Fails (W.failures writer.old) (W.failures writer.new)) }
     {
         let bytes = self.gathered.as_bytes();
@@ -76,14 +77,16 @@ impl<T: Gathered> Output<T> {
         Ok(())
     }
 
-    /// Writes what was gathered, once it is enough.
+    /// Writes what was gathered, once it is enough: 65,536 bytes. Before that nothing is done. After a fault it is still there.
     pub fn settle<W: Sink>(&mut self, writer: &mut W) -> Result<(), OutputFault>
+        ensures waits { length (T.bytes self.old.gathered) < 65536 → IsOk result × (self.new ≡ self.old) × (writer.new ≡ writer.old) }
         ensures few { OnOk result (length (T.bytes self.new.gathered) < 65536) }
         ensures sent { OnOk result (IsSettled (W.contents writer.old) (W.contents writer.new) (T.bytes self.old.gathered)
             (T.bytes self.new.gathered) self.old.written self.new.written) }
         ensures stays { OnOk result (Stays (W.failures writer.old) (W.failures writer.new)) }
         ensures err { IfErr result
             (λ e. IsCut (W.contents writer.old) (W.contents writer.new) (T.bytes self.old.gathered) self.old.written e.written) }
+        ensures kept { OnErr result (T.bytes self.new.gathered ≡ T.bytes self.old.gathered) }
         ensures fails { IfErr result (λ _. Fails (W.failures writer.old) (W.failures writer.new)) }
     {
         if !self.is_enough() {

@@ -1,5 +1,5 @@
 //! What is told on its way to a writer.
-ghost use Rattle.std.specs.Prelude.{◌≡◌, [], OnOk};
+ghost use Rattle.std.specs.Prelude.{◌≡◌, ◌<◌, [], length, OnOk};
 ghost use Rattle.reg_text.specs.Texts.{escaped, digits_text};
 ghost use Rattle.reg_tree_text.specs.Internal.Gathered.{Tells, Puts};
 
@@ -9,11 +9,12 @@ use reg_text::{Gathered, Output, Sink, write_digits, write_escaped};
 /// How many bytes of a name or of data are told at a time.
 const PIECE: usize = 8_192;
 
-/// Writes what was gathered, once it is enough. A write that fails, or takes no byte, is a fault. `Memory` comes for a count of what was
+/// Writes what was gathered, once it is enough, so that less than 65,536 bytes are left. A write that fails, or takes no byte, is a fault. `Memory` comes for a count of what was
 /// written that 64 bits can't hold, before anything is written.
 pub fn settle<T: Gathered, W: Sink>(output: &mut Output<T>, writer: &mut W) -> Result<(), DumpFault>
-    ensures { Tells (T.bytes output.old.gathered) output.old.written (W.contents writer.old, W.failures writer.old)
+    ensures tells { Tells (T.bytes output.old.gathered) output.old.written (W.contents writer.old, W.failures writer.old)
         (T.bytes output.new.gathered) output.new.written (W.contents writer.new, W.failures writer.new) [] result }
+    ensures few { OnOk result (length (T.bytes output.new.gathered) < 65536) }
 {
     if !output.can_count() {
         return Err(DumpFault::Memory);

@@ -4,6 +4,7 @@ pub mod KeptSizes
 pub mod OffsetRemoved
 pub mod ValueRemoved
 pub mod ValueListGrown
+pub mod UnusedOffsets
 pub mod ValueAdded
 pub mod ValueReplaced
 pub mod ValueSetAgain

@@ -6,6 +6,7 @@ use Rattle.reg_heap.specs.Members.{value_named}
 use Rattle.reg_heap.specs.Heaps.{Heap, CellFrame, allocated}
 use Rattle.reg_heap.specs.Kinds.{Found, times, owned}
 use Rattle.reg_records.specs.RecordCells.{held}
+use Rattle.reg_records.specs.OffsetRows.{offset_in}
 use Rattle.reg_shape.specs.Readings.{Reading}
 use Rattle.reg_shape.specs.Nodes.{members_at}
 use Rattle.reg_shape.specs.Written.{AreWritten}
@@ -55,3 +56,7 @@ pub record Tells (member : Member) (name : List ℕ) (kind size : ℕ) : Type 0 
 -- each cell that was there, and still is, holds as many bytes as before
 abbrev pub KeepsSizes : Heap → Heap → Type 0
 KeepsSizes old new = (offset : ℕ) → IsSome (old offset) → IsSome (new offset) → length (held new offset) ≡ length (held old offset)
+
+-- the offsets of a list's cell behind so many are 0
+abbrev pub UnusedAreZero : Heap → ℕ → ℕ → Type 0
+UnusedAreZero heap count offset = (index : ℕ) → count ≤ index → offset_in (held heap offset) index ≡ 0

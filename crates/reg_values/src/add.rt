@@ -1,6 +1,6 @@
 //! A value more.
 
-ghost use Rattle.std.specs.Prelude.{◌≡◌, true, ◌≤◌, ◌<◌, ◌+◌, ◌*◌, ◌==◌, ◌++◌, ◌∷◌, [], if◌then◌else◌, ℕ, List, Some, None, Err, length, IfOk, OnOk, OnErr};
+ghost use Rattle.std.specs.Prelude.{◌≡◌, ◌≢◌, true, ◌≤◌, ◌<◌, ◌+◌, ◌*◌, ◌==◌, ◌++◌, ◌∷◌, [], if◌then◌else◌, ℕ, List, Some, None, Err, length, IfOk, OnOk, OnErr};
 ghost use Rattle.reg_names.specs.declared.TheConstants.{VALUE_NAME_LIMIT};
 ghost use Rattle.reg_names.specs.Names.{is_value_name};
 ghost use Rattle.reg_heap.specs.declared.limits.TheConstants.{DATA_LIMIT, GROWTH_BOUND, VALUES_LIMIT};
@@ -15,7 +15,7 @@ ghost use Rattle.reg_arena.specs.EachCell.{GrowsFor};
 ghost use Rattle.reg_arena.specs.NewBin.{PassesLimit};
 ghost use Rattle.reg_records.specs.RecordCells.{HasRoom};
 ghost use Rattle.reg_shape.specs.Nodes.{members_at};
-ghost use Rattle.reg_values.specs.ValueLists.{AreValues, Became, KeepsSizes, Makes, OfRead};
+ghost use Rattle.reg_values.specs.ValueLists.{AreValues, Became, KeepsSizes, Makes, OfRead, UnusedAreZero};
 ghost use Rattle.reg_values.specs.Internal.ValueListParts.{list_at, Owns, OwnsBeside, BecameList, Fills, HaveRoom, HoldsValue};
 ghost use Rattle.reg_arena.specs.NewCells.{cell_size};
 ghost use Rattle.reg_values.specs.ValueSizes.{data_sizes, sizes_by};
@@ -98,9 +98,11 @@ fn move_list(arena: &mut Arena, list: ValuesList, fresh: u32, cell: u32)
     requires few { list.count < VALUES_LIMIT }
     requires owns { OwnsBeside (list_at list.count list.offset) (heap_of arena.old) (fresh ∷ []) }
     requires room { HasRoom (heap_of arena.old) fresh (4 * list.count + 4) }
+    requires zeros { UnusedAreZero (heap_of arena.old) 0 fresh }
     ensures list { OfRead (list_at list.count list.offset) (heap_of arena.old)
         (λ row met. BecameList (heap_of arena.old) (heap_of arena.new)
         (λ offset. owned offset met + times offset (fresh ∷ [])) (list.count + 1) fresh (row ++ cell ∷ [])) }
+    ensures unused { UnusedAreZero (heap_of arena.new) (list.count + 1) fresh }
     ensures sizes { KeepsSizes (heap_of arena.old) (heap_of arena.new) }
     ensures long { length arena.new.bytes ≡ length arena.old.bytes }
 {
@@ -130,6 +132,7 @@ pub(crate) fn add(
     ensures ok { IfOk result (λ after. OfRead (members_at list.count list.offset) (heap_of arena.old)
         (λ members met. Became (heap_of arena.old) (heap_of arena.new) met after.count after.offset
         (members ++ record { name = name.now; kind = kind; bytes = bytes.now } ∷ []))) }
+    ensures unused { IfOk result (λ after. after.offset ≢ list.offset → UnusedAreZero (heap_of arena.new) after.count after.offset) }
     ensures cells { OnOk result (Makes (heap_of arena.old) (heap_of arena.new)
         (sizes_by (heap_of arena.old) list.count list.offset (length name.now) (length bytes.now) None)) }
     ensures stay { OnOk result (KeepsSizes (heap_of arena.old) (heap_of arena.new)) }

@@ -2,7 +2,7 @@
 //!
 //! Win32 registry reference, `RegSetValueEx`; Suhanov, Windows registry file format specification, section "Key values list".
 
-ghost use Rattle.std.specs.Prelude.{◌≡◌, true, ◌≤◌, ◌<◌, ◌+◌, ◌⊎◌, ℕ, List, Some, None, Err, length, IfOk, OnOk, OnErr};
+ghost use Rattle.std.specs.Prelude.{◌≡◌, ◌≢◌, true, ◌≤◌, ◌<◌, ◌+◌, ◌⊎◌, ℕ, List, Some, None, Err, length, IfOk, OnOk, OnErr};
 ghost use Rattle.reg_names.specs.Names.{is_value_name};
 ghost use Rattle.reg_heap.specs.declared.limits.TheConstants.{BINS_LIMIT, DATA_LIMIT, GROWTH_BOUND, VALUES_LIMIT};
 ghost use Rattle.reg_heap.specs.Paths.{Member};
@@ -14,7 +14,7 @@ ghost use Rattle.reg_arena.specs.Carves.{NoFit};
 ghost use Rattle.reg_arena.specs.EachCell.{GrowsFor};
 ghost use Rattle.reg_arena.specs.NewBin.{PassesLimit};
 ghost use Rattle.reg_shape.specs.Nodes.{members_at};
-ghost use Rattle.reg_values.specs.ValueLists.{AreValues, IsNamed, Became, KeepsSizes, Makes, OfRead};
+ghost use Rattle.reg_values.specs.ValueLists.{AreValues, IsNamed, Became, KeepsSizes, Makes, OfRead, UnusedAreZero};
 ghost use Rattle.reg_values.specs.ValueSizes.{set_sizes};
 
 use crate::ValuesList;
@@ -27,7 +27,7 @@ use std::alloc::Global;
 /// Sets a value at the place that [`find`] told for its name: the value at that index keeps its place and its name and gets
 /// the type and the data; without a place, a new one goes to the end, for which there must be room below 16,384 values. No
 /// name is searched for. Answers the list as it is then; what falls away is freed, and data that needs a cell of the old one's
-/// size is written there.
+/// size is written there. A list that moved has 0 for each offset that its cell has room for and no value uses.
 ///
 /// All cells of the change are carved before anything is written, by
 /// [`carve_change`](reg_arena::Arena::carve_change) and with the sizes of [`plan_set`](crate::plan_set).
@@ -51,6 +51,7 @@ pub fn set_at(
     ensures ok { IfOk result (λ after. OfRead (members_at list.count list.offset) (heap_of arena.old)
         (λ members met. Became (heap_of arena.old) (heap_of arena.new) met after.count after.offset
         (values_with name.now kind bytes.now members))) }
+    ensures unused { IfOk result (λ after. after.offset ≢ list.offset → UnusedAreZero (heap_of arena.new) after.count after.offset) }
     ensures cells { OnOk result (Makes (heap_of arena.old) (heap_of arena.new)
         (set_sizes (heap_of arena.old) list.count list.offset name.now (length bytes.now))) }
     ensures stay { OnOk result (KeepsSizes (heap_of arena.old) (heap_of arena.new)) }
@@ -97,6 +98,7 @@ pub fn set(
     ensures ok { IfOk result (λ after. OfRead (members_at list.count list.offset) (heap_of arena.old)
         (λ members met. Became (heap_of arena.old) (heap_of arena.new) met after.count after.offset
         (values_with name.now kind bytes.now members))) }
+    ensures unused { IfOk result (λ after. after.offset ≢ list.offset → UnusedAreZero (heap_of arena.new) after.count after.offset) }
     ensures cells { OnOk result (Makes (heap_of arena.old) (heap_of arena.new)
         (set_sizes (heap_of arena.old) list.count list.offset name.now (length bytes.now))) }
     ensures stay { OnOk result (KeepsSizes (heap_of arena.old) (heap_of arena.new)) }

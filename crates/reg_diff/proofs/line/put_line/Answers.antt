@@ -20,6 +20,6 @@ returns-in_err-put_part g c =
 pub returns : goal.returns
 returns g c =
     λ begin whole left s.
-    c.settle.ensures begin whole left
+    c.settle.ensures.tells begin whole left
     (ends begin _ whole _ left _ _ (c.loop-part.invariant begin whole left s)
     (ap (flat_map part_text) (drop_all c.loop-part.part-index c.args.parts.now c.loop-part-test.false)))

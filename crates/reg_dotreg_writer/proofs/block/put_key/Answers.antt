@@ -28,7 +28,7 @@ returns-in_err-push_plain g c =
 pub returns : goal.returns
 returns g c =
     λ p at told here names begin whole left s.
-    c.settle.ensures begin whole left
+    c.settle.ensures.tells begin whole left
     (gathers begin _ whole (plain c.args.is_utf8 line_end) left _ _ _
     (c.in_ok-put_values.ensures p at begin whole _
     (values_next begin _ whole c.args.is_utf8 told _ here left _ _

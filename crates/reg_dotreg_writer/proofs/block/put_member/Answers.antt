@@ -8,5 +8,5 @@ returns-in_err-push_entry g c = λ begin whole left s. exits _ _ _ _ c.from_resi
 pub returns : goal.returns
 returns g c =
     λ begin whole left s.
-    c.settle.ensures begin whole left
+    c.settle.ensures.tells begin whole left
     (gathers begin _ whole (entry_pieces c.args.is_utf8 c.args.name.now c.args.kind c.args.content.now) left _ _ _ s c.in_ok-push_entry.ensures)

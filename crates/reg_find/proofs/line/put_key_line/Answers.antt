@@ -22,6 +22,6 @@ returns-in_err-write_part-2 g c =
 pub returns : goal.returns
 returns g c =
     λ begin whole left s.
-    c.settle.ensures begin whole left
+    c.settle.ensures.tells begin whole left
     (gathers begin _ whole line_feed left _ _ _ (c.in_ok-put_escaped.ensures begin whole _
     (key_start begin _ whole left _ _ _ _ s c.in_ok-write_part.ensures)) c.in_ok-write_part-2.ensures)

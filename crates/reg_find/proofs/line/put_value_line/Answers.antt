@@ -38,7 +38,7 @@ returns-in_err-write_kind_and_size g c =
 pub returns : goal.returns
 returns g c =
     λ begin whole left s.
-    c.settle.ensures begin whole left
+    c.settle.ensures.tells begin whole left
     (gathers begin _ whole (after_name c.args.value.kind c.args.value.size) left _ _ _ (c.in_ok-put_escaped-2.ensures begin whole _
     (name_start begin _ whole left _ _ _ _ _ _ (c.in_ok-put_escaped.ensures begin whole _
     (path_start begin _ whole left _ _ _ _ _ _ _ s c.in_ok-write_part.ensures)) c.in_ok-write_part-2.ensures)) c.in_ok-write_kind_and_size.ensures)

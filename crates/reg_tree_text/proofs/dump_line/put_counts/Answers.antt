@@ -7,5 +7,5 @@ returns-in_err-write_counts g c = λ begin whole left s. exits _ _ _ _ c.from_re
 
 pub returns : goal.returns
 returns g c =
-    λ begin whole left s. c.settle.ensures begin whole left
+    λ begin whole left s. c.settle.ensures.tells begin whole left
     (gathers begin _ whole (counts_line c.args.counts.keys c.args.counts.values) left _ _ _ (s) c.in_ok-write_counts.ensures)

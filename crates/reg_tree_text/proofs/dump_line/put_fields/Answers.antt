@@ -56,7 +56,7 @@ returns-in_err-write_time g c =
 pub returns : goal.returns
 returns g c =
     λ begin whole left s.
-    c.settle.ensures begin whole left
+    c.settle.ensures.tells begin whole left
     (gathers begin _ whole _ left _ _ _ (c.in_ok-put_digits-2.ensures begin whole _
     (descriptor_start begin _ whole left _ _ _ _ _ (c.in_ok-put_digits.ensures begin whole _
     (class_start begin _ whole left _ _ _ _ _ _ _ (c.in_ok-put_escaped.ensures begin whole _

@@ -39,7 +39,7 @@ returns-in_err-write_part-2 g c =
 pub returns : goal.returns
 returns g c =
     λ begin whole left s.
-    c.settle.ensures begin whole left
+    c.settle.ensures.tells begin whole left
     (gathers begin _ whole _ left _ _ _ (c.in_ok-put_digits.ensures begin whole _
     (data_start begin _ whole left _ _ _ _ _ (c.in_ok-put_escaped.ensures begin whole _
     (value_start begin _ whole left _ _ _ _ _ _ s c.in_ok-write_part.ensures)) c.in_ok-write_kind.ensures)) c.in_ok-write_part-2.ensures)

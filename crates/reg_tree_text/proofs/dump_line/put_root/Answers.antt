@@ -33,7 +33,7 @@ returns-in_err-write_part-2 g c =
 pub returns : goal.returns
 returns g c =
     λ begin whole left s.
-    c.settle.ensures begin whole left
+    c.settle.ensures.tells begin whole left
     (gathers begin _ whole _ left _ _ _ (c.in_ok-put_escaped.ensures begin whole _
     (root_start begin _ whole left _ _ _ _
     (root_state begin _ whole _ left _ _ c.name-name.result.now s (c.name-name.ensures.key [] c.root.ensures.at)

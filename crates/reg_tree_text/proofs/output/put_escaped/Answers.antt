@@ -12,14 +12,14 @@ pub returns-in_err-settle : goal.returns-in_err-settle
 returns-in_err-settle g c =
     λ begin whole left s.
     exits _ _ _ _ c.from_residual-in_err-settle.ensures.1
-    (c.in_err-settle.ensures begin whole _
+    (c.in_err-settle.ensures.tells begin whole _
     (pieces begin _ whole _ _ _ left _ _ _ (c.loop-from.invariant begin whole left s)
     (let e = escaped-piece c.loop-from.from c.min-piece.result _ c.args.name.now (omega arith) in e) c.in_ok-write_escaped.ensures))
 
 pub loop-from-preserved : goal.loop-from-preserved
 loop-from-preserved g c =
     λ begin whole left s.
-    c.in_ok-settle.ensures begin whole _
+    c.in_ok-settle.ensures.tells begin whole _
     (pieces begin _ whole _ _ _ left _ _ _ (c.loop-from.invariant begin whole left s)
     (let e = escaped-piece c.loop-from.from c.min-piece.result _ c.args.name.now (omega arith) in e) c.in_ok-write_escaped.ensures)
 

@@ -12,6 +12,7 @@ use Rattle.reg_values.proofs.ValueData.NewCellRoom.{room-less}
 use Rattle.reg_values.proofs.ValueData.CellSizeTotals.{add-ok, add-total, room-least, value-name}
 use Rattle.reg_values.proofs.ValueChanges.KeptSizes.{fills-first, new-first}
 use Rattle.reg_values.proofs.ValueChanges.ValueAdded.{was, list2, owns2, beside2, added, add-makes, new-all, one-rooms, one-parts, two-long, two-rooms, two-list, two-parts, room-sizes}
+use Rattle.reg_values.proofs.ValueChanges.UnusedOffsets.{fresh-unused}
 use Rattle.reg_values.proofs.ValueChanges.ValueAdded.{full-sizes, list-space, some-count, became-as}
 use Rattle.reg_values.proofs.add.add.Goals as goal
 
@@ -244,3 +245,20 @@ returns-clause-stay c =
     let h1 = heap_of c.carve.new.arena in
     let h3 = heap_of c.move_list.new.arena in
     new-first h0 h1 h3 _ c.in_ok-cells.ensures.ok.come (fills-first h1 (heap_of c.put_value-2.new.arena) h3 _ c.put_value-2.ensures.fills c.move_list.ensures.sizes)
+
+pub move_list-requires-clause-zeros : goal.move_list-requires-clause-zeros
+move_list-requires-clause-zeros c =
+    let h0 = heap_of c.args.arena.now in
+    let h1 = heap_of c.carve.new.arena in
+    let n = c.args.list.count in
+    let p = c.args.list.offset in
+    let all = c.as_slice-all.result.now in
+    let a = new-all h0 h1 c.in_ok-cells.cells.items all c.deref.result.now _ c.in_ok-cells.ensures.ok c.as_slice-all.ensures.value (c.deref.ensures.value ∙ c.in-Ok.ensures) in
+    let a1 = subst (AreNew h0 h1 all) (full-sizes h0 n p (length c.args.name.now) (length c.args.bytes.now) (sym c.has_room-room.ensures ∙ c.if-room.false)) a in
+    fresh-unused h0 h1 (heap_of c.put_value-2.new.arena) all _ _ _ a1 c.put_value-2.ensures.fills
+
+pub returns-then-room-clause-unused : goal.returns-then-room-clause-unused
+returns-then-room-clause-unused c = λ moved. absurd (moved refl)
+
+pub returns-clause-unused : goal.returns-clause-unused
+returns-clause-unused c = λ moved. c.move_list.ensures.unused
