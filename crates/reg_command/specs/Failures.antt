@@ -2,7 +2,7 @@
 use Rattle.std.specs.Prelude.{◌≡◌, ℕ, ◌<◌, ◌≤◌, ◌⊎◌, List, ◌++◌, Option, codes, length, take}
 use Rattle.std.specs.Fmt.{decimal}
 use Rattle.std.specs.Io.KnownBytes.{Appends}
-use Rattle.reg_text.specs.Failures.{Fails}
+use Rattle.reg_text.specs.Failures.{Fails, IsUntouched}
 use Rattle.reg_text.specs.Texts.{line_feed}
 use Rattle.reg_calls.specs.Views.{View}
 use Rattle.reg_heap.specs.Paths.{Tree}
@@ -19,10 +19,6 @@ use Rattle.reg_command.specs.ScriptRuns.{RunsScript, LeadsTo, WritesImage, image
 use Rattle.reg_command.specs.ImageRuns.{WritesTreeText, fault_line}
 use Rattle.reg_command.specs.declared.failure.Stop.{Stop}
 use Rattle.reg_command.specs.declared.failure.Stop.TheVariants.{Script, Load, Write, Memory}
-
--- nothing was read, and nothing written
-abbrev pub IsUntouched : (unread left before after : Option (List ℕ)) → Type 0
-IsUntouched unread left before after = (left ≡ unread) × (after ≡ before)
 
 -- a failed write: just so many of the first bytes of a text were written
 pub record IsCut (text : List ℕ) (written : ℕ) (before after : Option (List ℕ)) : Type 0 where

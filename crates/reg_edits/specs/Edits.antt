@@ -3,7 +3,7 @@ use Rattle.std.specs.Prelude.{◌≡◌, ℕ, ◌+◌, ◌%◌, Bool, true, fals
 use Rattle.std.specs.List.{list_any}
 use Rattle.std.specs.FinMap.{insert, empty}
 use Rattle.std.specs.Io.KnownBytes.{IsAtEnd, Appends, Consumes}
-use Rattle.reg_text.specs.Failures.{Stays}
+use Rattle.reg_text.specs.Failures.{Stays, IsUntouched}
 use Rattle.reg_heap.specs.ByteWords.{word}
 use Rattle.reg_model.specs.Callbacks.{no_callbacks}
 use Rattle.reg_model.specs.Calls.{changes_keys}
@@ -35,10 +35,6 @@ pub record Opens (unread left : Option (List ℕ)) (hive : View) (sequence : ℕ
   pub consumed : Consumes unread left image
   pub loaded : IsLoaded image hive
   pub numbered : sequence ≡ word image 4
-
--- nothing was read, and nothing written
-abbrev pub IsUntouched : (unread left before after : Option (List ℕ)) → Type 0
-IsUntouched unread left before after = (left ≡ unread) × (after ≡ before)
 
 -- an input was read to its end, and its lines, run from a moment on, led from one hive to another, and to this moment; their replies
 -- were written, and so many of the lines failed: none, unless the script goes on behind one that does

@@ -14,7 +14,8 @@ use Rattle.reg_words.specs.declared.request.StreamRequest.{StreamRequest}
 use Rattle.reg_words.specs.declared.request.StreamRequest.TheVariants as stream
 use Rattle.reg_words.specs.declared.request.Request.{Request}
 use Rattle.reg_words.specs.declared.request.Request.TheVariants.{Stream, Dump, Check, Listing, Get, Find, Diff, Export, New, Edit, Import}
-use Rattle.reg_command.specs.Failures.{Does, Stops, EndsEarly, IsSaid, IsStopSaid, IsUntouched}
+use Rattle.reg_text.specs.Failures.{IsUntouched}
+use Rattle.reg_command.specs.Failures.{Does, Stops, EndsEarly, IsSaid, IsStopSaid}
 use Rattle.reg_command.specs.declared.failure.Stop.{Stop}
 use Rattle.reg_command.specs.declared.failure.Stop.TheVariants as stop
 use Rattle.reg_find.specs.declared.scope.Scope.{Scope}
