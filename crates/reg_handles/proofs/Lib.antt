@@ -12,3 +12,4 @@ pub mod RowAdded
 pub mod RowRemoved
 pub mod KeyMarkedDeleted
 pub mod TableWithoutTrees
+pub mod HandleBeside

@@ -33,6 +33,11 @@ abbrev pub leads_there : Path → Option Handle → Bool
 leads_there p None = false
 leads_there p (Some h) = leads p h.destination
 
+-- there is such a handle, and it leads to a key, whose path this is
+abbrev pub IsLeadingTo : Path → Option Handle → Type 0
+IsLeadingTo p None = ⊥
+IsLeadingTo p (Some h) = h.destination ≡ At p
+
 -- one of the handles leads to that path
 abbrev pub is_open : Path → List Handle → Bool
 is_open p [] = false

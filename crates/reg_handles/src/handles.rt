@@ -2,12 +2,13 @@
 ghost use Rattle.std.specs.Prelude.{◌≡◌, ◌<◌, ◌++◌, ◌∷◌, ℕ, List, [], Some, None, OnOk, OnErr, All, length, map, is_some, true};
 ghost use Rattle.std.specs.Prelude.{bytes_eq, unwrap_or, if◌then◌else◌, vec_len, vec_capacity};
 ghost use Rattle.reg_names.specs.Names.{folded as folded_name, path_of, is_path};
+ghost use Rattle.reg_heap.specs.Paths.{Path};
 ghost use Rattle.reg_heap.specs.Edits.{is_within, is_under};
 ghost use Rattle.reg_model.specs.declared.limits.TheConstants.{HANDLES_LIMIT};
 ghost use Rattle.reg_model.specs.Worlds.{look, numbered, closed, turned, turned_past, At};
 ghost use Rattle.reg_model.specs.Causes.{handles_of as count_of};
 ghost use Rattle.reg_handles.specs.FoundHandles.{shown, IfLeads, HasPayload};
-ghost use Rattle.reg_handles.specs.HandleTables.{IsFoldedPath, payload_on, leads_there, is_open};
+ghost use Rattle.reg_handles.specs.HandleTables.{IsFoldedPath, IsLeadingTo, payload_on, leads_there, is_open};
 
 use crate::keys::{OpenKeys, Target};
 use crate::rows::{Row, Rows};
@@ -127,6 +128,38 @@ impl<K: Copy> Handles<K> {
         let key = self.keys.hold(path, payload)?;
         let row = Row { session, mask, key };
         self.rows.push(number, row);
+        self.counts[session as usize] += 1;
+        Ok(())
+    }
+
+    /// Adds a handle to the key that another handle leads to, under a number above all others. That key's path is neither copied nor
+    /// looked for, so that it takes as long whatever the path. Where memory is short, the table is as before.
+    pub fn add_beside(
+        &mut self,
+        session: u8,
+        number: u64,
+        mask: u32,
+        other: u64,
+    ) -> Result<(), AllocError>
+        requires above { All (λ h. h.number < number) self.old.handles }
+        requires session { session < SESSIONS_LIMIT }
+        requires room { count_of session self.old.handles < HANDLES_LIMIT }
+        requires leads { (p : Path) × IsLeadingTo p (numbered other self.old.handles) }
+        ensures ok { (p : Path) → IsLeadingTo p (numbered other self.old.handles) → OnOk result
+            (self.new.handles ≡ self.old.handles ++ record { number = number; session = session; mask = mask; destination = At p } ∷ []) }
+        ensures payloads { OnOk result ((text : List ℕ) → payload_on self.new text ≡ payload_on self.old text) }
+        ensures err { OnErr result (self.new ≡ self.old) }
+    {
+        // A key has no more rows than the table, so that its count has room for one more.
+        let rows = self.rows.len();
+        prove!(rows < usize::MAX);
+        let Some(beside) = self.rows.get(other) else {
+            unreachable!()
+        };
+        let key = beside.key;
+        self.rows.reserve()?;
+        self.keys.count_up(key);
+        self.rows.push(number, Row { session, mask, key });
         self.counts[session as usize] += 1;
         Ok(())
     }

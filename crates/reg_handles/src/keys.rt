@@ -123,7 +123,7 @@ impl<K: Copy> OpenKeys<K> {
     }
 
     /// Counts one row more of a key.
-    fn count_up(&mut self, key: usize)
+    pub fn count_up(&mut self, key: usize)
         requires { rows_of (get self.old.slots key) + 1 < 2 ^ 64 }
         ensures slots { Updates self.old.slots self.new.slots key (option_map with_one_more (get self.old.slots key)) }
         ensures paths { self.new.by_path.entries ≡ self.old.by_path.entries }

@@ -34,3 +34,4 @@ pub mod SplitEntries
 pub mod RootGaps
 pub mod CellCounts
 pub mod KeptCells
+pub mod LongestNames

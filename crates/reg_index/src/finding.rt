@@ -1,6 +1,7 @@
 //! Subkeys, found and read.
 
-ghost use Rattle.std.specs.Prelude.{◌≡◌, ◌+◌, ◌<◌, ◌≤◌, ℕ, List, Some, IsSome, IfSome, Err, MatchOption, MatchResult, length, get_or};
+ghost use Rattle.std.specs.Prelude.{◌≡◌, ◌+◌, ◌<◌, ◌≤◌, ℕ, List, Some, IsSome, IfSome, Err, MatchOption, MatchResult, max, length, get_or};
+ghost use Rattle.std.specs.List.{fold};
 ghost use Rattle.reg_names.specs.Names.{folded};
 ghost use Rattle.reg_heap.specs.declared.limits.TheConstants.{LEAF_LIMIT};
 ghost use Rattle.reg_heap.specs.ByteWords.{half};
@@ -386,4 +387,53 @@ pub fn find_key(arena: &Arena, list: SubkeysIndex, name: &[u8]) -> Option<u32>
         Ok(index) => Some(offset_in(leaf, index)),
         Err(_) => None,
     }
+}
+
+/// How long the name of a key is, by what its cell holds: the number before the last of the key node's fixed part.
+#[tactic(auto, unfolding(reg_heap::specs::ByteWords::half))]
+fn name_length_in(content: &[u8]) -> u16
+    requires { 74 ≤ length content.now }
+    ensures { result ≡ half content.now 72 }
+{
+    LittleEndian::read_u16(&content[72..])
+}
+
+/// How long the name of the key at an offset is. It reads no more of the key than this number.
+fn name_length(arena: &Arena, key: u32) -> u32
+    requires { IsSome (key_at (heap_of arena.now) key) }
+    ensures { result ≡ length (name_at (heap_of arena.now) key) }
+{
+    u32::from(name_length_in(arena.content(key)))
+}
+
+/// The length of the longest name among the keys of a leaf, by what the leaf's cell holds, or a length that is greater.
+fn longest_in(arena: &Arena, leaf: &[u8], least: u32) -> u32
+    requires { (offset : ℕ) × (entries : List Entry) × IsLeaf (heap_of arena.now) offset entries
+        × (heap_of arena.now offset ≡ Some leaf.now) × AreKeys (heap_of arena.now) entries × (length entries ≤ LEAF_LIMIT) }
+    ensures { (offset : ℕ) → (entries : List Entry) → IsLeaf (heap_of arena.now) offset entries →
+        heap_of arena.now offset ≡ Some leaf.now → AreKeys (heap_of arena.now) entries →
+        result ≡ fold (λ a (e : Entry). max a (length (name_at (heap_of arena.now) e.offset))) least entries }
+{
+    let mut longest = least;
+    for index in 0..count_in(leaf) {
+        longest = longest.max(name_length(arena, offset_in(leaf, index)));
+    }
+    longest
+}
+
+/// The length of the longest name among the subkeys, in bytes; 0 of none. It goes once over the lists and reads one number of each key.
+pub fn longest_name(arena: &Arena, list: SubkeysIndex) -> u32
+    requires { (entries : List Entry) × AreSubkeys (heap_of arena.now) list.count list.offset entries }
+    ensures { (entries : List Entry) → AreSubkeys (heap_of arena.now) list.count list.offset entries →
+        result ≡ fold (λ a (e : Entry). max a (length (name_at (heap_of arena.now) e.offset))) 0 entries }
+{
+    let mut longest = 0;
+    if list.count == 0 {
+        return longest;
+    }
+    let root = arena.content(list.offset);
+    for number in 0..lists_in(root) {
+        longest = longest_in(arena, leaf_under(arena, root, number), longest);
+    }
+    longest
 }

@@ -5,3 +5,4 @@ pub mod RefinementOfValues
 pub mod SubkeyBehind
 pub mod SubkeysInTurn
 pub mod ClassOfKey
+pub mod LongestSubkeyName

@@ -33,6 +33,6 @@ pub use fault::TreeFault;
 pub use held_bytes::{bytes_spell_bytes, hold_bytes};
 pub use node::{Created, Node, Reached, Subkey};
 pub use reg_index::Place;
-pub use reg_values::{NewValue, Value};
+pub use reg_values::{LargestValues, NewValue, Value};
 pub use tree::Tree;
 pub use value::ValueFound;

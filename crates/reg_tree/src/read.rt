@@ -1,10 +1,12 @@
 //! What is told of a key.
-ghost use Rattle.std.specs.Prelude.{◌≡◌, ◌≤◌, ◌+◌, ℕ, Some, length};
+ghost use Rattle.std.specs.Prelude.{◌≡◌, ◌≤◌, ◌+◌, ℕ, Some, length, max};
+ghost use Rattle.std.specs.List.{fold};
 ghost use Rattle.std.specs.FinMap.{get};
 ghost use Rattle.reg_names.specs.declared.TheConstants.{KEY_NAME_LIMIT, PATH_LIMIT};
 ghost use Rattle.reg_heap.specs.declared.limits.TheConstants.{DESCRIPTOR_LIMIT};
-ghost use Rattle.reg_heap.specs.Paths.{Rec, children_of};
+ghost use Rattle.reg_heap.specs.Paths.{Path, Rec, children_of};
 ghost use Rattle.reg_arena.specs.Arena.{heap_of};
+ghost use Rattle.reg_tree.specs.SubkeyWalk.{name_length};
 ghost use Rattle.reg_tree.specs.TreeKeys.{tree_in};
 ghost use Rattle.reg_tree.specs.Internal.TreeInvariant.{IsHere};
 ghost use Rattle.reg_tree.specs.Internal.PathWalks.{IsSubkey};
@@ -14,7 +16,7 @@ ghost use Rattle.reg_tree.specs.Internal.ReachedPlaces.{IsPlaceAt, IsPlaceOf, Is
 use crate::key::{fields, subkeys_list};
 use crate::{Node, Place, Subkey};
 use reg_arena::Arena;
-use reg_index::{SubkeysIndex, at, at_place, behind, key_behind, len};
+use reg_index::{SubkeysIndex, at, at_place, behind, key_behind, len, longest_name};
 use reg_records::nk_name;
 use reg_security::descriptor as descriptor_in;
 
@@ -74,6 +76,15 @@ pub fn subkeys(arena: &Arena, key: u32) -> u32
     ensures { (t : IsHere arena.now.bytes key) → result ≡ length (children_of (tree_in arena.now.bytes t.root) t.path) }
 {
     len(subkeys_list(arena, key))
+}
+
+/// The length of the longest name among the keys right below a key; 0 of none.
+pub fn longest_subkey_name(arena: &Arena, key: u32) -> u32
+    requires { IsHere arena.now.bytes key }
+    ensures { (t : IsHere arena.now.bytes key) → result ≡
+        fold (λ a (q : Path). max a (name_length (get (tree_in arena.now.bytes t.root) q))) 0 (children_of (tree_in arena.now.bytes t.root) t.path) }
+{
+    longest_name(arena, subkeys_list(arena, key))
 }
 
 /// The key at an index among those right below a key, in the order of their folded names, if there are so many.

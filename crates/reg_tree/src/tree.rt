@@ -1,5 +1,6 @@
 ghost use Rattle.std.specs.Prelude.{true, false, ◌≡◌, ◌↔◌, ◌⊎◌, ◌≢◌, ◌≤◌, ◌<◌, ◌+◌, ◌*◌, ◌++◌, ℕ, List, [], ◌∷◌, length, Err, Some, None, OnOk, OnErr, IfOk, IfErr};
-ghost use Rattle.std.specs.Prelude.{IsSome, IfSome, MatchOption, slice_get, get_or, option_map};
+ghost use Rattle.std.specs.Prelude.{IsSome, IfSome, MatchOption, max, slice_get, get_or, option_map};
+ghost use Rattle.std.specs.List.{fold};
 ghost use Rattle.std.specs.FinMap.{insert, empty, get};
 ghost use Rattle.reg_names.specs.declared.TheConstants.{KEY_NAME_LIMIT, PATH_LIMIT, VALUE_NAME_LIMIT};
 ghost use Rattle.reg_names.specs.Names.{is_key_name, is_value_name, is_path, path_of};
@@ -25,7 +26,7 @@ use crate::{
 use reg_arena::{Arena, ArenaFault, cell_size};
 use reg_records::put_nk;
 use reg_security::SecurityTable;
-use reg_values::Value;
+use reg_values::{LargestValues, Value};
 use std::alloc::{AllocError, Global};
 use std::marker::Model;
 
@@ -58,7 +59,7 @@ impl Tree {
     ghost use Rattle.reg_tree.specs.KeyLengths.{ChangesLengths, KeepsLengths, NotesMade, lengths_at, no_lengths, with_value_lengths, with_lengths_of, with_first_length, with_key_lengths};
     ghost use Rattle.reg_tree.specs.ValueAnswers.{IsFound, without_value_at};
     ghost use Rattle.reg_tree.specs.Reaching.{IsWalkedTo};
-    ghost use Rattle.reg_tree.specs.SubkeyWalk.{IsSubkeyAt};
+    ghost use Rattle.reg_tree.specs.SubkeyWalk.{IsSubkeyAt, name_length};
     ghost use Rattle.reg_tree.specs.BuiltKeys.{MayBuild, built_key, with_values, class_sizes, TakesCells, BuildsRoot, BuildsKey, LacksKeyRoom, LacksClassRoom};
     ghost use Rattle.reg_values.specs.NewValues.{all_told, all_value_sizes, MayFollow};
 
@@ -285,6 +286,14 @@ impl Tree {
         read::next_subkey(&self.arena, node, subkey.place)
     }
 
+    /// The length of the longest name among the keys right below a key; 0 of none. It goes once over them, and reads one number of each.
+    pub fn longest_subkey_name(&self, node: Node) -> u32
+        requires { IsThere self.now node }
+        ensures { (p : Path) → IsAt self.now p node → result ≡ fold (λ a (q : Path). max a (name_length (get self.now.tree q))) 0 (children_of self.now.tree p) }
+    {
+        read::longest_subkey_name(&self.arena, node.offset)
+    }
+
     /// A key's value at an index, counted from 0 in the order in which the names were added, without its bytes; `None` where
     /// there are not so many.
     pub fn value(&self, node: Node, index: u32) -> Option<Value<'_>>
@@ -304,6 +313,16 @@ impl Tree {
         ensures { (p : Path) → IsAt self.now p node → result ≡ length (values_at self.now.tree p) }
     {
         values::count(&self.arena, node.offset)
+    }
+
+    /// What is largest among a key's values: the longest name's length, and the size of the largest data; 0 of none. It goes once over
+    /// them, and reads two numbers of each.
+    pub fn largest_values(&self, node: Node) -> LargestValues
+        requires { IsThere self.now node }
+        ensures name { (p : Path) → IsAt self.now p node → result.name ≡ fold (λ a (m : Member). max a (length m.name)) 0 (values_at self.now.tree p) }
+        ensures size { (p : Path) → IsAt self.now p node → result.size ≡ fold (λ a (m : Member). max a (length m.bytes)) 0 (values_at self.now.tree p) }
+    {
+        values::largest(&self.arena, node.offset)
     }
 
     /// A key's value of that name, after folding, if it has one.

@@ -1,6 +1,7 @@
 //! A key's values, in its cells.
 ghost use Rattle.std.specs.Prelude.{true, false, ◌≡◌, ◌↔◌, ◌⊎◌, ◌≤◌, ◌<◌, ◌+◌, ◌≢◌, ℕ, List, [], length, Err, Some, None, OnOk, OnErr, IfOk, IfErr};
-ghost use Rattle.std.specs.Prelude.{MatchOption, IfSome, slice_get};
+ghost use Rattle.std.specs.Prelude.{MatchOption, IfSome, max, slice_get};
+ghost use Rattle.std.specs.List.{fold};
 ghost use Rattle.reg_names.specs.declared.TheConstants.{VALUE_NAME_LIMIT};
 ghost use Rattle.reg_names.specs.Names.{is_value_name};
 ghost use Rattle.reg_heap.specs.declared.limits.TheConstants.{BINS_LIMIT, DATA_LIMIT, GROWTH_BOUND, VALUES_LIMIT};
@@ -21,7 +22,7 @@ use crate::key::{note_values, values_list};
 use crate::{TreeFault, ValueFound};
 use reg_arena::{Arena, ArenaFault};
 use reg_heap::limits::VALUES_LIMIT;
-use reg_values::Value;
+use reg_values::{LargestValues, Value};
 use std::alloc::{AllocError, Global};
 
 /// How many values a key has.
@@ -88,6 +89,17 @@ pub fn at(arena: &Arena, key: u32, index: u32) -> Option<Value<'_>>
         return None;
     }
     Some(reg_values::at(arena, list, index))
+}
+
+/// What is largest among a key's values: the longest name, and the largest data.
+pub fn largest(arena: &Arena, key: u32) -> LargestValues
+    requires { IsHere arena.now.bytes key }
+    ensures name { (t : IsHere arena.now.bytes key) →
+        result.name ≡ fold (λ a (m : Member). max a (length m.name)) 0 (values_at (tree_in arena.now.bytes t.root) t.path) }
+    ensures size { (t : IsHere arena.now.bytes key) →
+        result.size ≡ fold (λ a (m : Member). max a (length m.bytes)) 0 (values_at (tree_in arena.now.bytes t.root) t.path) }
+{
+    reg_values::largest(arena, values_list(arena, key))
 }
 
 /// Whether there are as many values as there may be, and a new one has no place.

@@ -4,3 +4,4 @@ pub mod ToldValues
 pub mod FoundValues
 pub mod ValueListFrame
 pub mod NamedValues
+pub mod LargestLengths

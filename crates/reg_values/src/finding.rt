@@ -2,7 +2,9 @@
 //!
 //! Suhanov, Windows registry file format specification, sections "Key values list" and "Key value".
 
-ghost use Rattle.std.specs.Prelude.{◌≡◌, ◌<◌, ◌+◌, ◌*◌, ◌≤◌, ℕ, List, Some, IsSome, slice_get, length, if◌then◌else◌};
+ghost use Rattle.std.specs.Prelude.{◌≡◌, ◌<◌, ◌+◌, ◌*◌, ◌≤◌, ℕ, List, Some, IsSome, max, slice_get, length, if◌then◌else◌};
+ghost use Rattle.std.specs.List.{fold};
+ghost use Rattle.reg_heap.specs.ByteWords.{half, word};
 ghost use Rattle.reg_heap.specs.Paths.{Member};
 ghost use Rattle.reg_heap.specs.Kinds.{Found};
 ghost use Rattle.reg_heap.specs.Members.{index_named};
@@ -15,6 +17,7 @@ ghost use Rattle.reg_shape.specs.Nodes.{members_at};
 ghost use Rattle.reg_values.specs.ValueLists.{AreValues, Tells, OfRead};
 
 use crate::{INLINE, ValuesList};
+use byteorder::{ByteOrder, LittleEndian};
 use reg_arena::Arena;
 use reg_names::same_name;
 use reg_records::{ValueRecord, offset_at, read_vk, vk_name};
@@ -27,6 +30,15 @@ pub struct Value<'a> {
     /// The type of its data.
     pub kind: u32,
     /// The size of its data in bytes.
+    pub size: u32,
+}
+
+/// What is largest among the values of a list.
+#[derive(Clone, Copy, Debug, PartialEq, Eq)]
+pub struct LargestValues {
+    /// The length of the longest name, in bytes; 0 of no values.
+    pub name: u32,
+    /// The size of the largest data, in bytes; 0 of no values.
     pub size: u32,
 }
 
@@ -96,4 +108,66 @@ pub fn at(arena: &Arena, list: ValuesList, index: u32) -> Value<'_>
         kind: record.fields.kind,
         size: size_in(record.fields.size),
     }
+}
+
+/// How long the name of a key value is: its second 16-bit number.
+#[tactic(auto, unfolding(reg_heap::specs::ByteWords::half))]
+fn name_length_in(content: &[u8]) -> u16
+    requires { 4 ≤ length content.now }
+    ensures { result ≡ half content.now 2 }
+{
+    LittleEndian::read_u16(&content[2..])
+}
+
+/// The size field of a key value: its second 32-bit number.
+#[tactic(auto, unfolding(reg_heap::specs::ByteWords::word))]
+fn size_field_in(content: &[u8]) -> u32
+    requires { 8 ≤ length content.now }
+    ensures { result ≡ word content.now 4 }
+{
+    LittleEndian::read_u32(&content[4..])
+}
+
+/// The larger of both lengths, and the larger of both sizes.
+fn larger(a: LargestValues, b: LargestValues) -> LargestValues
+    ensures name { result.name ≡ max a.name b.name }
+    ensures size { result.size ≡ max a.size b.size }
+{
+    LargestValues {
+        name: a.name.max(b.name),
+        size: a.size.max(b.size),
+    }
+}
+
+/// The length of one value's name and the size of its data, by the record in a cell. It reads no more than these two numbers.
+fn lengths_at(arena: &Arena, cell: u32) -> LargestValues
+    requires { IsSome (value_record_at (heap_of arena.now) cell) }
+    ensures name { (record_is : KeyValueRecord) → value_record_at (heap_of arena.now) cell ≡ Some record_is → result.name ≡ length record_is.name }
+    ensures size { (record_is : KeyValueRecord) → value_record_at (heap_of arena.now) cell ≡ Some record_is →
+        result.size ≡ (if is_inline record_is.fields.size then inline_size record_is.fields.size else record_is.fields.size) }
+{
+    let content = arena.content(cell);
+    LargestValues {
+        name: u32::from(name_length_in(content)),
+        size: size_in(size_field_in(content)),
+    }
+}
+
+/// What is largest among the values of a list. It goes once over their records, and reads two numbers of each.
+pub fn largest(arena: &Arena, list: ValuesList) -> LargestValues
+    requires { AreValues (heap_of arena.now) list.count list.offset }
+    ensures name { OfRead (members_at list.count list.offset) (heap_of arena.now)
+        (λ members met. result.name ≡ fold (λ a (m : Member). max a (length m.name)) 0 members) }
+    ensures size { OfRead (members_at list.count list.offset) (heap_of arena.now)
+        (λ members met. result.size ≡ fold (λ a (m : Member). max a (length m.bytes)) 0 members) }
+{
+    let mut largest = LargestValues { name: 0, size: 0 };
+    if list.count == 0 {
+        return largest;
+    }
+    let row = arena.content(list.offset);
+    for index in 0..list.count {
+        largest = larger(largest, lengths_at(arena, offset_at(row, index)));
+    }
+    largest
 }

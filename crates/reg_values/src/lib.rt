@@ -5,7 +5,7 @@
 //! is the caller's, and nothing of it is read or written here.
 //!
 //! It stands on reg_records and on reg_shape, by whose readings a list reads. Its types are [`ValuesList`], a list as its key node
-//! names it, [`Value`], a value as it is told, and [`NewValue`], one to be made.
+//! names it, [`Value`], a value as it is told, [`LargestValues`], what is largest among them, and [`NewValue`], one to be made.
 //!
 //! Suhanov, Windows registry file format specification, sections "Key values list", "Key value" and "Big data".
 #![tactic(auto)]
@@ -22,7 +22,7 @@ mod replace;
 mod setting;
 
 pub use data::bytes_of;
-pub use finding::{Value, at, find};
+pub use finding::{LargestValues, Value, at, find, largest};
 pub use making::{NewValue, front_of_one_carve, make};
 pub use plan::plan_set;
 pub use removing::{clear, remove, remove_at};

@@ -1,6 +1,6 @@
 -- The slab of the open keys, and the map from their paths to where they stand.
-use Rattle.std.specs.Prelude.{◌≡◌, ◌≢◌, ℕ, ◌+◌, ◌-◌, ◌==◌, ◌&&◌, not, Bool, true, false, List, [], ◌∷◌, ◌++◌, length, map}
-use Rattle.std.specs.Prelude.{Option, Some, None, if◌then◌else◌, bytes_eq, nat_eq, nat_lt, Vec, unwrap_or}
+use Rattle.std.specs.Prelude.{◌≡◌, ◌≢◌, ℕ, ◌+◌, ◌-◌, ◌==◌, ◌&&◌, not, Bool, true, false, List, [], ◌∷◌, ◌++◌, map}
+use Rattle.std.specs.Prelude.{Option, Some, None, if◌then◌else◌, bytes_eq, Vec, unwrap_or}
 use Rattle.slab.specs.Slab.{Slab, get}
 use Rattle.reg_names.specs.Names.{path_of}
 use Rattle.reg_model.specs.Internal.TextNumbers.{number_at}
