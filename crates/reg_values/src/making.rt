@@ -65,11 +65,13 @@ fn front_within(most: u32, values: &[NewValue<'_>]) -> usize
 }
 
 /// How many of these values, counted from the first, [`make`] may be called with where their list is to have room for all of
-/// them: the most whose cells and list have at most 16,777,216 bytes together, their size fields counted.
+/// them: the most whose cells and list have at most 16,777,216 bytes together, their size fields counted. Of one value or more it
+/// is at least one.
 pub fn front_of_one_carve(values: &[NewValue<'_>]) -> usize
     requires few { length values.now ≤ VALUES_LIMIT }
     requires new { MayFollow [] (all_told values.now) }
     ensures within { result ≤ length values.now }
+    ensures some { 0 < length values.now → 0 < result }
     ensures fits { total_of (all_value_sizes (length values.now) (take result (all_told values.now))) ≤ CARVE_LIMIT }
     ensures longest { result < length values.now →
         CARVE_LIMIT < total_of (all_value_sizes (length values.now) (take (result + 1) (all_told values.now))) }

@@ -4,7 +4,6 @@ use Rattle.std.proofs.Common.{length, take, get_or, slice_get, refl, sym, ap, �
 use Rattle.std.specs.List.{AllByRecursion}
 use Rattle.std.proofs.lemmas.Option.{none-some, same_Some}
 use Rattle.std.proofs.lemmas.List.{append_assoc, append-nil}
-use Rattle.reg_arena.specs.declared.TheConstants.{CARVE_LIMIT}
 use Rattle.reg_arena.specs.NewCells.{AreSizes, cell_size, total_of}
 use Rattle.reg_heap.specs.Paths.{Member}
 use Rattle.reg_heap.specs.Members.{index_named}
@@ -144,13 +143,13 @@ some-taken [] index l = absurd (omega (arith, l))
 some-taken (v ∷ values) index l = subst (λ i. 0 < length (take i (all_told (v ∷ values)))) (sym (add-one index)) (omega arith)
 
 -- the first of some values always fits
-pub some-fit : (values : List NewValue) (n : ℕ) → AllByRecursion IsSmallValue (all_told values) → 0 < length values →
-    (n < length values → CARVE_LIMIT < total_of (each_value_sizes (take (n + 1) (all_told values)))) → 0 < n
-some-fit [] n f l g = absurd (omega (arith, l))
-some-fit (v ∷ values) (suc n) f l g = omega arith
-some-fit (v ∷ values) zero f l g =
+pub some-fit : (values : List NewValue) (n most : ℕ) → AllByRecursion IsSmallValue (all_told values) → 0 < length values → 1306592 ≤ most →
+    (n < length values → most < total_of (each_value_sizes (take (n + 1) (all_told values)))) → 0 < n
+some-fit [] n most f l m g = absurd (omega (arith, l))
+some-fit (v ∷ values) (suc n) most f l m g = omega arith
+some-fit (v ∷ values) zero most f l m g =
     let d = data-total (length v.bytes.now) f.0.bytes in
     let n = value-name v.name.now f.0.name in
     let e = total-append (data_sizes (length v.bytes.now)) [] in
     let p = g (omega arith) in
-    absurd (omega (arith, d, n, e, p))
+    absurd (omega (arith, d, n, e, p, m))
