@@ -4,4 +4,5 @@ pub mod LargestLengths
 pub mod TreeAfterValueChange
 pub mod ValueAtPlace
 pub mod ValuesBuilt
+pub mod ValuesMore
 pub mod ValueCells

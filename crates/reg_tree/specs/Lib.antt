@@ -7,5 +7,6 @@ pub mod ValueAnswers
 pub mod Reaching
 pub mod SubkeyWalk
 pub mod BuiltKeys
+pub mod MoreValues
 pub mod ValueBytes
 pub mod Internal

@@ -61,7 +61,8 @@ impl Tree {
     ghost use Rattle.reg_tree.specs.Reaching.{IsWalkedTo};
     ghost use Rattle.reg_tree.specs.SubkeyWalk.{IsSubkeyAt, name_length};
     ghost use Rattle.reg_tree.specs.BuiltKeys.{MayBuild, built_key, with_values, class_sizes, TakesCells, BuildsRoot, BuildsKey, LacksKeyRoom, LacksClassRoom};
-    ghost use Rattle.reg_values.specs.NewValues.{all_told, all_value_sizes, MayFollow};
+    ghost use Rattle.reg_tree.specs.MoreValues.{with_more_values, HasListRoom, MayExtend};
+    ghost use Rattle.reg_values.specs.NewValues.{all_told, all_value_sizes, each_value_sizes, MayFollow};
 
     /// A tree of one root: the name as given, mark 8 (no delete), no class, the descriptor, the moment (100 ns ticks since
     /// 1601), no values; its four largest lengths are 0. Its bins are one, of the least size for the key node and its security,
@@ -825,6 +826,7 @@ impl Tree {
         requires fits { total_of (all_value_sizes room (all_told values.now)) ≤ CARVE_LIMIT }
         ensures ok { (p : Path) → IsAt self.old p node →
             OnOk result (self.new.tree ≡ edited self.old.tree p (with_values (all_told values.now) moment)) }
+        ensures room { OnOk result (0 < length values.now → HasListRoom (heap_of self.new.bins) node.offset room) }
         ensures takes { OnOk result (TakesCells self.old self.new (all_value_sizes room (all_told values.now))) }
         ensures root { OnOk result (self.new.root ≡ self.old.root) }
         ensures nodes { OnOk result (KeepsNodes self.old self.new) }
@@ -837,5 +839,42 @@ impl Tree {
         ensures kept { OnOk result (length self.old.bins.bytes ≤ length self.new.bins.bytes) }
     {
         build_values::build(alloc, &mut self.arena, node.offset, values, room, moment)
+    }
+
+    /// Puts values behind those that a key has, at least one, in their order, and gives the key a time; no other key's changes. The
+    /// key's list has room for all of them, as one that [`build_values`](Tree::build_values) made has for so many as it was told. Each
+    /// is within the limits, no two names are the same after folding, and their cells have at most 16,777,216 bytes together, as
+    /// `reg_values::front_of_one_more_carve` tells. After a fault the tree is as before.
+    ///
+    /// The cells that come are those of each value's record and data; each other cell keeps its size, the list with its room and the
+    /// root their places. `Full` only where no free cell has room for all of them together and one bin more for them would pass the
+    /// limit of 268,435,456 bytes; `Memory`. The bins grow only where no free cell has room for them, and by no more than one bin.
+    pub fn extend_values(
+        &mut self,
+        alloc: Global,
+        node: Node,
+        values: &[NewValue<'_>],
+        moment: u64,
+    ) -> Result<(), ArenaFault>
+        requires node { IsThere self.old node }
+        requires more { (p : Path) → IsAt self.old p node →
+            MayExtend (heap_of self.old.bins) node.offset (values_at self.old.tree p) (all_told values.now) }
+        requires fits { total_of (each_value_sizes (all_told values.now)) ≤ CARVE_LIMIT }
+        ensures ok { (p : Path) → IsAt self.old p node →
+            OnOk result (self.new.tree ≡ edited self.old.tree p (with_more_values (all_told values.now) moment)) }
+        ensures room { (room : ℕ) → HasListRoom (heap_of self.old.bins) node.offset room →
+            OnOk result (HasListRoom (heap_of self.new.bins) node.offset room) }
+        ensures takes { OnOk result (TakesCells self.old self.new (each_value_sizes (all_told values.now))) }
+        ensures root { OnOk result (self.new.root ≡ self.old.root) }
+        ensures nodes { OnOk result (KeepsNodes self.old self.new) }
+        ensures lengths { (p : Path) → IsAt self.old p node →
+            OnOk result (ChangesLengths self.old self.new p (with_lengths_of (all_told values.now))) }
+        ensures space { result ≡ Err ArenaFault.Full → LacksRoom self.old.bins (each_value_sizes (all_told values.now)) }
+        ensures err { OnErr result (self.new ≡ self.old) }
+        ensures grows { OnOk result (length self.new.bins.bytes ≤
+            length self.old.bins.bytes + 4127 + total_of (each_value_sizes (all_told values.now))) }
+        ensures kept { OnOk result (length self.old.bins.bytes ≤ length self.new.bins.bytes) }
+    {
+        build_values::extend(alloc, &mut self.arena, node.offset, values, moment)
     }
 }

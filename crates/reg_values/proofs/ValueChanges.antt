@@ -11,3 +11,4 @@ pub mod ValueSetAgain
 pub mod ValuesPlanned
 pub mod ValuesFilled
 pub mod ValuesMade
+pub mod ValuesExtended

@@ -13,6 +13,7 @@
 mod add;
 mod big;
 mod data;
+mod extending;
 mod finding;
 pub mod laws;
 mod making;
@@ -22,8 +23,9 @@ mod replace;
 mod setting;
 
 pub use data::bytes_of;
+pub use extending::extend;
 pub use finding::{LargestValues, Value, at, find, largest};
-pub use making::{NewValue, front_of_one_carve, make};
+pub use making::{NewValue, front_of_one_carve, front_of_one_more_carve, make};
 pub use plan::plan_set;
 pub use removing::{clear, remove, remove_at};
 pub use setting::{set, set_at};

@@ -3,8 +3,10 @@
 //! Suhanov, Windows registry file format specification, sections "Cell", "Key values list", "Key value" and "Big data".
 
 ghost use Rattle.std.specs.Prelude.{◌≡◌, ◌≤◌, ◌<◌, ◌+◌, ◌*◌, ◌∷◌, [], ℕ, List, Err, length, take, IfOk, OnOk, OnErr};
+ghost use Rattle.std.specs.List.{AllByRecursion};
 ghost use Rattle.reg_heap.specs.declared.limits.TheConstants.{VALUES_LIMIT};
 ghost use Rattle.reg_heap.specs.Paths.{Member};
+ghost use Rattle.reg_heap.specs.Trees.{IsSmallValue};
 ghost use Rattle.reg_heap.specs.Kinds.{times};
 ghost use Rattle.reg_arena.specs.declared.TheConstants.{CARVE_LIMIT};
 ghost use Rattle.reg_arena.specs.Arena.{heap_of};
@@ -12,10 +14,11 @@ ghost use Rattle.reg_arena.specs.NewCells.{total_of};
 ghost use Rattle.reg_arena.specs.Carves.{NoFit};
 ghost use Rattle.reg_arena.specs.EachCell.{GrowsFor};
 ghost use Rattle.reg_arena.specs.NewBin.{PassesLimit};
-ghost use Rattle.reg_records.specs.RecordCells.{HasRoom};
+ghost use Rattle.reg_records.specs.RecordCells.{HasRoom, held};
+ghost use Rattle.reg_records.specs.OffsetRows.{offsets_at};
 ghost use Rattle.reg_values.specs.ValueLists.{Became, KeepsSizes, Makes};
 ghost use Rattle.reg_values.specs.NewValues.{all_told, MayFollow, each_value_sizes, all_value_sizes};
-ghost use Rattle.reg_values.specs.Internal.ValueListParts.{Fills, HaveRoom, StandIn};
+ghost use Rattle.reg_values.specs.Internal.ValueListParts.{Fills, HaveRoom, StandBehind};
 
 use crate::ValuesList;
 use crate::add::put_value;
@@ -42,17 +45,15 @@ const NO_VALUES: ValuesList = ValuesList {
     offset: NONE,
 };
 
-/// How many of these values, counted from the first, [`make`] may be called with where their list is to have room for all of
-/// them: the most whose cells and list have at most 16,777,216 bytes together, their size fields counted.
-pub fn front_of_one_carve(values: &[NewValue<'_>]) -> usize
-    requires few { length values.now ≤ VALUES_LIMIT }
-    requires new { MayFollow [] (all_told values.now) }
+/// How many of these values, counted from the first, have cells of at most so many bytes together.
+fn front_within(most: u32, values: &[NewValue<'_>]) -> usize
+    requires { AllByRecursion IsSmallValue (all_told values.now) }
     ensures within { result ≤ length values.now }
-    ensures fits { total_of (all_value_sizes (length values.now) (take result (all_told values.now))) ≤ CARVE_LIMIT }
+    ensures fits { total_of (each_value_sizes (take result (all_told values.now))) ≤ most }
     ensures longest { result < length values.now →
-        CARVE_LIMIT < total_of (all_value_sizes (length values.now) (take (result + 1) (all_told values.now))) }
+        most < total_of (each_value_sizes (take (result + 1) (all_told values.now))) }
 {
-    let mut left = CARVE_LIMIT - cell_size(4 * values.len() as u32);
+    let mut left = most;
     for (index, value) in values.iter().enumerate() {
         let size = value_size(value);
         if size > left {
@@ -63,16 +64,44 @@ pub fn front_of_one_carve(values: &[NewValue<'_>]) -> usize
     values.len()
 }
 
-/// Writes values and their list into new cells of their sizes.
-fn fill(arena: &mut Arena, list: u32, cells: &[u32], values: &[NewValue<'_>])
-    requires some { 0 < length values.now }
+/// How many of these values, counted from the first, [`make`] may be called with where their list is to have room for all of
+/// them: the most whose cells and list have at most 16,777,216 bytes together, their size fields counted. Of one value or more it
+/// is at least one.
+pub fn front_of_one_carve(values: &[NewValue<'_>]) -> usize
     requires few { length values.now ≤ VALUES_LIMIT }
     requires new { MayFollow [] (all_told values.now) }
-    requires list { HasRoom (heap_of arena.old) list (4 * length values.now) }
+    ensures within { result ≤ length values.now }
+    ensures some { 0 < length values.now → 0 < result }
+    ensures fits { total_of (all_value_sizes (length values.now) (take result (all_told values.now))) ≤ CARVE_LIMIT }
+    ensures longest { result < length values.now →
+        CARVE_LIMIT < total_of (all_value_sizes (length values.now) (take (result + 1) (all_told values.now))) }
+{
+    front_within(CARVE_LIMIT - cell_size(4 * values.len() as u32), values)
+}
+
+/// How many of these values, counted from the first, [`extend`](crate::extend) may be called with: the most whose cells have at
+/// most 16,777,216 bytes together, their size fields counted. Of one value or more it is at least one.
+pub fn front_of_one_more_carve(values: &[NewValue<'_>]) -> usize
+    requires { AllByRecursion IsSmallValue (all_told values.now) }
+    ensures within { result ≤ length values.now }
+    ensures some { 0 < length values.now → 0 < result }
+    ensures fits { total_of (each_value_sizes (take result (all_told values.now))) ≤ CARVE_LIMIT }
+    ensures longest { result < length values.now →
+        CARVE_LIMIT < total_of (each_value_sizes (take (result + 1) (all_told values.now))) }
+{
+    front_within(CARVE_LIMIT, values)
+}
+
+/// Writes values into new cells of their sizes, and the offsets of these into a list's cell, from the place `first` on.
+pub(crate) fn fill(arena: &mut Arena, list: u32, first: u32, cells: &[u32], values: &[NewValue<'_>])
+    requires few { first + length values.now ≤ VALUES_LIMIT }
+    requires small { AllByRecursion IsSmallValue (all_told values.now) }
+    requires list { HasRoom (heap_of arena.old) list (4 * (first + length values.now)) }
     requires cells { HaveRoom (heap_of arena.old) cells.now (each_value_sizes (all_told values.now)) }
     requires apart { times list cells.now ≡ 0 }
     ensures fills { Fills (heap_of arena.old) (heap_of arena.new) (list ∷ cells.now) }
-    ensures stand { StandIn (heap_of arena.new) list (all_told values.now) cells.now }
+    ensures stand { StandBehind (heap_of arena.new) list first (all_told values.now) cells.now }
+    ensures front { offsets_at first 0 (held (heap_of arena.new) list) ≡ offsets_at first 0 (held (heap_of arena.old) list) }
     ensures long { length arena.new.bytes ≡ length arena.old.bytes }
 {
     let mut from = 0;
@@ -87,7 +116,7 @@ fn fill(arena: &mut Arena, list: u32, cells: &[u32], values: &[NewValue<'_>])
             value.kind,
             value.bytes,
         );
-        put_offset(arena, list, index as u32, cell);
+        put_offset(arena, list, first + index as u32, cell);
         from = behind;
     }
 }
@@ -107,6 +136,7 @@ fn make_sized(
     requires sizes { sizes.now ≡ all_value_sizes room (all_told values.now) }
     requires fits { total_of sizes.now ≤ CARVE_LIMIT }
     ensures ok { IfOk result (λ after. Became (heap_of arena.old) (heap_of arena.new) [] after.count after.offset (all_told values.now)) }
+    ensures room { IfOk result (λ after. HasRoom (heap_of arena.new) after.offset (4 * room)) }
     ensures cells { OnOk result (Makes (heap_of arena.old) (heap_of arena.new) sizes.now) }
     ensures stay { OnOk result (KeepsSizes (heap_of arena.old) (heap_of arena.new)) }
     ensures growth { OnOk result (GrowsFor arena.old.bytes arena.new.bytes sizes.now) }
@@ -122,7 +152,7 @@ fn make_sized(
     arena.carve(sizes, &mut cells)?;
     let all = cells.as_slice();
     let list = all[0];
-    fill(arena, list, &all[1..], values);
+    fill(arena, list, 0, &all[1..], values);
     Ok(ValuesList {
         count: values.len() as u32,
         offset: list,
@@ -148,6 +178,7 @@ pub fn make(
     requires new { MayFollow [] (all_told values.now) }
     requires fits { total_of (all_value_sizes room (all_told values.now)) ≤ CARVE_LIMIT }
     ensures ok { IfOk result (λ after. Became (heap_of arena.old) (heap_of arena.new) [] after.count after.offset (all_told values.now)) }
+    ensures room { IfOk result (λ after. 0 < after.count → HasRoom (heap_of arena.new) after.offset (4 * room)) }
     ensures cells { OnOk result (Makes (heap_of arena.old) (heap_of arena.new) (all_value_sizes room (all_told values.now))) }
     ensures stay { OnOk result (KeepsSizes (heap_of arena.old) (heap_of arena.new)) }
     ensures growth { OnOk result (GrowsFor arena.old.bytes arena.new.bytes (all_value_sizes room (all_told values.now))) }

@@ -3,6 +3,7 @@
 //! Suhanov, Windows registry file format specification, sections "Cell", "Key values list", "Key value" and "Big data".
 
 ghost use Rattle.std.specs.Prelude.{◌≡◌, true, ◌≤◌, ◌<◌, ◌+◌, ◌*◌, ◌++◌, [], length, IfOk, OnOk, IsSome, None, if◌then◌else◌};
+ghost use Rattle.std.specs.List.{AllByRecursion};
 ghost use Rattle.reg_names.specs.declared.TheConstants.{VALUE_NAME_LIMIT};
 ghost use Rattle.reg_names.specs.Names.{is_value_name};
 ghost use Rattle.reg_heap.specs.declared.limits.TheConstants.{DATA_LIMIT, VALUES_LIMIT};
@@ -10,7 +11,7 @@ ghost use Rattle.reg_heap.specs.Trees.{IsSmallValue};
 ghost use Rattle.reg_arena.specs.Arena.{heap_of};
 ghost use Rattle.reg_arena.specs.NewCells.{total_of};
 ghost use Rattle.reg_values.specs.ValueLists.{AreValues};
-ghost use Rattle.reg_values.specs.NewValues.{told, all_told, MayFollow, one_value_sizes, all_value_sizes};
+ghost use Rattle.reg_values.specs.NewValues.{told, all_told, one_value_sizes, each_value_sizes, all_value_sizes};
 ghost use Rattle.reg_values.specs.ValueSizes.{data_sizes, segment_sizes, list_sizes, room_for as room_of, has_room as has_room_of};
 ghost use Rattle.reg_values.specs.ValueSizes.{stays as stays_of, sizes_by, set_sizes};
 
@@ -143,6 +144,17 @@ fn plan_value(sizes: &mut Vec<u32>, value: &NewValue<'_>) -> Result<(), AllocErr
     plan_data(sizes, value.bytes.len())
 }
 
+/// Puts the sizes of the cells of values, those of each in their order, behind those of `sizes`.
+fn plan_values(sizes: &mut Vec<u32>, values: &[NewValue<'_>]) -> Result<(), AllocError>
+    requires { AllByRecursion IsSmallValue (all_told values.now) }
+    ensures { OnOk result (sizes.new.items ≡ sizes.old.items ++ each_value_sizes (all_told values.now)) }
+{
+    for value in values {
+        plan_value(sizes, value)?;
+    }
+    Ok(())
+}
+
 /// The sizes of the cells of all values of a key, with that of their list, which is to have room for so many values.
 pub(crate) fn plan_all(
     alloc: Global,
@@ -152,14 +164,23 @@ pub(crate) fn plan_all(
     requires some { 0 < length values.now }
     requires room { length values.now ≤ room }
     requires few { room ≤ VALUES_LIMIT }
-    requires new { MayFollow [] (all_told values.now) }
+    requires small { AllByRecursion IsSmallValue (all_told values.now) }
     ensures { IfOk result (λ sizes. sizes.items ≡ all_value_sizes room (all_told values.now)) }
 {
     let mut sizes = Vec::with_capacity(alloc, 2 * values.len() + 1)?;
     sizes.push(cell_size(4 * room as u32))?;
-    for value in values {
-        plan_value(&mut sizes, value)?;
-    }
+    plan_values(&mut sizes, values)?;
+    Ok(sizes)
+}
+
+/// The sizes of the cells of values that come behind those of a list, which has room for them.
+pub(crate) fn plan_more(alloc: Global, values: &[NewValue<'_>]) -> Result<Vec<u32>, AllocError>
+    requires few { length values.now ≤ VALUES_LIMIT }
+    requires small { AllByRecursion IsSmallValue (all_told values.now) }
+    ensures { IfOk result (λ sizes. sizes.items ≡ each_value_sizes (all_told values.now)) }
+{
+    let mut sizes = Vec::with_capacity(alloc, 2 * values.len())?;
+    plan_values(&mut sizes, values)?;
     Ok(sizes)
 }
 

@@ -5,7 +5,7 @@ use Rattle.reg_heap.specs.Paths.{Member}
 use Rattle.reg_heap.specs.Members.{same_name, values_with}
 
 module _ (P Q : Member → Type 0) (weaker : (m : Member) → P m → Q m) where
-  all-weaker : (members : List Member) → AllByRecursion P members → AllByRecursion Q members
+  pub all-weaker : (members : List Member) → AllByRecursion P members → AllByRecursion Q members
   all-weaker [] a = tt
   all-weaker (m ∷ members) a = (weaker m a.0, all-weaker members a.1)
 

@@ -1,5 +1,5 @@
 -- All values of a key built at once.
-use Rattle.std.proofs.Common.{◌≡◌, ℕ, zero, suc, ◌+◌, ◌*◌, ◌<◌, ◌≤◌, max, Some, IsSome, List, [], ◌∷◌, ◌++◌, length, drop, get_or}
+use Rattle.std.proofs.Common.{◌≡◌, ℕ, zero, suc, ◌+◌, ◌*◌, ◌<◌, ◌≤◌, max, Some, IsSome, List, [], ◌∷◌, length, drop, get_or}
 use Rattle.std.proofs.Common.{refl, sym, ap, ◌∙◌, subst, arith, add-one}
 use Rattle.std.specs.List.{AllByRecursion}
 use Rattle.std.specs.Ordering.{ord_max, nat_cmp}
@@ -16,8 +16,9 @@ use Rattle.reg_records.specs.KeyNodes.{KeyRecord, key_at}
 use Rattle.reg_shape.specs.Nodes.{members_at}
 use Rattle.reg_values.specs.declared.making.NewValue.{NewValue}
 use Rattle.reg_values.specs.ValueLists.{Became}
-use Rattle.reg_values.specs.NewValues.{told, all_told, MayFollow}
+use Rattle.reg_values.specs.NewValues.{told, all_told}
 use Rattle.reg_values.proofs.ValueData.CellSizeTotals.{value-name}
+use Rattle.reg_values.proofs.ValueChanges.ValuesPlanned.{small-at}
 use Rattle.reg_values.proofs.ValueListing.ValueListOpening.{members-length}
 use Rattle.reg_tree.specs.BuiltKeys.{with_values}
 use Rattle.reg_tree.specs.TreeKeys.{tree_in}
@@ -58,26 +59,16 @@ pub largest-end : (size : Member → ℕ) (values : List NewValue) (index most a
     max most (largest size (drop index (all_told values))) ≡ all → most ≡ all
 largest-end size values index most all l e = let n = ap (largest size) (past-told values index l) in omega (arith, n, e)
 
-small-in : (before : List Member) (values : List NewValue) (index : ℕ) (d : NewValue) → MayFollow before (all_told values) → index < length values →
-    IsSmallValue (told (get_or values index d))
-small-in before [] index d f l = absurd (omega (arith, l))
-small-in before (v ∷ values) zero d f l = f.0
-small-in before (v ∷ values) (suc index) d f l = small-in (before ++ told v ∷ []) values index d f.2 (omega (arith, l))
-
-pub small-at : (values : List NewValue) (index : ℕ) (d : NewValue) → MayFollow [] (all_told values) → index < length values →
-    IsSmallValue (told (get_or values index d))
-small-at values index d f l = small-in [] values index d f l
-
-pub name-at : (values : List NewValue) (index : ℕ) (d : NewValue) → MayFollow [] (all_told values) → index < length values →
+pub name-at : (values : List NewValue) (index : ℕ) (d : NewValue) → AllByRecursion IsSmallValue (all_told values) → index < length values →
     length (get_or values index d).name.now ≤ VALUE_NAME_LIMIT
 name-at values index d f l = value-name (get_or values index d).name.now (small-at values index d f l).name
 
-names-under : (X L : ℕ) (members : List Member) → largest (λ m. length m.name) members ≤ L →
+pub names-under : (X L : ℕ) (members : List Member) → largest (λ m. length m.name) members ≤ L →
     AllByRecursion (λ (m : Member). 2 * length m.name ≤ max X (2 * L)) members
 names-under X L [] l = tt
 names-under X L (m ∷ members) l = (omega (arith, l), names-under X L members (omega (arith, l)))
 
-data-under : (X L : ℕ) (members : List Member) → largest (λ m. length m.bytes) members ≤ L →
+pub data-under : (X L : ℕ) (members : List Member) → largest (λ m. length m.bytes) members ≤ L →
     AllByRecursion (λ (m : Member). length m.bytes ≤ max X L) members
 data-under X L [] l = tt
 data-under X L (m ∷ members) l = (omega (arith, l), data-under X L members (omega (arith, l)))

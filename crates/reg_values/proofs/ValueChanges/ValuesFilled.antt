@@ -5,19 +5,22 @@ use Rattle.std.proofs.lemmas.List.{take-append-drop, drop-drop}
 use Rattle.std.proofs.lemmas.Option.{none-some, same_Some}
 use Rattle.std.proofs.lemmas.Bool.{eqb-true}
 use Rattle.reg_heap.specs.Paths.{Member}
+use Rattle.reg_heap.specs.ByteWords.{word}
 use Rattle.reg_heap.specs.Heaps.{Heap, allocated}
 use Rattle.reg_heap.specs.Kinds.{Found, owned, times}
 use Rattle.reg_records.specs.RecordCells.{HasRoom, held}
 use Rattle.reg_records.specs.OffsetRows.{offsets_at, offset_in}
-use Rattle.reg_shape.proofs.Walking.InnerReadings.{member-inner}
+use Rattle.reg_shape.specs.Nodes.{member_at}
+use Rattle.reg_shape.specs.Written.{IsWrittenValue}
+use Rattle.reg_shape.proofs.Walking.InnerReadings.{eaches, member-inner}
 use Rattle.reg_values.specs.ValueSizes.{data_sizes}
 use Rattle.reg_values.specs.NewValues.{one_value_sizes, each_value_sizes}
-use Rattle.reg_values.specs.Internal.ValueListParts.{Fills, HaveRoom, HoldsValue, StandIn}
+use Rattle.reg_values.specs.Internal.ValueListParts.{Fills, HaveRoom, HoldsValue, StandBehind}
 use Rattle.reg_values.proofs.ValueData.FilledCells.{fills-none, fills-in, fills-then, fills-room, fills-same}
 use Rattle.reg_values.proofs.ValueData.NewCellRoom.{room-tail, room-less}
 use Rattle.reg_values.proofs.ValueFreeing.FrameChains.{times-append, owned-append, there-one}
-use Rattle.reg_values.proofs.ValueListing.ValueListFrame.{AreRead, values-join, values-one, values-kept, closed, closed-written, list-made}
-use Rattle.reg_values.proofs.ValueChanges.ValueListGrown.{row-pushed}
+use Rattle.reg_values.proofs.ValueListing.ValueListFrame.{AreRead, values-join, values-one, values-kept}
+use Rattle.reg_values.proofs.ValueChanges.OffsetRemoved.{offsets-append, offsets-same}
 use Rattle.reg_values.proofs.ValueChanges.ValuesPlanned.{take-more, take-all}
 
 -- ---- room in parts
@@ -61,26 +64,45 @@ next-member members index m e = by members index e ∙ ap (λ i. m ∷ drop i me
     by (x ∷ members) zero e = ap (λ m. m ∷ members) (same_Some _ _ e)
     by (x ∷ members) (suc index) e = by members index e
 
+-- one offset more at the end of a part of a row
+row-longer : (c d : List ℕ) (first n cell : ℕ) → offset_in d (first + n) ≡ cell → ((j : ℕ) → j < n → offset_in d (first + j) ≡ offset_in c (first + j)) →
+    offsets_at (n + 1) (4 * first) d ≡ offsets_at n (4 * first) c ++ cell ∷ []
+unfolding offset_in offsets_at
+row-longer c d first n cell e f =
+    let at : (j : ℕ) → 4 * first + 4 * j ≡ 4 * (first + j) = λ j. omega arith in
+    offsets-append n 1 (4 * first) d
+    ∙ ap (λ w. offsets_at n (4 * first) d ++ w ∷ []) (ap (word d) (at n) ∙ e)
+    ∙ ap (λ xs. xs ++ cell ∷ []) (offsets-same n (4 * first) (4 * first) c d (λ j l. ap (word d) (at j) ∙ (f j l ∙ ap (word c) (sym (at j)))))
+
+-- the part before a place
+row-before : (c d : List ℕ) (first : ℕ) → ((j : ℕ) → j < first → offset_in d j ≡ offset_in c j) → offsets_at first 0 d ≡ offsets_at first 0 c
+unfolding offset_in
+row-before c d first f =
+    offsets-same first 0 0 c d (λ j l. let z : 0 + 4 * j ≡ 4 * j = omega arith in ap (word d) z ∙ (f j l ∙ ap (word c) (sym z)))
+
 -- ---- so many values stand in their cells
 
-pub record AreFilled (h0 h : Heap) (list : ℕ) (cells : List ℕ) (members : List Member) (index from : ℕ) : Type 0 where
+pub record AreFilled (h0 h : Heap) (list first : ℕ) (cells : List ℕ) (members : List Member) (index from : ℕ) : Type 0 where
   pub fills : Fills h0 h (list ∷ cells)
   pub left : HaveRoom h (drop from cells) (each_value_sizes (drop index members))
   pub met : List Found
-  pub values : AreRead h (offsets_at index 0 (held h list)) (take index members) met
+  pub values : AreRead h (offsets_at index (4 * first) (held h list)) (take index members) met
+  pub front : offsets_at first 0 (held h list) ≡ offsets_at first 0 (held h0 list)
   pub exact : (z : ℕ) → owned z met + times z (drop from cells) ≡ times z cells
 
-pub none-filled : (h : Heap) (list : ℕ) (cells : List ℕ) (members : List Member) → HaveRoom h cells (each_value_sizes members) → AreFilled h h list cells members 0 0
+pub none-filled : (h : Heap) (list first : ℕ) (cells : List ℕ) (members : List Member) → HaveRoom h cells (each_value_sizes members) →
+    AreFilled h h list first cells members 0 0
 unfolding offsets_at
-none-filled h list cells members r = record {
+none-filled h list first cells members r = record {
   fills = fills-none h (list ∷ cells);
   left = r;
   met = [];
   values = record { reads = refl; written = tt; inner = tt };
+  front = refl;
   exact = λ z. omega arith;
 }
 
-module _ (h0 h : Heap) (list : ℕ) (cells : List ℕ) (members : List Member) (index from : ℕ) (a : AreFilled h0 h list cells members index from)
+module _ (h0 h : Heap) (list first : ℕ) (cells : List ℕ) (members : List Member) (index from : ℕ) (a : AreFilled h0 h list first cells members index from)
     (m : Member) (here : slice_get members index ≡ Some m) (behind : ℕ) (behind_is : behind ≡ from + 1 + length (data_sizes (length m.bytes))) where
   abbrev cell : ℕ
   cell = get_or cells from 0
@@ -120,9 +142,11 @@ module _ (h0 h : Heap) (list : ℕ) (cells : List ℕ) (members : List Member) (
   split : (z : ℕ) → times z (drop from cells) ≡ times z (cell ∷ data_of) + times z (drop behind cells)
   split z = ap (times z) parts ∙ times-append z (cell ∷ data_of) (drop behind cells)
 
-  module _ (free : times list cells ≡ 0) (base : (z : ℕ) → times z (list ∷ cells) ≤ allocated h0 z) (room : HasRoom h0 list (4 * length members)) where
-    pub list-room : HasRoom h list (4 * index + 4)
-    list-room = room-less h list (4 * length members) (4 * index + 4) (let l = there members index here in omega (arith, l)) (fills-room h0 h (list ∷ cells) list _ a.fills room)
+  module _ (free : times list cells ≡ 0) (base : (z : ℕ) → times z (list ∷ cells) ≤ allocated h0 z) (room : HasRoom h0 list (4 * (first + length members))) where
+    pub list-room : HasRoom h list (4 * (first + index) + 4)
+    list-room =
+        room-less h list (4 * (first + length members)) (4 * (first + index) + 4) (let l = there members index here in omega (arith, l))
+        (fills-room h0 h (list ∷ cells) list _ a.fills room)
       where
         there : (ms : List Member) (i : ℕ) → slice_get ms i ≡ Some m → i < length ms
         there [] i e = absurd (none-some _ e)
@@ -130,7 +154,7 @@ module _ (h0 h : Heap) (list : ℕ) (cells : List ℕ) (members : List Member) (
         there (x ∷ ms) (suc i) e = let t = there ms i e in omega (arith, t)
 
     module _ (h2 h3 : Heap) (f : Fills h h2 (cell ∷ data_of)) (v : HoldsValue h2 cell m (cell ∷ data_of)) (w : Fills h2 h3 (list ∷ []))
-        (put : offset_in (held h3 list) index ≡ cell) (others : (other : ℕ) → other ≢ index → offset_in (held h3 list) other ≡ offset_in (held h2 list) other) where
+        (put : offset_in (held h3 list) (first + index) ≡ cell) (others : (other : ℕ) → other ≢ first + index → offset_in (held h3 list) other ≡ offset_in (held h2 list) other) where
       all-there : (z : ℕ) → times z (list ∷ []) + owned z a.met + times z (cell ∷ data_of) + times z (drop behind cells) ≤ allocated h z
       all-there z = let b = base z in let c = a.fills.writes.count z in let e = a.exact z in let s = split z in omega (arith, b, c, e, s)
 
@@ -140,21 +164,28 @@ module _ (h0 h : Heap) (list : ℕ) (cells : List ℕ) (members : List Member) (
       apart : times list (cell ∷ data_of) ≡ 0
       apart = let e = a.exact list in let s = split list in omega (arith, e, s, free)
 
-      row2 : offsets_at index 0 (held h2 list) ≡ offsets_at index 0 (held h list)
-      row2 = ap (λ o. offsets_at index 0 (held (λ _. o) list)) (fills-same h h2 (cell ∷ data_of) list f apart)
+      row2 : (n at : ℕ) → offsets_at n at (held h2 list) ≡ offsets_at n at (held h list)
+      row2 n at = ap (λ o. offsets_at n at (held (λ _. o) list)) (fills-same h h2 (cell ∷ data_of) list f apart)
 
-      row3 : offsets_at (index + 1) 0 (held h3 list) ≡ offsets_at index 0 (held h list) ++ cell ∷ []
-      row3 = row-pushed (held h2 list) (held h3 list) index cell put (λ j l. others j (λ e. absurd (omega (arith, l, e)))) ∙ ap (λ xs. xs ++ cell ∷ []) row2
+      row3 : offsets_at (index + 1) (4 * first) (held h3 list) ≡ offsets_at index (4 * first) (held h list) ++ cell ∷ []
+      row3 =
+          row-longer (held h2 list) (held h3 list) first index cell put (λ j l. others (first + j) (λ e. absurd (omega (arith, l, e))))
+          ∙ ap (λ xs. xs ++ cell ∷ []) (row2 index (4 * first))
 
-      values3 : AreRead h3 (offsets_at index 0 (held h list) ++ cell ∷ []) (take index members ++ m ∷ []) (a.met ++ v.met)
+      front3 : offsets_at first 0 (held h3 list) ≡ offsets_at first 0 (held h0 list)
+      front3 =
+          row-before (held h2 list) (held h3 list) first (λ j l. others j (λ e. absurd (omega (arith, l, e))))
+          ∙ (row2 first 0 ∙ a.front)
+
+      values3 : AreRead h3 (offsets_at index (4 * first) (held h list) ++ cell ∷ []) (take index members ++ m ∷ []) (a.met ++ v.met)
       values3 =
           let a2 = values-kept h h2 _ _ f.writes _ _ _ (λ z. let t = all-there z in omega (arith, t)) a.values in
           let a3 = values-kept h2 h3 _ _ w.writes _ _ _ (λ z. let t = all-there2 z in omega (arith, t)) a2 in
           let b2 = values-one h2 cell m v.met v.reads v.written (member-inner h2 cell (m, v.met) v.reads) in
           let b3 = values-kept h2 h3 _ _ w.writes _ _ _ (λ z. let t = all-there2 z in let o = v.owns z in omega (arith, t, o)) b2 in
-          values-join h3 (offsets_at index 0 (held h list)) (cell ∷ []) (take index members) (m ∷ []) a.met v.met a3 b3
+          values-join h3 (offsets_at index (4 * first) (held h list)) (cell ∷ []) (take index members) (m ∷ []) a.met v.met a3 b3
 
-      pub one-filled : AreFilled h0 h3 list cells members (index + 1) behind
+      pub one-filled : AreFilled h0 h3 list first cells members (index + 1) behind
       one-filled = record {
         fills = fills-then h0 h h3 (list ∷ cells) a.fills (fills-then h h2 h3 (list ∷ cells)
             (fills-in h h2 (cell ∷ data_of) (list ∷ cells) (λ z. let e = a.exact z in let s = split z in omega (arith, e, s)) f)
@@ -163,7 +194,8 @@ module _ (h0 h : Heap) (list : ℕ) (cells : List ℕ) (members : List Member) (
             (room-back h (cell ∷ data_of) (drop behind cells) (one_value_sizes m) (each_value_sizes (drop (index + 1) members)) data-long rooms));
         met = a.met ++ v.met;
         values = subst (λ row. AreRead h3 row (take (index + 1) members) (a.met ++ v.met)) (sym row3)
-            (subst (λ ms. AreRead h3 (offsets_at index 0 (held h list) ++ cell ∷ []) ms (a.met ++ v.met)) (sym more) values3);
+            (subst (λ ms. AreRead h3 (offsets_at index (4 * first) (held h list) ++ cell ∷ []) ms (a.met ++ v.met)) (sym more) values3);
+        front = front3;
         exact = λ z. (let e = a.exact z in let s = split z in let o = v.owns z in omega (arith, e, s, o, owned-append z a.met v.met));
       }
         where
@@ -207,18 +239,25 @@ none-in : (xs : List ℕ) → length xs ≡ 0 → (z : ℕ) → times z xs ≡ 0
 none-in [] e z = refl
 none-in (x ∷ xs) e z = absurd (omega (arith, e))
 
-pub all-filled : (h0 h : Heap) (list : ℕ) (cells : List ℕ) (members : List Member) (index from : ℕ) → AreFilled h0 h list cells members index from →
-    0 < length members → index ≡ length members → HasRoom h0 list (4 * length members) → StandIn h list members cells
-all-filled h0 h list cells members index from a some all room =
+pub all-filled : (h0 h : Heap) (list first : ℕ) (cells : List ℕ) (members : List Member) (index from : ℕ) →
+    AreFilled h0 h list first cells members index from → index ≡ length members → StandBehind h list first members cells
+all-filled h0 h list first cells members index from a all =
     let n = length members in
-    let r = fills-room h0 h (list ∷ cells) list (4 * n) a.fills room in
     let none = a.left.as_many ∙ ap (λ ms. length (each_value_sizes ms)) (drop-all members index all) in
-    let read = list-made h n list some r.exists r.enough in
-    let values = subst (λ ms. AreRead h (offsets_at n 0 (held h list)) ms a.met) (take-all members n (omega arith))
-    (subst (λ i. AreRead h (offsets_at i 0 (held h list)) (take i members) a.met) all a.values) in
+    let values = subst (λ ms. AreRead h (offsets_at n (4 * first) (held h list)) ms a.met) (take-all members n (omega arith))
+    (subst (λ i. AreRead h (offsets_at i (4 * first) (held h list)) (take i members) a.met) all a.values) in
     record {
       met = a.met;
-      reads = closed h n list (offsets_at n 0 (held h list)) members _ a.met read values;
+      reads = values.reads;
       owns = λ z. (let e = a.exact z in let z0 = none-in (drop from cells) none z in omega (arith, e, z0));
-      written = closed-written h n list (offsets_at n 0 (held h list)) members _ a.met read values;
+      written = values.written;
     }
+
+-- what stands behind the first of a list reads as values
+pub stand-read : (h : Heap) (list first : ℕ) (members : List Member) (cells : List ℕ) (s : StandBehind h list first members cells) →
+    AreRead h (offsets_at (length members) (4 * first) (held h list)) members s.met
+stand-read h list first members cells s = record {
+  reads = s.reads;
+  written = s.written;
+  inner = eaches (IsWrittenValue h) member_at h (λ offset y k c. member-inner h offset y c) (offsets_at (length members) (4 * first) (held h list)) s.written (members, s.met) s.reads;
+}

@@ -14,30 +14,33 @@ use Rattle.reg_arena.specs.EachCell.{GrowsFor}
 use Rattle.reg_arena.proofs.Carving.BinGrowth.{bin-long}
 use Rattle.reg_arena.proofs.Carving.FreshBins.{fresh-is, fresh-together}
 use Rattle.reg_arena.specs.NewCells.{AreSizes, cell_size, total_of}
-use Rattle.reg_records.specs.RecordCells.{HasRoom}
+use Rattle.reg_records.specs.RecordCells.{HasRoom, held}
 use Rattle.reg_records.specs.OffsetRows.{offsets_at}
 use Rattle.reg_shape.specs.Written.{AreWritten, Pairwise}
 use Rattle.reg_values.specs.ValueLists.{Became, Makes}
 use Rattle.reg_values.specs.declared.making.NewValue.{NewValue}
 use Rattle.reg_values.specs.NewValues.{all_told, MayFollow, each_value_sizes, all_value_sizes}
-use Rattle.reg_values.specs.Internal.ValueListParts.{Fills, HaveRoom, StandIn}
+use Rattle.reg_values.specs.Internal.ValueListParts.{Fills, HaveRoom, StandBehind}
 use Rattle.reg_values.proofs.ValueData.NewCellRoom.{new-room, room-tail, room-head, list-one-more}
 use Rattle.reg_values.proofs.ValueData.CellSizeTotals.{makes}
 use Rattle.reg_values.proofs.ValueFreeing.FrameChains.{times-same, frame-none, frame-then, frame-with}
+use Rattle.reg_values.proofs.ValueData.FilledCells.{fills-room}
+use Rattle.reg_values.proofs.ValueListing.ValueListFrame.{closed, list-made}
 use Rattle.reg_values.proofs.ValueListing.NamedValues.{Apart, new-apart, pairs-push}
 use Rattle.reg_values.proofs.ValueChanges.ValuesPlanned.{all-sizes}
+use Rattle.reg_values.proofs.ValueChanges.ValuesFilled.{stand-read}
 
 -- ---- values that may follow one another are as they may stand in a list
 
-follow-names : (members before : List Member) → MayFollow before members → AllByRecursion (λ (m : Member). is_value_name m.name ≡ true) members
+pub follow-names : (members before : List Member) → MayFollow before members → AllByRecursion (λ (m : Member). is_value_name m.name ≡ true) members
 follow-names [] before f = tt
 follow-names (m ∷ members) before f = (f.0.name, follow-names members (before ++ m ∷ []) f.2)
 
-follow-sizes : (members before : List Member) → MayFollow before members → AllByRecursion (λ (m : Member). length m.bytes ≤ DATA_LIMIT) members
+pub follow-sizes : (members before : List Member) → MayFollow before members → AllByRecursion (λ (m : Member). length m.bytes ≤ DATA_LIMIT) members
 follow-sizes [] before f = tt
 follow-sizes (m ∷ members) before f = (f.0.bytes, follow-sizes members (before ++ m ∷ []) f.2)
 
-follow-apart : (members before : List Member) → MayFollow before members → Pairwise Apart before → Pairwise Apart (before ++ members)
+pub follow-apart : (members before : List Member) → MayFollow before members → Pairwise Apart before → Pairwise Apart (before ++ members)
 follow-apart [] before f p = subst (Pairwise Apart) (sym (append-nil before)) p
 follow-apart (m ∷ members) before f p =
     subst (Pairwise Apart) (append_assoc before (m ∷ []) members)
@@ -74,14 +77,21 @@ module _ (h0 h1 : Heap) (all : List ℕ) (l : ℕ) (ss : List ℕ) (a : AreNew h
     pub filled-makes : AreSizes (l ∷ ss) → Makes h0 h2 (l ∷ ss)
     filled-makes ok = makes h0 h1 h2 all (l ∷ ss) a ok (λ z. let c = f.writes.count z in omega (arith, c)) (λ z p. f.sizes z)
 
-    pub together : (members : List Member) → StandIn h2 list_cell members other_cells → MayFollow [] members → 0 < length members → length members ≤ VALUES_LIMIT →
+    pub list-space2 : HasRoom h2 list_cell (l - 4)
+    list-space2 = fills-room h1 h2 (list_cell ∷ other_cells) list_cell (l - 4) f list-space
+
+    pub together : (members : List Member) → 4 * length members ≤ l - 4 → StandBehind h2 list_cell 0 members other_cells → MayFollow [] members → 0 < length members → length members ≤ VALUES_LIMIT →
         Became h0 h2 [] (length members) list_cell members
-    together members s follow some few =
+    together members enough s follow some few =
+        let n = length members in
+        let r = list-space2 in
+        let long = r.enough in
+        let read = list-made h2 n list_cell some r.exists (omega (arith, long, enough)) in
         let came : (z : ℕ) → owned z (record { kind = ValueList; offset = list_cell } ∷ s.met) ≡ times z all =
         λ z. (let o = s.owns z in let e = ap (times z) cells-are in omega (arith, o, e)) in
         record {
           cells = record { kind = ValueList; offset = list_cell } ∷ s.met;
-          reads = s.reads;
+          reads = closed h2 n list_cell (offsets_at n 0 (held h2 list_cell)) members _ s.met read (stand-read h2 list_cell 0 members other_cells s);
           frame = frame-then h0 h1 h2 (λ z. owned z []) (λ z. times z all) (λ z. owned z (record { kind = ValueList; offset = list_cell } ∷ s.met)) a.come
               (frame-with h1 h2 (λ z. times z (list_cell ∷ other_cells)) (λ z. times z (list_cell ∷ other_cells)) (λ z. 0) (λ z. times z all)
               (λ z. owned z (record { kind = ValueList; offset = list_cell } ∷ s.met)) f.writes

@@ -1,16 +1,16 @@
 -- The parts of a list of values, and what is written into cells (Suhanov, Windows registry file format specification, "Key
 -- values list", "Big data").
-use Rattle.std.specs.Prelude.{◌≡◌, ℕ, ◌+◌, ◌-◌, ◌<◌, ◌≤◌, zero, suc, nat_le, List, [], ◌∷◌, length, get_or, Some}
+use Rattle.std.specs.Prelude.{◌≡◌, ℕ, ◌+◌, ◌-◌, ◌*◌, ◌<◌, ◌≤◌, zero, suc, nat_le, List, [], length, get_or, Some}
 use Rattle.std.specs.List.{AllByRecursion}
 use Rattle.reg_heap.specs.Heaps.{Heap, CellFrame, Writes, allocated}
 use Rattle.reg_heap.specs.Kinds.{Found, times, owned}
 use Rattle.reg_heap.specs.Kinds.Kind.{ValueList}
-use Rattle.reg_shape.specs.Readings.{Reading, give}
+use Rattle.reg_shape.specs.Readings.{Reading, give, each}
 use Rattle.reg_heap.specs.Paths.{Member}
 use Rattle.reg_records.specs.RecordCells.{HasRoom, held}
 use Rattle.reg_records.specs.OffsetRows.{offsets_at}
 use Rattle.reg_records.specs.BigData.{segment_size, is_inline, segments_for, segments}
-use Rattle.reg_shape.specs.Nodes.{pieces_at, row_at, data_by, member_at, members_at}
+use Rattle.reg_shape.specs.Nodes.{pieces_at, row_at, data_by, member_at}
 use Rattle.reg_shape.specs.Written.{IsWrittenData, IsWrittenValue}
 
 -- the bytes of the segments of data of a size, whose offsets stand at the start of a list's content
@@ -85,9 +85,9 @@ pub record Keeps (old new : Heap) (cells : List ℕ) : Type 0 where
   pub fewer : (offset : ℕ) → allocated new offset ≤ allocated old offset
   pub sizes : (offset : ℕ) → 0 < times offset cells → length (held new offset) ≡ length (held old offset)
 
--- these values stand in a list's cell, with a record each, and what is met of theirs are just these cells
-pub record StandIn (heap : Heap) (list : ℕ) (members : List Member) (cells : List ℕ) : Type 0 where
+-- these values stand in a list's cell behind its first few, with a record each, and what is met of theirs are just these cells
+pub record StandBehind (heap : Heap) (list first : ℕ) (members : List Member) (cells : List ℕ) : Type 0 where
   pub met : List Found
-  pub reads : members_at (length members) list heap ≡ Some (members, record { kind = ValueList; offset = list } ∷ met)
+  pub reads : each member_at (offsets_at (length members) (4 * first) (held heap list)) heap ≡ Some (members, met)
   pub owns : (offset : ℕ) → owned offset met ≡ times offset cells
-  pub written : AllByRecursion (IsWrittenValue heap) (offsets_at (length members) 0 (held heap list))
+  pub written : AllByRecursion (IsWrittenValue heap) (offsets_at (length members) (4 * first) (held heap list))

@@ -1,7 +1,8 @@
 use Rattle.std.proofs.Common.{arith, length, []}
 use Rattle.reg_heap.specs.Paths.{Member}
 use Rattle.reg_values.specs.declared.making.NewValue.{NewValue}
-use Rattle.reg_tree.proofs.ValueChange.ValuesBuilt.{larger, largest-put, largest-end, small-at}
+use Rattle.reg_values.proofs.ValueChanges.ValuesPlanned.{small-at}
+use Rattle.reg_tree.proofs.ValueChange.ValuesBuilt.{larger, largest-put, largest-end}
 use Rattle.reg_tree.proofs.build_values.largest_data.Goals as goal
 
 -- what stands behind a list's end

@@ -6,7 +6,7 @@ use Rattle.reg_values.specs.ValueSizes.{data_sizes}
 use Rattle.reg_values.specs.NewValues.{told, all_told}
 use Rattle.reg_values.proofs.ValueData.CellSizeTotals.{value-name}
 use Rattle.reg_values.proofs.ValueData.FilledCells.{fills-cell}
-use Rattle.reg_values.proofs.ValueChanges.ValuesPlanned.{follows-at, turn, told-length}
+use Rattle.reg_values.proofs.ValueChanges.ValuesPlanned.{small-at, turn, told-length}
 use Rattle.reg_values.proofs.ValueChanges.ValuesFilled.{none-filled, within, first-within, one-rooms, one-filled, all-filled, base-of}
 use Rattle.reg_values.proofs.making.fill.Goals as goal
 
@@ -16,7 +16,7 @@ none = record { name = record { ref_ptr = (0, 0); now = [] }; kind = 0; bytes = 
 
 pub loop-index-init : goal.loop-index-init
 loop-index-init c = record {
-  filled = none-filled (heap_of c.args.arena.now) c.args.list c.args.cells.now (all_told c.args.values.now) c.requires.cells;
+  filled = none-filled (heap_of c.args.arena.now) c.args.list c.args.first c.args.cells.now (all_told c.args.values.now) c.requires.cells;
   long = refl;
 }
 
@@ -28,7 +28,7 @@ offset_bounds-cells-from c =
     let i = c.loop-index.index in
     let a = c.loop-index.invariant.filled in
     let here = turn values i none c.loop-index-test.true in
-    let w = first-within h0 h c.args.list c.args.cells.now (all_told values) i c.loop-index.from a (told (get_or values i none)) here (c.loop-index.from + 1 + length (data_sizes (length (get_or values i none).bytes.now))) refl in
+    let w = first-within h0 h c.args.list c.args.first c.args.cells.now (all_told values) i c.loop-index.from a (told (get_or values i none)) here (c.loop-index.from + 1 + length (data_sizes (length (get_or values i none).bytes.now))) refl in
     omega (arith, w)
 
 pub bounds-cells-from : goal.bounds-cells-from
@@ -39,7 +39,7 @@ bounds-cells-from c =
     let i = c.loop-index.index in
     let a = c.loop-index.invariant.filled in
     let here = turn values i none c.loop-index-test.true in
-    first-within h0 h c.args.list c.args.cells.now (all_told values) i c.loop-index.from a (told (get_or values i none)) here (c.loop-index.from + 1 + length (data_sizes (length (get_or values i none).bytes.now))) refl
+    first-within h0 h c.args.list c.args.first c.args.cells.now (all_told values) i c.loop-index.from a (told (get_or values i none)) here (c.loop-index.from + 1 + length (data_sizes (length (get_or values i none).bytes.now))) refl
 
 pub overflow_add-behind : goal.overflow_add-behind
 overflow_add-behind c =
@@ -49,12 +49,12 @@ overflow_add-behind c =
     let i = c.loop-index.index in
     let a = c.loop-index.invariant.filled in
     let here = turn values i none c.loop-index-test.true in
-    let w = first-within h0 h c.args.list c.args.cells.now (all_told values) i c.loop-index.from a (told (get_or values i none)) here (c.loop-index.from + 1 + length (data_sizes (length (get_or values i none).bytes.now))) refl in
+    let w = first-within h0 h c.args.list c.args.first c.args.cells.now (all_told values) i c.loop-index.from a (told (get_or values i none)) here (c.loop-index.from + 1 + length (data_sizes (length (get_or values i none).bytes.now))) refl in
     omega (arith, w)
 
 pub data_cells-requires : goal.data_cells-requires
 data_cells-requires c =
-    (follows-at [] (all_told c.args.values.now) c.requires.new c.loop-index.index _ (turn c.args.values.now c.loop-index.index none c.loop-index-test.true)).small.bytes
+    (small-at c.args.values.now c.loop-index.index none c.requires.small c.loop-index-test.true).bytes
 
 pub overflow_add-behind-in-loop-index : goal.overflow_add-behind-in-loop-index
 overflow_add-behind-in-loop-index c =
@@ -64,7 +64,7 @@ overflow_add-behind-in-loop-index c =
     let i = c.loop-index.index in
     let a = c.loop-index.invariant.filled in
     let here = turn values i none c.loop-index-test.true in
-    let w = within h0 h c.args.list c.args.cells.now (all_told values) i c.loop-index.from a (told (get_or values i none)) here (c.loop-index.from + 1 + c.data_cells.result) (ap (λ n. c.loop-index.from + 1 + n) c.data_cells.ensures) in
+    let w = within h0 h c.args.list c.args.first c.args.cells.now (all_told values) i c.loop-index.from a (told (get_or values i none)) here (c.loop-index.from + 1 + c.data_cells.result) (ap (λ n. c.loop-index.from + 1 + n) c.data_cells.ensures) in
     omega (arith, w)
 
 pub overflow_add-from : goal.overflow_add-from
@@ -75,7 +75,7 @@ overflow_add-from c =
     let i = c.loop-index.index in
     let a = c.loop-index.invariant.filled in
     let here = turn values i none c.loop-index-test.true in
-    let w = first-within h0 h c.args.list c.args.cells.now (all_told values) i c.loop-index.from a (told (get_or values i none)) here (c.loop-index.from + 1 + length (data_sizes (length (get_or values i none).bytes.now))) refl in
+    let w = first-within h0 h c.args.list c.args.first c.args.cells.now (all_told values) i c.loop-index.from a (told (get_or values i none)) here (c.loop-index.from + 1 + length (data_sizes (length (get_or values i none).bytes.now))) refl in
     omega (arith, w)
 
 pub offset_bounds-cells-from-in-loop-index : goal.offset_bounds-cells-from-in-loop-index
@@ -86,7 +86,7 @@ offset_bounds-cells-from-in-loop-index c =
     let i = c.loop-index.index in
     let a = c.loop-index.invariant.filled in
     let here = turn values i none c.loop-index-test.true in
-    let w = within h0 h c.args.list c.args.cells.now (all_told values) i c.loop-index.from a (told (get_or values i none)) here (c.loop-index.from + 1 + c.data_cells.result) (ap (λ n. c.loop-index.from + 1 + n) c.data_cells.ensures) in
+    let w = within h0 h c.args.list c.args.first c.args.cells.now (all_told values) i c.loop-index.from a (told (get_or values i none)) here (c.loop-index.from + 1 + c.data_cells.result) (ap (λ n. c.loop-index.from + 1 + n) c.data_cells.ensures) in
     omega (arith, w)
 
 pub slice_bounds-put_value-end : goal.slice_bounds-put_value-end
@@ -97,15 +97,15 @@ slice_bounds-put_value-end c =
     let i = c.loop-index.index in
     let a = c.loop-index.invariant.filled in
     let here = turn values i none c.loop-index-test.true in
-    within h0 h c.args.list c.args.cells.now (all_told values) i c.loop-index.from a (told (get_or values i none)) here (c.loop-index.from + 1 + c.data_cells.result) (ap (λ n. c.loop-index.from + 1 + n) c.data_cells.ensures)
+    within h0 h c.args.list c.args.first c.args.cells.now (all_told values) i c.loop-index.from a (told (get_or values i none)) here (c.loop-index.from + 1 + c.data_cells.result) (ap (λ n. c.loop-index.from + 1 + n) c.data_cells.ensures)
 
 pub put_value-requires-clause-name : goal.put_value-requires-clause-name
 put_value-requires-clause-name c =
-    value-name _ (follows-at [] (all_told c.args.values.now) c.requires.new c.loop-index.index _ (turn c.args.values.now c.loop-index.index none c.loop-index-test.true)).small.name
+    value-name _ (small-at c.args.values.now c.loop-index.index none c.requires.small c.loop-index-test.true).name
 
 pub put_value-requires-clause-small : goal.put_value-requires-clause-small
 put_value-requires-clause-small c =
-    (follows-at [] (all_told c.args.values.now) c.requires.new c.loop-index.index _ (turn c.args.values.now c.loop-index.index none c.loop-index-test.true)).small.bytes
+    (small-at c.args.values.now c.loop-index.index none c.requires.small c.loop-index-test.true).bytes
 
 pub put_value-requires-clause-cells : goal.put_value-requires-clause-cells
 put_value-requires-clause-cells c =
@@ -115,7 +115,7 @@ put_value-requires-clause-cells c =
     let i = c.loop-index.index in
     let a = c.loop-index.invariant.filled in
     let here = turn values i none c.loop-index-test.true in
-    one-rooms h0 h c.args.list c.args.cells.now (all_told values) i c.loop-index.from a (told (get_or values i none)) here (c.loop-index.from + 1 + c.data_cells.result) (ap (λ n. c.loop-index.from + 1 + n) c.data_cells.ensures)
+    one-rooms h0 h c.args.list c.args.first c.args.cells.now (all_told values) i c.loop-index.from a (told (get_or values i none)) here (c.loop-index.from + 1 + c.data_cells.result) (ap (λ n. c.loop-index.from + 1 + n) c.data_cells.ensures)
 
 pub loop-index-preserved : goal.loop-index-preserved
 loop-index-preserved c =
@@ -129,10 +129,10 @@ loop-index-preserved c =
     let v = c.put_value.ensures.long in
     let o = c.put_offset.ensures.written.long in
     record {
-      filled = one-filled h0 h c.args.list c.args.cells.now (all_told values) i c.loop-index.from a (told (get_or values i none)) here
+      filled = one-filled h0 h c.args.list c.args.first c.args.cells.now (all_told values) i c.loop-index.from a (told (get_or values i none)) here
           (c.loop-index.from + 1 + c.data_cells.result) (ap (λ n. c.loop-index.from + 1 + n) c.data_cells.ensures)
           c.requires.apart (base-of h0 c.args.list _ c.args.cells.now _ c.requires.cells c.requires.list c.requires.apart)
-          (subst (λ n. HasRoom h0 c.args.list (4 * n)) (sym (told-length values)) c.requires.list)
+          (subst (λ n. HasRoom h0 c.args.list (4 * (c.args.first + n))) (sym (told-length values)) c.requires.list)
           (heap_of c.put_value.new.arena) (heap_of c.put_offset.new.arena) c.put_value.ensures.fills c.put_value.ensures.holds
           (fills-cell _ _ c.args.list _ c.put_offset.ensures.written) c.put_offset.ensures.here c.put_offset.ensures.others;
       long = omega (arith, l, v, o);
@@ -145,6 +145,5 @@ returns-clause-stand c =
     let n = told-length values in
     let f = c.loop-index-test.false in
     let e = c.loop-index.auto.index-end in
-    let s = c.requires.some in
-    all-filled h0 (heap_of c.loop-index.arena) c.args.list c.args.cells.now (all_told values) c.loop-index.index c.loop-index.from c.loop-index.invariant.filled
-    (omega (arith, n, s)) (omega (arith, n, f, e)) (subst (λ n. HasRoom h0 c.args.list (4 * n)) (sym (told-length values)) c.requires.list)
+    all-filled h0 (heap_of c.loop-index.arena) c.args.list c.args.first c.args.cells.now (all_told values) c.loop-index.index c.loop-index.from c.loop-index.invariant.filled
+    (omega (arith, n, f, e))

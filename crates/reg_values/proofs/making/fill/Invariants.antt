@@ -6,6 +6,6 @@ use Rattle.reg_values.proofs.making.fill.Given as goal
 
 abbrev pub invariant-loop-index : goal.invariant-loop-index
 invariant-loop-index l = record {
-  filled : AreFilled (heap_of l.initial.arena) (heap_of l.arena) l.list l.cells (all_told l.values) l.index l.from;
+  filled : AreFilled (heap_of l.initial.arena) (heap_of l.arena) l.list l.first l.cells (all_told l.values) l.index l.from;
   long : length l.arena.bytes ≡ length l.initial.arena.bytes;
 }

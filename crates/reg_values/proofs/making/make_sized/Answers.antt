@@ -1,12 +1,12 @@
-use Rattle.std.proofs.Common.{◌*◌, [], get_or, length, sym, ◌∙◌, subst, arith}
+use Rattle.std.proofs.Common.{◌+◌, ◌*◌, [], get_or, length, sym, ◌∙◌, subst, arith}
 use Rattle.reg_arena.specs.Arena.{heap_of}
 use Rattle.reg_arena.specs.NewCells.{AreSizes}
 use Rattle.reg_values.specs.ValueLists.{Became, Makes}
 use Rattle.reg_values.specs.NewValues.{all_told}
 use Rattle.reg_values.proofs.ValueData.NewCellRoom.{room-less}
-use Rattle.reg_values.proofs.ValueChanges.ValuesPlanned.{told-length, all-ok, all-sizes, some-sizes}
+use Rattle.reg_values.proofs.ValueChanges.ValuesPlanned.{small-each, told-length, all-ok, all-sizes, some-sizes}
 use Rattle.reg_values.proofs.ValueChanges.KeptSizes.{fills-keeps, new-first}
-use Rattle.reg_values.proofs.ValueChanges.ValuesMade.{some-cells, list-space, other-room, list-apart, filled-makes, together, new-cells, exact-grows, grows-as}
+use Rattle.reg_values.proofs.ValueChanges.ValuesMade.{some-cells, list-space, list-space2, other-room, list-apart, filled-makes, together, new-cells, exact-grows, grows-as}
 use Rattle.reg_values.proofs.making.make_sized.Goals as goal
 
 pub carve-requires-clause-sizes : goal.carve-requires-clause-sizes
@@ -22,6 +22,12 @@ bounds-all-0 c =
     let a = new-cells h0 h1 values c.args.room c.args.sizes.now all _ _ o.0 c.requires.sizes c.requires.some c.as_slice-all.ensures.value o.1 c.in-Ok.ensures.items o.3.are_new in
     some-cells h0 h1 all _ _ a
 
+pub fill-requires-clause-few : goal.fill-requires-clause-few
+fill-requires-clause-few c = let r = c.requires.room in let f = c.requires.few in omega (arith, r, f)
+
+pub fill-requires-clause-small : goal.fill-requires-clause-small
+fill-requires-clause-small c = small-each (all_told c.args.values.now) [] c.requires.new
+
 pub fill-requires-clause-list : goal.fill-requires-clause-list
 fill-requires-clause-list c =
     let h0 = heap_of c.args.arena.now in
@@ -31,7 +37,7 @@ fill-requires-clause-list c =
     let o = c.in_ok-carve.ensures.ok (some-sizes values c.args.room c.args.sizes.now c.requires.sizes c.requires.some) in
     let a = new-cells h0 h1 values c.args.room c.args.sizes.now all _ _ o.0 c.requires.sizes c.requires.some c.as_slice-all.ensures.value o.1 c.in-Ok.ensures.items o.3.are_new in
     let r = c.requires.room in
-    room-less h1 (get_or all 0 0) _ (4 * length values) (omega (arith, r)) (list-space h0 h1 all _ _ a)
+    room-less h1 (get_or all 0 0) _ (4 * (0 + length values)) (omega (arith, r)) (list-space h0 h1 all _ _ a)
 
 pub fill-requires-clause-cells : goal.fill-requires-clause-cells
 fill-requires-clause-cells c =
@@ -67,7 +73,18 @@ returns-clause-ok c =
     let r = c.requires.room in
     let f = c.requires.few in
     subst (λ n. Became h0 h2 [] n (get_or all 0 0) (all_told values)) n
-    (together h0 h1 all _ _ a h2 c.fill.ensures.fills (all_told values) c.fill.ensures.stand c.requires.new (omega (arith, n, s)) (omega (arith, n, r, f)))
+    (together h0 h1 all _ _ a h2 c.fill.ensures.fills (all_told values) (omega (arith, n, r)) c.fill.ensures.stand c.requires.new (omega (arith, n, s)) (omega (arith, n, r, f)))
+
+pub returns-clause-room : goal.returns-clause-room
+returns-clause-room c =
+    let h0 = heap_of c.args.arena.now in
+    let h1 = heap_of c.carve.new.self in
+    let values = c.args.values.now in
+    let all = c.as_slice-all.result.now in
+    let o = c.in_ok-carve.ensures.ok (some-sizes values c.args.room c.args.sizes.now c.requires.sizes c.requires.some) in
+    let a = new-cells h0 h1 values c.args.room c.args.sizes.now all _ _ o.0 c.requires.sizes c.requires.some c.as_slice-all.ensures.value o.1 c.in-Ok.ensures.items o.3.are_new in
+    let h2 = heap_of c.fill.new.arena in
+    room-less h2 (get_or all 0 0) _ (4 * c.args.room) (omega arith) (list-space2 h0 h1 all _ _ a h2 c.fill.ensures.fills)
 
 pub returns-clause-cells : goal.returns-clause-cells
 returns-clause-cells c =
