@@ -2,10 +2,12 @@
 //! from the highest altitude down to the first that refuses. A callback decides by what it is shown alone, and so no clause sees a
 //! question too many.
 //!
-//! The rows are those of the rules' tables: each call, where it is accepted and by each of its refusals. Four causes are left out: a full
-//! journal, bins without room and want of memory take more than a test has, and no call gives a key the mark 0x08.
+//! The rows are those of the rules' tables: each call, where it is accepted and by each of its refusals. Three causes are left out, which
+//! take more than a test has: a full journal, bins without room and want of memory.
 use reg_callbacks::Callback;
 use reg_calls::Hive;
+use reg_fixtures::drafted;
+use reg_image::load;
 use reg_model::{Change, Query};
 use reg_script::run;
 use reg_test_support::assert_report;
@@ -120,6 +122,29 @@ CreateKey, 60,000 subkeys | root 983103;{15000 create 0 =a# 983103;}as 1;root 98
 as 2;root 983103;{15000 create 30002 =c# 983103;}as 3;root 983103;{15000 create 45003 =d# 983103;} | create 0 =e 983103 | 1450 | 0
 SetValue, values | root 983103;{16384 set 0 =# 4 x;} | set 0 =v 4 x01 | 1450 | 0
 Notify, notifications | root 983103;{4096 notify 0 4 0;} | notify 0 4 0 | 1450 | 0";
+
+/// A hive as another program may leave it: no call gives a key the mark 0x08, which `B` below `A` has.
+const MARKED: &str = "\
+sk 0 0 0 1 x07
+nk 40 0 0 - 0 - @1 - 0 =B
+lh @2
+nk 32 0 1 @3 0 - @1 - 0 =A
+lh @4
+nk 44 0 1 @5 0 - @1 - 0 =ROOT";
+
+/// Rows of that hive.
+const KEPT: &str = "\
+DeleteKey, mark 0x08 | root 983103; | delkey 0 =A\\B | 5 | 321
+DeleteTree, mark 0x08 | root 983103; | deltree 0 =A\\B | 5 | 321
+DeleteTree, mark 0x08 below | root 983103; | deltree 0 =A | 5 | 321
+DeleteTree, empty path, mark 0x08 below | root 983103; | deltree 0 = | 5 | 321";
+
+/// The hive on which a row begins.
+#[derive(Clone, Copy)]
+enum Begin {
+    Fresh,
+    Marked,
+}
 
 /// A row's parts.
 #[derive(Clone, Copy)]
@@ -249,9 +274,29 @@ fn fresh_hive(alloc: Global) -> Result<Hive<Noting>, Fail> {
     Ok(hive)
 }
 
-/// What `asked_in` tells of a fresh hive.
-fn asked_of(alloc: Global, setup: &str, call: &str, status: u32) -> Result<String, Fail> {
-    let mut hive = fresh_hive(alloc)?;
+fn marked_hive(alloc: Global) -> Result<Hive<Noting>, Fail> {
+    let image = drafted(alloc, 5, MARKED)?;
+    let mut input = image.as_slice();
+    let hive = load(alloc, &mut input)?;
+    Ok(hive)
+}
+
+fn begun(alloc: Global, begin: Begin) -> Result<Hive<Noting>, Fail> {
+    match begin {
+        Begin::Fresh => fresh_hive(alloc),
+        Begin::Marked => marked_hive(alloc),
+    }
+}
+
+/// What `asked_in` tells of a hive that rows begin on.
+fn asked_of(
+    alloc: Global,
+    begin: Begin,
+    setup: &str,
+    call: &str,
+    status: u32,
+) -> Result<String, Fail> {
+    let mut hive = begun(alloc, begin)?;
     asked_in(alloc, &mut hive, setup, call, status)
 }
 
@@ -262,14 +307,14 @@ fn is_asked(row: Row<'_>) -> bool {
 
 /// A row's reply and the callbacks that are asked, where the one in the middle refuses its call; and, where they are asked, the same where
 /// all let it go on.
-fn report_of(alloc: Global, row: Row<'_>) -> Result<String, Fail> {
+fn report_of(alloc: Global, begin: Begin, row: Row<'_>) -> Result<String, Fail> {
     let setup = lines_of(alloc, row.setup)?;
     let call = lines_of(alloc, row.call)?;
     let mut text = format!(in alloc; "{}: ", row.name)?;
-    let refused = asked_of(alloc, setup.as_str(), call.as_str(), REFUSAL)?;
+    let refused = asked_of(alloc, begin, setup.as_str(), call.as_str(), REFUSAL)?;
     text.push_str(refused.as_str())?;
     if is_asked(row) {
-        let passed = asked_of(alloc, setup.as_str(), call.as_str(), 0)?;
+        let passed = asked_of(alloc, begin, setup.as_str(), call.as_str(), 0)?;
         write!(text, "; {}", passed.as_str())?;
     }
     Ok(text)
@@ -289,27 +334,32 @@ fn wanted_of(alloc: Global, row: Row<'_>) -> Result<String, Fail> {
     Ok(format!(in alloc; "{name}: {reply} | 0")?)
 }
 
-fn check(alloc: Global, row: &str) -> Result<(), Fail> {
+fn check(alloc: Global, begin: Begin, row: &str) -> Result<(), Fail> {
     let Some(row) = parse(row) else {
         return Err("a part is missing".into());
     };
     let wanted = wanted_of(alloc, row)?;
-    assert_report(report_of(alloc, row), wanted.as_str())
+    assert_report(report_of(alloc, begin, row), wanted.as_str())
 }
 
-fn check_all(alloc: Global, rows: &str) -> Result<(), Fail> {
+fn check_all(alloc: Global, begin: Begin, rows: &str) -> Result<(), Fail> {
     for row in rows.split('\n') {
-        check(alloc, row)?;
+        check(alloc, begin, row)?;
     }
     Ok(())
 }
 
 #[test]
 fn callbacks_are_asked_in_their_place(rt: HostRuntime) -> Result<(), Fail> {
-    check_all(rt.alloc(), ROWS)
+    check_all(rt.alloc(), Begin::Fresh, ROWS)
 }
 
 #[test]
 fn nobody_is_asked_where_a_count_refuses(rt: HostRuntime) -> Result<(), Fail> {
-    check_all(rt.alloc(), CROWDED)
+    check_all(rt.alloc(), Begin::Fresh, CROWDED)
+}
+
+#[test]
+fn callbacks_are_asked_where_a_mark_refuses(rt: HostRuntime) -> Result<(), Fail> {
+    check_all(rt.alloc(), Begin::Marked, KEPT)
 }
