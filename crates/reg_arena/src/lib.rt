@@ -6,7 +6,13 @@
 //!
 //! Its one contract: the cells fill the bins and the lists have just the free ones (`IsSound`, of every arena); `carve` and `free`
 //! change which cells there are, exactly as the rules say, and the writers what one cell holds. Crates above need only `cell_at`,
-//! what the allocated cell at an offset holds. It stands on reg_heap. Its types are [`Arena`], [`Cell`] and [`ArenaFault`].
+//! what the allocated cell at an offset holds. It stands on reg_bins, which has the bytes, and on reg_heap. Its types
+//! are [`Arena`], [`Cell`] and [`ArenaFault`].
+//!
+//! `carve` takes cells from a free one, or from a bin that `bin` appends, and `cut` cuts them; `each` carves those of one change each by
+//! itself; `free` merges a cell with its free neighbours. `free_lists` finds a cell's list and its neighbours: `classes` says which list a
+//! size has, `firsts` with `bitmap` which cell is the first of a size, `links` threads the lists, and `large` walks the last one. `walk`
+//! goes over all cells.
 //!
 //! Suhanov, Windows registry file format specification, sections "Hive bin" and "Cell".
 #![tactic(auto)]

@@ -26,6 +26,9 @@
 //! | `QueryInfo` | 1 | 6; 1018; 5 | the key's numbers, largest lengths and time | `query_info.rt` |
 //! | `GetSecurity` | 0x20000 | 6; 1018; 5; 122 | the descriptor | `get_security.rt` |
 //!
+//! [`Hive`] is the callbacks and a core (`hive_core`), which has the `store` (tree, handles, watches), the journal, and `quiet`, which
+//! remembers by which handles changes ended no watch. `changes` and `queries` choose the file of a call.
+//!
 //! A change's file has its `admit`, which answers the refusal or what it found; its `announce`, where it may end watches, which says by
 //! that what it does to them; and its `commit`, which takes just what was found and searches the tree no more. All watches are ended at
 //! one place, in `announced.rt`, by what was announced. A question's file has its `answer`. 234, of a descriptor 122, tells that the room

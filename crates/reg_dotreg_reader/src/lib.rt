@@ -6,6 +6,9 @@
 //!
 //! Its types are [`Entry`], [`Numbered`] and [`ReadFault`].
 //!
+//! `encoding` makes units of bytes, `lines` cuts them and joins lines that go on, `reading` goes over the lines once, and `keys`, `values`,
+//! `quotes`, `numbers` and `words` read what one says.
+//!
 //! The form is that of regedit's exports, version 5.00; names of characters 0x01 to 0x7F alone are this project's own.
 #![tactic(auto)]
 

@@ -1,7 +1,11 @@
 //! What tests of images and of the tool share: readers and writers that fail, images written out cell by cell, and changes of bytes.
 //!
-//! Its contracts are those of the changes: which bytes a change leaves. It stands on reg_tree_image for the checksum alone. Its main types
-//! are [`FakeReader`] and [`FakeWriter`]; `FixtureFault` says what was wrong with a table or a place, or that memory was wanting.
+//! Its contracts are those of the changes: which bytes a change leaves; and of [`Registry`], a bound of what answers calls, which a hive
+//! meets. It stands on reg_tree_image for the checksum, and on reg_calls. Its main types are [`FakeReader`], [`FakeWriter`] and
+//! [`PlainHive`]; `FixtureFault` says what was wrong with a table or a place, or that memory was wanting.
+//!
+//! `bytes` changes and compares bytes of an image, `drafts` writes one out cell by cell from a table, `bins` reads a key's lists off the
+//! bins, `many_keys` names many keys, and `lies` is a table of images that lie.
 #![tactic(auto)]
 
 mod bins;

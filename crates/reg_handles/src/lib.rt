@@ -9,6 +9,9 @@
 //! to one of twice its size.
 //!
 //! Its types are [`Handles`], [`Found`], a handle as it was found, and [`Target`], the key that it leads to.
+//!
+//! `rows` finds a row by its handle's number, by hash. `keys` has the open keys in a slab, in which a row names its key by a slot, and a
+//! map from the paths of those that weren't deleted to their slots.
 #![tactic(auto)]
 
 mod handles;

@@ -8,6 +8,10 @@
 //! It stands on reg_records, reg_shape and reg_names. Its types are [`SubkeysIndex`], the subkeys as their key node names them,
 //! [`Place`], where one of them stands, and [`IndexCells`], what one more takes.
 //!
+//! `finding` searches: for a place it looks at the last name first, and then halves the lists and one list. `order` compares two names.
+//! `plan` says which cells one more takes, `inserting` makes a gap and fills it, `splitting` parts a full list into two, and `removing`
+//! closes up. `leaf` and `root` write a list's entries and the index root's.
+//!
 //! Suhanov, Windows registry file format specification, section "Subkeys list".
 #![tactic(auto)]
 

@@ -7,6 +7,10 @@
 //! Its types are [`Change`] and [`Query`], which are [`Call`]s; [`ChangeReply`] and [`Answer`]; [`Entry`], an accepted change; [`Step`]
 //! and [`Outcome`], a call made and told; [`Notice`], a notification; and [`Bytes`].
 //!
+//! In `specs/`, `Worlds` says what an accepted change makes of a world, `Causes` why a call is refused, `Callbacks` what callbacks
+//! answer, `Replies` the reply to an accepted call, `Watches` which watches a change ends, `Calls` one call whole, and `Histories` what
+//! a journal replays.
+//!
 //! Win32 registry reference, of each call the function that its variant names; the journal of accepted changes is this project's
 //! own.
 #![tactic(auto)]

@@ -8,6 +8,9 @@
 //! It stands on reg_records and on reg_shape, which says what a ring is. Its type is [`SecurityTable`], by which a descriptor is
 //! found without a walk over the ring.
 //!
+//! `reading` reads a security, `counts` moves its count, and `ring` puts one in and takes one out; `table` does so in ring and map
+//! together. The map is `cells`: by hash in `hashed`, which has one descriptor of each hash, and the others by their bytes.
+//!
 //! Suhanov, Windows registry file format specification, section "Key security".
 #![tactic(auto)]
 

@@ -3,6 +3,9 @@
 //! Its one contract: [`export_json`] and [`export_csv`] write just the text that `specs/Tables.antt` says of the key that is there and of
 //! all below it, or a front of it where a write or memory fails; where there is none, they say so and write nothing. It stands on
 //! reg_tree_text, whose walk, gathered output and texts of data it takes, and on serde_json, csv and jiff, whose own words the texts are. It has no type of its own.
+//!
+//! `keys` begins a walk at a key, with the names that lead to it. `gather` makes of a key a struct of `entry`, which `json_table` writes;
+//! `comma_table` writes the rows of `row`. `form` and `units` say what data are in JSON, and `time` how an instant is written.
 #![tactic(auto)]
 
 mod comma_table;

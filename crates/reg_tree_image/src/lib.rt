@@ -12,6 +12,10 @@
 //! It stands on reg_shape, whose readings and trees the walk spells, and on reg_records for the records. Its main type is
 //! [`LoadFault`].
 //!
+//! `loading` reads an image (`input`), tests its base block (`block`) and cells (`scan`), and then its keys, by `walk` over a stack of
+//! `frames`, or by `checking`, which builds none. `begin` reads a key and builds it (`built_keys`, `first_keys`), each record by a reader
+//! of its own, over `cells`, which names a cell in the `table`. `writing` makes an image, `tree_writing` writes one bin by bin.
+//!
 //! Suhanov, Windows registry file format specification, sections "Format of primary files", "Base block", "Hive bin" and "Cell".
 #![tactic(auto)]
 
