@@ -10,6 +10,7 @@ pub mod PathNameCount
 pub mod MadeCells
 pub mod PlanSizes
 pub mod PathCarve
+pub mod CarvedCells
 pub mod InsertKeyObligations
 pub mod SpareCellTaken
 pub mod LengthsOfMade

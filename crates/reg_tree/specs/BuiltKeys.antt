@@ -1,6 +1,6 @@
 -- Keys built as they are told, with marks, class, descriptor and time, and the cells that this takes (Suhanov, Windows registry file
 -- format specification, "Cell", "Hive bin", "Key node").
-use Rattle.std.specs.Prelude.{◌≡◌, ◌<◌, ◌≤◌, ℕ, suc, Some, None, List, [], ◌∷◌, length}
+use Rattle.std.specs.Prelude.{◌≡◌, ◌<◌, ◌≤◌, ℕ, suc, None, List, [], ◌∷◌, ◌++◌, length}
 use Rattle.std.specs.FinMap.{empty, get, insert}
 use Rattle.reg_names.specs.declared.TheConstants.{PATH_LIMIT}
 use Rattle.reg_heap.specs.declared.limits.TheConstants.{SUBKEYS_LIMIT}
@@ -14,7 +14,7 @@ use Rattle.reg_index.specs.declared.Place.{Place}
 use Rattle.reg_tree.specs.declared.build.NewKey.{NewKey}
 use Rattle.reg_tree.specs.TreeKeys.{Keys, IsWholeTree}
 use Rattle.reg_tree.specs.NewHive.{IsNewHive}
-use Rattle.reg_tree.specs.CellSizes.{BelongsThere, create_sizes, LacksRoom}
+use Rattle.reg_tree.specs.CellSizes.{BelongsThere, made_sizes, security_sizes, LacksRoom}
 
 -- the key that is told, with no values
 abbrev pub built_key : NewKey → Rec
@@ -60,31 +60,22 @@ pub record BuildsRoot (keys : Keys) (key : Rec) : Type 0 where
   pub root : keys.root ≡ bare.root
   pub tree : keys.tree ≡ insert empty [] key
 
--- a key was made right below the one at a path, at its place, so far with no marks and no class; the root stays where it stands, and the
--- keys are whole
-pub record MakesBare (old new : Keys) (path : Path) (key : Rec) : Type 0 where
+-- the sizes of the cells that a key takes that is built at a place right below the one at a path: those of that one's subkeys, as they
+-- are planned, and its key node's; its class's, if it takes one; and its security's, if no key has its descriptor
+abbrev pub build_sizes : Keys → Path → Rec → Place → List ℕ
+build_sizes keys path key place =
+    made_sizes keys path (key.name ∷ []) place ++ (class_sizes key.class ++ security_sizes keys.tree key.descriptor)
+
+-- a key was built right below the one at a path, at its place; the root stays where it stands
+pub record BuildsKey (old new : Keys) (path : Path) (key : Rec) : Type 0 where
   pub place : Place
   pub belongs : BelongsThere old path (key.name ∷ []) place
-  pub takes : TakesCells old new (create_sizes old path (key.name ∷ []) place (Some key.descriptor))
+  pub takes : TakesCells old new (build_sizes old path key place)
   pub root : new.root ≡ old.root
-  pub tree : new.tree ≡ insert old.tree (child_path path key.name) (record key { marks = 0; class = [] })
-  pub whole : AreWhole new
-
--- a key was built right below the one at a path: first made, and then its class's cell came
-pub record BuildsKey (old new : Keys) (path : Path) (key : Rec) : Type 0 where
-  pub bare : Keys
-  pub made : MakesBare old bare path key
-  pub class : TakesCells bare new (class_sizes key.class)
-  pub root : new.root ≡ bare.root
   pub tree : new.tree ≡ insert old.tree (child_path path key.name) key
 
--- the bins have no room for the cells of a key that is made right below the one at a path
+-- the bins have no room for the cells of a key that is built right below the one at a path
 pub record LacksKeyRoom (old : Keys) (path : Path) (key : Rec) : Type 0 where
   pub place : Place
   pub belongs : BelongsThere old path (key.name ∷ []) place
-  pub lacks : LacksRoom old.bins (create_sizes old path (key.name ∷ []) place (Some key.descriptor))
-
--- the key was made, so far with no marks and no class, and then the bins have no room for its class's cell
-pub record LacksClassRoom (old bare : Keys) (path : Path) (key : Rec) : Type 0 where
-  pub made : MakesBare old bare path key
-  pub lacks : LacksRoom bare.bins (class_sizes key.class)
+  pub lacks : LacksRoom old.bins (build_sizes old path key place)

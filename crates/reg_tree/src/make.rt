@@ -20,9 +20,9 @@ ghost use Rattle.reg_tree.specs.TreeKeys.{tree_in};
 ghost use Rattle.reg_tree.specs.CellSizes.{BelongsThere, create_sizes, first_cells, made_sizes, own_sizes, planned, planned_sizes, sizes_of, LacksRoom};
 ghost use Rattle.reg_tree.specs.Internal.KeyNodeChanges.{LeavesOthers};
 ghost use Rattle.reg_tree.specs.Internal.TreeInvariant.{IsHere};
-ghost use Rattle.reg_tree.specs.Internal.SpareCells.{MayGrow, Grows, AreReady, MayGrowAll, GrowsAll, IsSecuritySize, IsSpared};
-ghost use Rattle.reg_tree.specs.Internal.DescriptorChange.{IsKnown, KeepsFinds, last_of};
-ghost use Rattle.reg_tree.specs.Internal.KeyCreation.{IsCreated, AreTooMany, LeadsTo};
+ghost use Rattle.reg_tree.specs.Internal.SpareCells.{MayGrow, Grows, AreReady, HaveSizes, MayGrowAll, GrowsAll, IsClassSize, IsSecuritySize, IsSpared};
+ghost use Rattle.reg_tree.specs.Internal.DescriptorChange.{IsKnown, KeepsFinds, class_of, last_of};
+ghost use Rattle.reg_tree.specs.Internal.KeyCreation.{IsCreated, IsGrownAll, AreTooMany, LeadsTo};
 ghost use Rattle.reg_tree.specs.Internal.ReachedPlaces.{BelongsAt, BelongsFirst};
 
 use crate::find::reach;
@@ -249,15 +249,17 @@ fn push_if(sizes: &mut Vec<u32>, size: Option<u32>) -> Result<(), AllocError>
 }
 
 /// The sizes of the cells that making keys takes, in order: for each, those that its parent's subkeys take with one more, and that of
-/// its key node. The first parent's are planned; those made have no list yet. A size more, if there is one, is the last.
+/// its key node. The first parent's are planned; those made have no list yet. Behind them are a class's size and a descriptor's, where
+/// there is one.
 fn sizes_for(
     alloc: Global,
     planned: IndexCells,
     path: &[u8],
+    class: Option<u32>,
     more: Option<u32>,
 ) -> Result<Vec<u32>, AllocError>
     requires { is_path path.now ≡ true }
-    ensures { IfOk result (λ sizes. sizes.items ≡ sizes_of planned (map own_sizes (path_of path.now)) ++ planned_sizes more) }
+    ensures { IfOk result (λ sizes. sizes.items ≡ sizes_of planned (map own_sizes (path_of path.now)) ++ (planned_sizes class ++ planned_sizes more)) }
 {
     let mut sizes = Vec::new(alloc);
     let mut plan = planned;
@@ -270,36 +272,39 @@ fn sizes_for(
         plan = FIRST_CELLS;
         rest = behind;
     }
+    push_if(&mut sizes, class)?;
     push_if(&mut sizes, more)?;
     Ok(sizes)
 }
 
-/// Carves the cells that keys of a path's names take below a key at a place where they were planned, and one more for a descriptor that takes
-/// one, which is the last.
+/// Carves the cells that keys of a path's names take below a key at a place where they were planned; behind them one for a class, and
+/// last one for a descriptor, where their sizes are given.
 fn carve_for(
     alloc: Global,
     arena: &mut Arena,
     plan: IndexCells,
     path: &[u8],
+    class: Option<u32>,
     more: Option<u32>,
 ) -> Result<Vec<u32>, ArenaFault>
     requires plan { (parent : ℕ) × (place : Place) × IsHere arena.old.bytes parent × (plan ≡ planned (heap_of arena.old) parent place) }
     requires path { is_path path.now ≡ true }
     requires few { length (path_of path.now) ≤ MADE_LIMIT }
+    requires class { IsClassSize class }
     requires more { IsSecuritySize more }
     ensures ok { (parent : ℕ) → (place : Place) → IsHere arena.old.bytes parent → plan ≡ planned (heap_of arena.old) parent place →
         IfOk result (λ cells. IsSpared arena.old.bytes arena.new.bytes parent place (path_of path.now)
-        (planned_sizes more) (taken (last_of more cells.items)) cells.items) }
+        (planned_sizes class ++ planned_sizes more) (taken (class_of class more cells.items) ++ taken (last_of more cells.items)) cells.items) }
     ensures full { (result ≡ Err ArenaFault.Full) → BINS_LIMIT < length arena.old.bytes + GROWTH_BOUND }
     ensures space { IfErr result (λ fault. fault ≡ ArenaFault.Full → LacksRoom arena.old
-        (sizes_of plan (map own_sizes (path_of path.now)) ++ planned_sizes more)) }
+        (sizes_of plan (map own_sizes (path_of path.now)) ++ (planned_sizes class ++ planned_sizes more))) }
     ensures err { OnErr result (arena.new ≡ arena.old) }
     ensures grows { OnOk result (length arena.new.bytes ≤ length arena.old.bytes + GROWTH_BOUND) }
     ensures growth { OnOk result (GrowsFor arena.old.bytes arena.new.bytes
-        (sizes_of plan (map own_sizes (path_of path.now)) ++ planned_sizes more)) }
+        (sizes_of plan (map own_sizes (path_of path.now)) ++ (planned_sizes class ++ planned_sizes more))) }
     ensures kept { OnOk result (length arena.old.bytes ≤ length arena.new.bytes) }
 {
-    let sizes = match sizes_for(alloc, plan, path, more) {
+    let sizes = match sizes_for(alloc, plan, path, class, more) {
         Ok(sizes) => sizes,
         Err(AllocError) => return Err(ArenaFault::Memory),
     };
@@ -321,8 +326,92 @@ fn last_cell(more: Option<u32>, cells: &[u32]) -> Option<u32>
     }
 }
 
-/// Makes the keys that were found missing on a path, each with its parent's descriptor, and answers the last. All cells are carved
-/// before the first key is made, so that only that can fail, for want of room: `Full`, `Memory`. After a fault the arena is as before.
+/// The one for a class, where it takes one: the last, or the one before a descriptor's.
+fn class_cell(class: Option<u32>, more: Option<u32>, cells: &[u32]) -> Option<u32>
+    requires { IsSome class → length (taken more) < length cells.now }
+    ensures { result ≡ class_of class more cells.now }
+{
+    match class {
+        None => None,
+        Some(_) => Some(cells[cells.len() - 1 - count_if(more)]),
+    }
+}
+
+/// The last of some keys that were made, and the cells that were carved beside theirs.
+#[derive(Clone, Copy, Debug)]
+pub struct MadeKeys {
+    /// The key.
+    pub node: Node,
+    /// The cell for a class, if its size was given.
+    pub class: Option<u32>,
+    /// The cell for a descriptor, if its size was given.
+    pub security: Option<u32>,
+}
+
+/// Makes the keys that were found missing on a path, each with its parent's descriptor, and answers the last; and carves a cell for a
+/// class and one for a descriptor, where their sizes are given. All cells are carved before the first key is made, so that only that can
+/// fail, for want of room: `Full`, `Memory`. After a fault the arena is as before.
+pub fn make_keys(
+    alloc: Global,
+    arena: &mut Arena,
+    reached: Reached<'_>,
+    moment: u64,
+    class: Option<u32>,
+    more: Option<u32>,
+) -> Result<MadeKeys, ArenaFault>
+    requires reached { (from : Node) × (path : List ℕ) × (l : LeadsTo arena.old.bytes from path reached.node reached.missing.now)
+        × (are_too_many (tree_in arena.old.bytes l.here.root) l.here.path (path_of path) ≡ false) }
+    requires place { BelongsFirst (heap_of arena.old) reached.node.offset (path_of reached.missing.now) reached.place }
+    requires missing { reached.missing.now ≢ [] }
+    requires class { IsClassSize class }
+    requires more { IsSecuritySize more }
+    ensures ok { (from : Node) → (path : List ℕ) → (l : LeadsTo arena.old.bytes from path reached.entry.node reached.entry.missing.now) →
+        IfOk result (λ made. IsGrownAll arena.old.bytes arena.new.bytes l.here.root l.here.path (path_of path) moment l.here.holds.ring
+        (taken made.class ++ taken made.security) from made.node) }
+    ensures room { IfOk result (λ made. HaveSizes (heap_of arena.new) (taken made.class) (planned_sizes class)
+        × HaveSizes (heap_of arena.new) (taken made.security) (planned_sizes more)) }
+    ensures cells { (from : Node) → (path : List ℕ) → (l : LeadsTo arena.old.bytes from path reached.entry.node reached.entry.missing.now) →
+        OnOk result (Makes (heap_of arena.old) (heap_of arena.new)
+        (made_sizes (record { bins = arena.old; root = l.here.root; tree = tree_in arena.old.bytes l.here.root }) l.here.path (path_of path)
+        reached.entry.place ++ (planned_sizes class ++ planned_sizes more))) }
+    ensures full { (result ≡ Err ArenaFault.Full) → BINS_LIMIT < length arena.old.bytes + GROWTH_BOUND }
+    ensures space { (from : Node) → (path : List ℕ) → (l : LeadsTo arena.old.bytes from path reached.entry.node reached.entry.missing.now) →
+        IfErr result (λ fault. fault ≡ ArenaFault.Full → LacksRoom arena.old
+        (made_sizes (record { bins = arena.old; root = l.here.root; tree = tree_in arena.old.bytes l.here.root }) l.here.path (path_of path)
+        reached.entry.place ++ (planned_sizes class ++ planned_sizes more))) }
+    ensures err { OnErr result (arena.new ≡ arena.old) }
+    ensures grows { OnOk result (length arena.new.bytes ≤ length arena.old.bytes + GROWTH_BOUND) }
+    ensures stay { OnOk result (KeepsSizes (heap_of arena.old) (heap_of arena.new)) }
+    ensures growth { (from : Node) → (path : List ℕ) → (l : LeadsTo arena.old.bytes from path reached.entry.node reached.entry.missing.now) →
+        OnOk result (GrowsFor arena.old.bytes arena.new.bytes (made_sizes
+        (record { bins = arena.old; root = l.here.root; tree = tree_in arena.old.bytes l.here.root }) l.here.path (path_of path)
+        reached.entry.place ++ (planned_sizes class ++ planned_sizes more))) }
+    ensures kept { OnOk result (length arena.old.bytes ≤ length arena.new.bytes) }
+{
+    let list = subkeys_list(arena, reached.node.offset);
+    let plan = plan_insert(arena, list, reached.place);
+    let cells = match carve_for(alloc, arena, plan, reached.missing, class, more) {
+        Ok(cells) => cells,
+        Err(fault) => return Err(fault),
+    };
+    let node = make_all(
+        arena,
+        reached.node,
+        reached.place,
+        plan,
+        reached.missing,
+        &cells,
+        moment,
+    );
+    Ok(MadeKeys {
+        node,
+        class: class_cell(class, more, &cells),
+        security: last_cell(more, &cells),
+    })
+}
+
+/// Makes the keys that were found missing on a path, each with its parent's descriptor, and answers the last. `Full`, `Memory`: then the
+/// arena is as before.
 fn make_sharing(
     alloc: Global,
     arena: &mut Arena,
@@ -353,21 +442,10 @@ fn make_sharing(
         reached.entry.place)) }
     ensures kept { OnOk result (length arena.old.bytes ≤ length arena.new.bytes) }
 {
-    let list = subkeys_list(arena, reached.node.offset);
-    let plan = plan_insert(arena, list, reached.place);
-    let cells = match carve_for(alloc, arena, plan, reached.missing, None) {
-        Ok(cells) => cells,
-        Err(fault) => return Err(fault),
-    };
-    Ok(make_all(
-        arena,
-        reached.node,
-        reached.place,
-        plan,
-        reached.missing,
-        &cells,
-        moment,
-    ))
+    match make_keys(alloc, arena, reached, moment, None, None) {
+        Ok(made) => Ok(made.node),
+        Err(fault) => Err(fault),
+    }
 }
 
 /// Makes the keys that were found missing on a path, the last with a descriptor of its own and each other one with its parent's, and
@@ -414,35 +492,23 @@ fn make_described(
     let Ok(size) = expect(alloc, securities, descriptor, known) else {
         return Err(ArenaFault::Memory);
     };
-    let list = subkeys_list(arena, reached.node.offset);
-    let plan = plan_insert(arena, list, reached.place);
-    let cells = match carve_for(alloc, arena, plan, reached.missing, size) {
-        Ok(cells) => cells,
+    let made = match make_keys(alloc, arena, reached, moment, None, size) {
+        Ok(made) => made,
         Err(fault) => {
             forget(securities, size, descriptor);
             return Err(fault);
         }
     };
-    let node = make_all(
-        arena,
-        reached.node,
-        reached.place,
-        plan,
-        reached.missing,
-        &cells,
-        moment,
-    );
-    let cell = last_cell(size, &cells);
     describe(
         arena,
         securities,
-        node.offset,
-        cell,
+        made.node.offset,
+        made.security,
         descriptor,
         moment,
         known,
     );
-    Ok(node)
+    Ok(made.node)
 }
 
 /// Makes the keys that were found missing on a path, which are some and not too many, and answers the last: with the descriptor that

@@ -60,7 +60,7 @@ impl Tree {
     ghost use Rattle.reg_tree.specs.ValueAnswers.{IsFound, without_value_at};
     ghost use Rattle.reg_tree.specs.Reaching.{IsWalkedTo};
     ghost use Rattle.reg_tree.specs.SubkeyWalk.{IsSubkeyAt, name_length};
-    ghost use Rattle.reg_tree.specs.BuiltKeys.{MayBuild, built_key, with_values, class_sizes, TakesCells, BuildsRoot, BuildsKey, LacksKeyRoom, LacksClassRoom};
+    ghost use Rattle.reg_tree.specs.BuiltKeys.{MayBuild, built_key, with_values, class_sizes, TakesCells, BuildsRoot, BuildsKey, LacksKeyRoom};
     ghost use Rattle.reg_tree.specs.MoreValues.{with_more_values, HasListRoom, MayExtend};
     ghost use Rattle.reg_values.specs.NewValues.{all_told, all_value_sizes, each_value_sizes, MayFollow};
 
@@ -749,8 +749,7 @@ impl Tree {
 
     /// Builds a key right below another that has none of its name, as it is told: with its name, marks, class, descriptor and time,
     /// and no values. `reach` found what is there of its name from the other one on, in the tree as it is, so that its place isn't looked
-    /// for again. No other key's time changes. After a fault nothing is said of the tree but that it is one, and that it has the key
-    /// without marks and class where there is no room for the class's cell alone; it is to be dropped.
+    /// for again. No other key's time changes. After a fault the tree is as before.
     ///
     /// The parent's largest lengths of a subkey's name and class are raised to the new key's, where these are greater; the four of the
     /// new key are 0, and each other key has those that it had.
@@ -758,10 +757,9 @@ impl Tree {
     /// A key that is there and has the same descriptor may be told: then the new one shares that one's security, and its descriptor is
     /// neither hashed nor compared. Without one it is looked for.
     ///
-    /// First the cells come of a key that is made at its place with its descriptor, and then its class's. `Full` only where the bins
-    /// lack room for those or, once they are there, for the class's: no free cell has room for all of them, and one bin more would
-    /// pass the limit of 268,435,456 bytes; `Memory`. The bins grow only where no free cell has room, and by at most twice 1,310,720
-    /// bytes.
+    /// The cells that come are those of a key that is made at its place with its descriptor, and its class's, if it takes one. `Full`
+    /// only where no free cell has room for all of them together and one bin more for them would pass the limit of 268,435,456 bytes;
+    /// `Memory`. The bins grow only where no free cell has room for them, and by at most 1,310,720 bytes.
     pub fn build_key(
         &mut self,
         alloc: Global,
@@ -783,11 +781,11 @@ impl Tree {
         ensures lengths { (p : Path) → IsAt self.old p parent →
             OnOk result (ChangesLengths self.old self.new p (with_key_lengths (length key.entry.name.now) (length key.entry.class.now))) }
         ensures made { (p : Path) → IsAt self.old p parent → OnOk result (NotesMade self.new p (key.entry.name.now ∷ [])) }
-        ensures space { (p : Path) → IsAt self.old p parent → (result ≡ Err ArenaFault.Full) →
-            LacksKeyRoom self.old p (built_key key.entry) ⊎ LacksClassRoom self.old self.new p (built_key key.entry) }
+        ensures space { (p : Path) → IsAt self.old p parent → (result ≡ Err ArenaFault.Full) → LacksKeyRoom self.old p (built_key key.entry) }
         ensures nodes { OnOk result (KeepsNodes self.old self.new) }
-        ensures full { (result ≡ Err ArenaFault.Full) → BINS_LIMIT < length self.old.bins.bytes + 2 * GROWTH_BOUND }
-        ensures grows { length self.new.bins.bytes ≤ length self.old.bins.bytes + 2 * GROWTH_BOUND }
+        ensures full { (result ≡ Err ArenaFault.Full) → BINS_LIMIT < length self.old.bins.bytes + GROWTH_BOUND }
+        ensures err { OnErr result (self.new ≡ self.old) }
+        ensures grows { length self.new.bins.bytes ≤ length self.old.bins.bytes + GROWTH_BOUND }
         ensures kept { length self.old.bins.bytes ≤ length self.new.bins.bytes }
     {
         let known = security::security_like(&self.arena, like);

@@ -13,7 +13,7 @@ use Rattle.reg_values.specs.NewValues.{all_value_sizes}
 use Rattle.reg_tree.specs.declared.node.Node.{Node}
 use Rattle.reg_tree.specs.TreeKeys.{Keys, IsAt}
 use Rattle.reg_tree.specs.CellSizes.{value_sizes, LacksRoom}
-use Rattle.reg_tree.specs.BuiltKeys.{AreWhole, TakesCells, with_values, BuildsRoot, BuildsKey, LacksKeyRoom, LacksClassRoom}
+use Rattle.reg_tree.specs.BuiltKeys.{AreWhole, TakesCells, with_values, BuildsRoot, BuildsKey, LacksKeyRoom}
 use Rattle.reg_tree_image.specs.WalkSteps.{Seen}
 use Rattle.reg_tree_image.specs.LoadingWalk.{root_path}
 use Rattle.reg_tree_image.specs.Images.{nothing}
@@ -135,10 +135,10 @@ BuildsAll (e ∷ told) keys = (first : Keys) × (e.0 ≡ []) × BuildsFirst firs
 abbrev pub CrowdsRoot : Rec → Type 0
 CrowdsRoot key = (bare : Keys) × BuildsRoot bare (bare_of key) × AreWhole bare × CrowdsValues bare [] key.time key.values
 
--- for a key right below the one at a path: its key node, list and descriptor; or, once these are there, its class; or its values
+-- for a key right below the one at a path; or, once it is there, for its values
 abbrev pub CrowdsBelow : Keys → Path → Rec → Type 0
 CrowdsBelow keys above key =
-    (LacksKeyRoom keys above (bare_of key) ⊎ ((made : Keys) × LacksClassRoom keys made above (bare_of key)))
+    LacksKeyRoom keys above (bare_of key)
     ⊎ ((bare : Keys) × BuildsKey keys bare above (bare_of key) × AreWhole bare
     × CrowdsValues bare (child_path above key.name) key.time key.values)
 

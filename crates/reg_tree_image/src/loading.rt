@@ -104,7 +104,7 @@ fn build_tree(alloc: Global, bins: &[u8], block: BaseBlock) -> Result<Tree, Load
 /// size is; of the keys, as they are met from the root on, `Record`, `Loop`, `Twice`, `NotInProfile` and `Limit`. Where none of these
 /// tests fails, `Limit` comes for want of room in the new bins: bins that came about by building the keys in the order in which they are
 /// met, each with just the cells that it takes, and grew only where no free cell had room. They have none for a key's
-/// key node with its descriptor and its place in a list, or then none for its class, or then none for its values: for as many of
+/// key node with its class, its descriptor and its place in a list, or then none for its values: for as many of
 /// them together, from the first on, as have cells of at most 16,777,216 bytes with a list that has room for all, or then for one of
 /// the others behind those before it. No room is that no free cell has room for all cells of one of these, and that with a bin more
 /// for them the bins would pass 268,435,456 bytes. `Memory` may come as soon as the base block passed.

@@ -1,38 +1,32 @@
 -- The cells that come where a key is built, and how the bins grow for them.
-use Rattle.std.proofs.Common.{◌≡◌, ℕ, ◌+◌, ◌-◌, ◌≤◌, ◌==◌, ◌&&◌, if◌then◌else◌, Bool, true, false, Option, Some, None, is_some, List, [], ◌∷◌, length, take, drop}
-use Rattle.std.proofs.Common.{refl, sym, ◌∙◌, subst, arith, length-take, length-drop}
-use Rattle.std.specs.Prelude.{Result, Ok, Err, OnOk, IfErr, unwrap_or}
-use Rattle.std.proofs.lemmas.Bool.Decides.{nat_tests}
-use Rattle.reg_heap.specs.Edits.{at_time, child_path}
+use Rattle.std.proofs.Common.{◌≡◌, ℕ, ◌+◌, ◌-◌, ◌≤◌, ◌==◌, ◌&&◌, if◌then◌else◌, Bool, true, false, Option, Some, None, is_some, List, [], ◌∷◌, ◌++◌, length, take, drop}
+use Rattle.std.proofs.Common.{refl, sym, ap, ◌∙◌, subst, arith, length-take, length-drop}
+use Rattle.std.specs.Prelude.{unwrap_or}
 use Rattle.reg_heap.specs.Heaps.{Heap}
-use Rattle.reg_heap.specs.Paths.{Path, Rec}
+use Rattle.reg_heap.specs.Paths.{Path, Tree}
 use Rattle.reg_arena.specs.declared.Cell.{Cell}
-use Rattle.reg_arena.specs.Arena.{Bins, IsSound, heap_of}
+use Rattle.reg_arena.specs.Arena.{Bins, heap_of}
 use Rattle.reg_arena.specs.Cells.{cells_of, cell_at, content_in, content_of}
 use Rattle.reg_arena.specs.EachCell.{GrowsFor}
 use Rattle.reg_arena.specs.NewCells.{cell_size}
-use Rattle.reg_arena.specs.declared.ArenaFault.{ArenaFault}
-use Rattle.reg_arena.specs.declared.ArenaFault.TheVariants.{Full}
+use Rattle.reg_shape.proofs.Wholeness.ShapeRecords.{is-allocated}
 use Rattle.reg_values.specs.ValueLists.{KeepsSizes, Makes}
 use Rattle.reg_index.specs.Subkeys.{KeepsCells}
 use Rattle.reg_index.specs.declared.Place.{Place}
-use Rattle.reg_records.specs.declared.nk.KeyFields.{KeyFields}
-use Rattle.reg_records.specs.KeyNodes.{KeyRecord, key_at}
 use Rattle.reg_security.specs.Rings.{DescriptorCells}
 use Rattle.reg_tree.specs.declared.build.NewKey.{NewKey}
 use Rattle.reg_tree.specs.declared.node.Node.{Node}
-use Rattle.reg_tree.specs.BuiltKeys.{BuildsKey, LacksClassRoom, LacksKeyRoom, MakesBare, MayBuild, TakesCells, built_key, class_sizes}
-use Rattle.reg_tree.specs.CellSizes.{BelongsThere, LacksRoom, create_sizes}
+use Rattle.reg_tree.specs.BuiltKeys.{TakesCells, build_sizes, built_key, class_sizes}
+use Rattle.reg_tree.specs.CellSizes.{made_sizes, planned_sizes, security_sizes}
 use Rattle.reg_tree.specs.TreeKeys.{Keys, tree_in}
-use Rattle.reg_tree.specs.Internal.KeyBuilding.{IsCarvedForClass, LacksForKey, TakesForKey, marked}
-use Rattle.reg_tree.specs.Internal.KeyCreation.{IsCreated}
-use Rattle.reg_tree.specs.Internal.KeyNodeChanges.{SameSizes}
-use Rattle.reg_tree.specs.Internal.TreeInvariant.{IsHere, IsChanged}
-use Rattle.reg_tree.proofs.BuildKey.BuiltBelow.{bare-built, built}
+use Rattle.reg_tree.specs.Internal.DescriptorChange.{IsExpected}
+use Rattle.reg_tree.specs.Internal.KeyBuilding.{IsCarvedForClass}
+use Rattle.reg_tree.specs.Internal.KeyNodeChanges.{LeavesOthers, SameSizes}
+use Rattle.reg_tree.specs.Internal.TreeInvariant.{IsHere, TreeInvariant}
 use Rattle.reg_tree.proofs.DescribeKey.SecurityCarved.{makes-none, makes-one}
 use Rattle.reg_tree.proofs.InsertKey.CreatePathMade.{growth-then}
-use Rattle.reg_tree.proofs.InsertKey.MadeCells.{kept_sizes, makes_after, same-kept}
-use Rattle.reg_tree.proofs.Invariant.KeyOfTree.{whole_tree}
+use Rattle.reg_tree.proofs.InsertKey.DescribedLast.{security_is}
+use Rattle.reg_tree.proofs.InsertKey.MadeCells.{kept_sizes, makes_after, makes-leaving, same-kept, sizes-then, stay-keeping}
 use Rattle.reg_tree.proofs.Invariant.NodeLemmas.{seen_as}
 
 -- ---- cells of the same sizes
@@ -78,14 +72,6 @@ stay-after h k j stay sizes z there now = (sizes z).1 ∙ stay z there (sym (siz
 
 -- ---- a class's cell
 
-pub none-class : (class : List ℕ) (e : Bool) → e ≡ (length class == 0) → e ≡ true → class ≡ []
-none-class [] e h k = refl
-none-class (b ∷ bs) e h k = let t : (length (b ∷ bs) == 0) ≡ true = sym h ∙ k in absurd (grind (arith, nat_tests))
-
-pub class-size : (class : List ℕ) (e : Bool) → e ≡ (length class == 0) → e ≡ false → cell_size (length class) ∷ [] ≡ class_sizes class
-class-size [] e h k = let t : (length {A = ℕ} [] == 0) ≡ false = sym h ∙ k in absurd (grind (arith, nat_tests))
-class-size (b ∷ bs) e h k = refl
-
 long-class : (class : List ℕ) → 1 ≤ length class → cell_size (length class) ∷ [] ≡ class_sizes class
 long-class [] l = absurd (omega (arith, l))
 long-class (b ∷ bs) l = refl
@@ -120,74 +106,32 @@ class-stays old mid new class cell c same long = by cell c
 
 -- ---- a key's cells
 
-pub takes-for : (result : Result Node ArenaFault) (old : Keys) (new : Bins) (path : Path) (names : List (List ℕ)) (name descriptor : List ℕ) (place : Place) →
-    names ≡ name ∷ [] → BelongsThere old path names place →
-    OnOk result (Makes (heap_of old.bins) (heap_of new) (create_sizes old path names place (Some descriptor))) →
-    OnOk result (KeepsSizes (heap_of old.bins) (heap_of new)) → OnOk result (GrowsFor old.bins.bytes new.bytes (create_sizes old path names place (Some descriptor))) →
-    OnOk result (length old.bins.bytes ≤ length new.bytes) → OnOk result (TakesForKey old new path name descriptor)
-takes-for (Ok node) old new path names name descriptor place e belongs cells stay growth kept = record {
-  place = place;
-  belongs = subst (λ names. BelongsThere old path names place) e belongs;
-  cells = subst (λ names. Makes (heap_of old.bins) (heap_of new) (create_sizes old path names place (Some descriptor))) e cells;
-  stay = stay;
-  growth = subst (λ names. GrowsFor old.bins.bytes new.bytes (create_sizes old path names place (Some descriptor))) e growth;
-  kept = kept;
-}
-takes-for (Err fault) old new path names name descriptor place e belongs cells stay growth kept = tt
+module _ (bytes : List ℕ) (root : ℕ) (table after : DescriptorCells) (holds : TreeInvariant bytes root table) (old : Keys) (of : old.tree ≡ tree_in bytes root)
+    (path : Path) (key : NewKey) (names : List (List ℕ)) (one : names ≡ key.name.now ∷ []) (size more : Option ℕ) (sizes : planned_sizes size ≡ class_sizes key.class.now)
+    (x : IsExpected table after key.descriptor.now more) (place : Place) where
+  -- of the sizes that were planned
+  pub sizes-built : made_sizes old path names place ++ (planned_sizes size ++ planned_sizes more) ≡ build_sizes old path (built_key key) place
+  sizes-built =
+      ap (λ names. made_sizes old path names place ++ (planned_sizes size ++ planned_sizes more)) one
+      ∙ (ap (λ class. made_sizes old path (key.name.now ∷ []) place ++ (class ++ planned_sizes more)) sizes
+      ∙ ap (λ security. made_sizes old path (key.name.now ∷ []) place ++ (class_sizes key.class.now ++ security))
+      (sym (ap (λ (tree : Tree). security_sizes tree key.descriptor.now) of ∙ security_is bytes root table after holds key.descriptor.now more x)))
 
-pub lacks-for : (result : Result Node ArenaFault) (old : Keys) (path : Path) (names : List (List ℕ)) (name descriptor : List ℕ) (place : Place) →
-    names ≡ name ∷ [] → BelongsThere old path names place →
-    IfErr result (λ fault. fault ≡ Full → LacksRoom old.bins (create_sizes old path names place (Some descriptor))) →
-    IfErr result (λ fault. fault ≡ Full → LacksForKey old path name descriptor)
-lacks-for (Ok node) old path names name descriptor place e belongs lacks = tt
-lacks-for (Err fault) old path names name descriptor place e belongs lacks = λ full. record {
-  place = place;
-  belongs = subst (λ names. BelongsThere old path names place) e belongs;
-  lacks = subst (λ names. LacksRoom old.bins (create_sizes old path names place (Some descriptor))) e (lacks full);
-}
+-- they came where the key was made; then cells were written over twice, and it was described
+module _ (bins mid next last new : Bins) (parent : Node) (t : IsHere bins.bytes parent.offset) (sizes : List ℕ) (makes : Makes (heap_of bins) (heap_of mid) sizes)
+    (stay : KeepsSizes (heap_of bins) (heap_of mid)) (growth : GrowsFor bins.bytes mid.bytes sizes) (kept : length bins.bytes ≤ length mid.bytes)
+    (cells_next : cells_of next.bytes ≡ cells_of mid.bytes) (long_next : length next.bytes ≡ length mid.bytes)
+    (cells_then : cells_of last.bytes ≡ cells_of next.bytes) (long_then : length last.bytes ≡ length next.bytes)
+    (keeps : KeepsCells (heap_of last) (heap_of new)) (leaves : LeavesOthers (heap_of last) (heap_of new) t.holds.ring)
+    (long : length new.bytes ≡ length last.bytes) where
+  same : SameSizes (heap_of mid) (heap_of last)
+  same = sizes-then (heap_of mid) (heap_of next) (heap_of last) (same-sizes mid.bytes next.bytes cells_next long_next) (same-sizes next.bytes last.bytes cells_then long_then)
 
-pub lacks-room : (old : Keys) (path : Path) (key : Rec) → LacksForKey old path key.name key.descriptor → LacksKeyRoom old path key
-lacks-room old path key l = record { place = l.place; belongs = l.belongs; lacks = l.lacks }
-
-module _ (old mid next : Bins) (parent node : Node) (t : IsHere old.bytes parent.offset) (table : DescriptorCells) (key : NewKey)
-    (c : IsCreated old.bytes mid.bytes t.root table t.path parent (key.name.now ∷ []) (Some key.descriptor.now) key.time node)
-    (fields : KeyFields) (are : (r : KeyRecord) → key_at (heap_of old) parent.offset ≡ Some r → fields ≡ r.fields)
-    (may : MayBuild (tree_in old.bytes t.root) t.path key.name.now) (changed : IsChanged mid.bytes next.bytes t.root table t.path (at_time fields.time))
-    (roomy : (r : KeyRecord) → key_at (heap_of next) parent.offset ≡ Some r → length key.class.now ≤ r.fields.largest_subkey_class)
-    (takes : TakesForKey (seen_as old t.root) mid t.path key.name.now key.descriptor.now)
-    (same : cells_of next.bytes ≡ cells_of mid.bytes) (long : length next.bytes ≡ length mid.bytes) (sound : IsSound next.bytes next.heads) where
-  sizes : SameSizes (heap_of mid) (heap_of next)
-  sizes = same-sizes mid.bytes next.bytes same long
-
-  -- it was made
-  pub bare-made : MakesBare (seen_as old t.root) (seen_as next t.root) t.path (built_key key)
-  bare-made = record {
-    place = takes.place;
-    belongs = takes.belongs;
-    takes = record {
-      cells = makes_after (heap_of old) (heap_of mid) (heap_of next) _ takes.cells sizes;
-      stay = stay-after (heap_of old) (heap_of mid) (heap_of next) takes.stay sizes;
-      growth = growth-then old.bytes mid.bytes next.bytes _ long takes.growth;
-      kept = (let k = takes.kept in omega (arith, k, long));
-    };
-    root = refl;
-    tree = bare-built old.bytes mid.bytes parent node t table key c fields are may next.bytes changed roomy;
-    whole = record { sound = sound; whole = whole_tree next.bytes t.root changed.holds };
+  pub takes-built : (root : ℕ) → TakesCells (seen_as bins root) (seen_as new root) sizes
+  takes-built root = record {
+    cells = makes-leaving (heap_of bins) (heap_of last) (heap_of new) t.holds.ring sizes (makes_after (heap_of bins) (heap_of mid) (heap_of last) sizes makes same) keeps leaves
+        (λ z l. is-allocated (heap_of bins) z (let e = t.holds.shape.exact z in omega (arith, e, l)));
+    stay = stay-keeping (heap_of bins) (heap_of last) (heap_of new) (stay-after (heap_of bins) (heap_of mid) (heap_of last) stay same) keeps;
+    growth = growth-then bins.bytes mid.bytes new.bytes sizes (long ∙ (long_then ∙ long_next)) growth;
+    kept = omega (arith, kept, long, long_then, long_next);
   }
-
-  -- and then it got its class
-  pub key-built : (new : Bins) → IsChanged next.bytes new.bytes t.root table (child_path t.path key.name.now) (marked key.marks key.class.now) →
-      parent.depth ≡ length t.path → TakesCells (seen_as next t.root) (seen_as new t.root) (class_sizes key.class.now) →
-      BuildsKey (seen_as old t.root) (seen_as new t.root) t.path (built_key key)
-  key-built new d deep class = record {
-    bare = seen_as next t.root;
-    made = bare-made;
-    class = class;
-    root = refl;
-    tree = (built old.bytes mid.bytes parent node t table key c fields are may next.bytes changed roomy new.bytes d deep).tree;
-  }
-
-  -- or there is no room for it, and nothing changed
-  pub class-lacks : (new : Bins) → new ≡ next → LacksRoom next (class_sizes key.class.now) → LacksClassRoom (seen_as old t.root) (seen_as new t.root) t.path (built_key key)
-  class-lacks new e lacks =
-      subst (λ (b : Bins). LacksClassRoom (seen_as old t.root) (seen_as b t.root) t.path (built_key key)) (sym e) (record { made = bare-made; lacks = lacks })

@@ -23,7 +23,7 @@ use Rattle.reg_tree.specs.Internal.TreeInvariant.{TreeInvariant, IsHere, IsChang
 use Rattle.reg_tree.proofs.BuildKey.BuiltBelow.{bare}
 use Rattle.reg_tree.proofs.BuildKey.BuiltTrees.{get-here}
 use Rattle.reg_tree.proofs.InsertKey.LastDescribed.{insert-twice}
-use Rattle.reg_tree.proofs.Invariant.KeyOfTree.{offset-root}
+use Rattle.reg_tree.proofs.Invariant.KeyOfTree.{offset-root, spelt_is}
 use Rattle.reg_tree.proofs.Invariant.NodeLemmas.{on_ok, seen_as, to_tree}
 use Rattle.reg_tree.proofs.ValueChange.TreeAfterValueChange.{edited-at}
 
@@ -47,7 +47,9 @@ module _ (bins : Bins) (root : ℕ) {table : DescriptorCells} (holds : TreeInvar
   root-may = inl refl
 
   pub root-bare : HasNoClass (heap_of bins) root key.name.now
-  root-bare = bare bins.bytes root root-here made (ap (λ (t : Tree). get t []) tree-is ∙ get-here empty [] made) refl
+  root-bare =
+      bare (heap_of bins) root holds.keys holds.ring [] holds.shape [] root (offset-root bins.bytes root holds) made
+      (ap (λ (t : Tree). get t []) (sym (spelt_is bins.bytes root holds) ∙ tree-is) ∙ get-here empty [] made) refl
 
   module _ (new : Bins) (result : Result (Unit {0}) ArenaFault)
       (ok : (t : IsHere bins.bytes root) → MayHaveClass (heap_of bins) t.root t.path (length key.class.now) →

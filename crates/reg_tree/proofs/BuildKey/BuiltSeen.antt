@@ -1,6 +1,6 @@
 -- A tree as it is seen, where a key was built, or wasn't.
-use Rattle.std.proofs.Common.{◌≡◌, ℕ, Option, Some, None, [], ◌∷◌, length, refl, subst, arith, length-append}
-use Rattle.std.specs.Prelude.{◌⊎◌, Result, Ok, Err, OnOk, OnErr, IfOk, IfErr, IfSome}
+use Rattle.std.proofs.Common.{◌≡◌, ℕ, Option, Some, None, [], ◌∷◌, length, refl, sym, subst, arith, length-append}
+use Rattle.std.specs.Prelude.{Result, Ok, Err, OnOk, OnErr, IfOk, IfErr, IfSome}
 use Rattle.std.specs.FinMap.{get, insert}
 use Rattle.reg_names.specs.Names.{folded}
 use Rattle.reg_heap.specs.Paths.{Path, Tree}
@@ -11,10 +11,10 @@ use Rattle.reg_arena.specs.declared.ArenaFault.TheVariants.{Full}
 use Rattle.reg_security.specs.Rings.{DescriptorCells}
 use Rattle.reg_tree.specs.declared.build.NewKey.{NewKey}
 use Rattle.reg_tree.specs.declared.node.Node.{Node}
-use Rattle.reg_tree.specs.BuiltKeys.{BuildsKey, LacksClassRoom, LacksKeyRoom, MayBuild, built_key}
+use Rattle.reg_tree.specs.BuiltKeys.{BuildsKey, LacksKeyRoom, MayBuild, built_key}
 use Rattle.reg_tree.specs.TreeKeys.{Keys, tree_in, IsAt, IsThere, KeepsNodes}
 use Rattle.reg_tree.specs.KeyLengths.{Lengths, ChangesLengths, NotesMade}
-use Rattle.reg_tree.specs.Internal.DescriptorChange.{IsLike}
+use Rattle.reg_tree.specs.Internal.DescriptorChange.{IsLike, KeepsFinds}
 use Rattle.reg_tree.specs.Internal.KeyBuilding.{IsBuilt}
 use Rattle.reg_tree.specs.Internal.LengthChanges.{LengthsChange, MadeLengths}
 use Rattle.reg_tree.specs.Internal.TreeInvariant.{TreeInvariant, IsHere}
@@ -47,14 +47,19 @@ module _ (bins : Bins) (root : ℕ) {table : DescriptorCells} (holds : TreeInvar
     its : (p : Path) → IsAt now p parent → IfOk result (λ node. IsBuilt bins.bytes new.bytes root after p key node)
     its p at = ok (here_at bins root holds now view_is parent p at) refl at.depth (may_at p at)
 
-    pub holds_built : IsThere now parent → ((t : IsHere bins.bytes parent.offset) → t.table ≡ table → parent.depth ≡ length t.path →
-        OnErr result (TreeInvariant new.bytes t.root after)) → TreeInvariant new.bytes root after
-    holds_built some err = by result (its some.0 some.1) (err (there_at bins root holds now view_is parent some) refl some.1.depth)
+    pub holds_built : IsThere now parent → OnErr result (new ≡ bins) → OnErr result (KeepsFinds table after) → TreeInvariant new.bytes root after
+    holds_built some err kept = by result (its some.0 some.1) err kept
       where
-        by : (r : Result Node ArenaFault) → IfOk r (λ node. IsBuilt bins.bytes new.bytes root after some.0 key node) → OnErr r (TreeInvariant new.bytes root after) →
+        by : (r : Result Node ArenaFault) → IfOk r (λ node. IsBuilt bins.bytes new.bytes root after some.0 key node) → OnErr r (new ≡ bins) → OnErr r (KeepsFinds table after) →
             TreeInvariant new.bytes root after
-        by (Ok node) b e = b.holds
-        by (Err fault) b e = e
+        by (Ok node) b e k = b.holds
+        by (Err fault) b e k = subst (λ (b : Bins). TreeInvariant b.bytes root after) (sym e) (record {
+          keys = holds.keys;
+          ring = holds.ring;
+          shape = holds.shape;
+          finds = k (heap_of bins) holds.ring holds.finds;
+          classes = holds.classes;
+        })
 
     pub built_seen : (p : Path) → IsAt now p parent →
         IfOk result (λ node. (tree_in new.bytes root ≡ insert now.tree (child_path p key.name.now) (built_key key)) × IsAt (seen_as new root) (child_path p key.name.now) node)
@@ -86,12 +91,11 @@ module _ (bins : Bins) (root : ℕ) {table : DescriptorCells} (holds : TreeInvar
       (builds (here_at bins root holds now view_is parent p at) refl at.depth (may_at p at))
 
   -- or what there was no room for
-  pub lacks_seen : (new : Bins) (result : Result Node ArenaFault) → ((t : IsHere bins.bytes parent.offset) → t.table ≡ table → parent.depth ≡ length t.path →
-      MayBuild (tree_in bins.bytes t.root) t.path key.name.now → IfErr result (λ fault. fault ≡ Full →
-      LacksKeyRoom (seen_as bins t.root) t.path (built_key key) ⊎ LacksClassRoom (seen_as bins t.root) (seen_as new t.root) t.path (built_key key))) →
-      (p : Path) → IsAt now p parent → (result ≡ Err Full) → LacksKeyRoom now p (built_key key) ⊎ LacksClassRoom now (seen_as new root) p (built_key key)
-  lacks_seen new result lacks p at e =
-      subst (λ (k : Keys). LacksKeyRoom k p (built_key key) ⊎ LacksClassRoom k (seen_as new root) p (built_key key)) view_is
+  pub lacks_seen : (result : Result Node ArenaFault) → ((t : IsHere bins.bytes parent.offset) → t.table ≡ table → parent.depth ≡ length t.path →
+      MayBuild (tree_in bins.bytes t.root) t.path key.name.now → IfErr result (λ fault. fault ≡ Full → LacksKeyRoom (seen_as bins t.root) t.path (built_key key))) →
+      (p : Path) → IsAt now p parent → (result ≡ Err Full) → LacksKeyRoom now p (built_key key)
+  lacks_seen result lacks p at e =
+      subst (λ (k : Keys). LacksKeyRoom k p (built_key key)) view_is
       (by result e (lacks (here_at bins root holds now view_is parent p at) refl at.depth (may_at p at)))
     where
       by : {X : Type 0} (r : Result Node ArenaFault) → r ≡ Err Full → IfErr r (λ fault. fault ≡ Full → X) → X

@@ -1,6 +1,8 @@
 -- A cell carved for a class, if it takes one: the tree is as it was, and its key may get marks and the class; and the tree when it did.
-use Rattle.std.proofs.Common.{◌≡◌, inl, inr, ℕ, ◌+◌, ◌<◌, Option, Some, None, List, [], ◌∷◌, length, refl, sym, ap, ◌∙◌, subst, arith}
+use Rattle.std.proofs.Common.{◌≡◌, inl, inr, ℕ, ◌+◌, ◌<◌, ◌≤◌, Option, Some, None, List, [], ◌∷◌, length, refl, sym, ap, ◌∙◌, subst, arith}
 use Rattle.std.specs.Option.{option_map}
+use Rattle.std.specs.Prelude.{MatchOption}
+use Rattle.std.proofs.lemmas.List.{append-nil}
 use Rattle.reg_heap.specs.declared.limits.TheConstants.{BINS_LIMIT, GROWTH_BOUND}
 use Rattle.reg_heap.specs.Paths.{Path, Tree}
 use Rattle.reg_heap.specs.Heaps.{Heap, allocated}
@@ -21,14 +23,37 @@ use Rattle.reg_values.proofs.ValueFreeing.FrameChains.{times-same}
 use Rattle.reg_index.specs.Subkeys.{taken}
 use Rattle.reg_security.specs.Rings.{Finds}
 use Rattle.reg_security.proofs.TableCells.{finds-same}
+use Rattle.reg_tree.specs.BuiltKeys.{class_sizes}
+use Rattle.reg_tree.specs.CellSizes.{planned_sizes}
 use Rattle.reg_tree.specs.KeyLengths.{lengths_of}
 use Rattle.reg_tree.specs.Internal.LengthChanges.{LengthsStay}
-use Rattle.reg_tree.specs.Internal.KeyBuilding.{HasNoClass, IsCarvedForClass, IsClassCell, IsMarkable, IsMarked, MayHaveClass, marked}
+use Rattle.reg_tree.specs.Internal.KeyBuilding.{HasNoClass, IsCarvedForClass, IsClassCell, IsMarkable, MayHaveClass, marked}
+use Rattle.reg_tree.specs.Internal.SpareCells.{IsClassSize, StillStand}
+use Rattle.reg_tree.specs.TreeKeys.{tree_in}
 use Rattle.reg_tree.specs.Internal.TreeInvariant.{HasShortClasses, IsHere, IsChanged}
 use Rattle.reg_tree.proofs.Invariant.CellReadings.{is_some_of, key-exists, key-moved}
 use Rattle.reg_tree.proofs.Invariant.KeyOfShape as keyed
-use Rattle.reg_tree.proofs.Invariant.KeyOfTree.{spelt_is}
+use Rattle.reg_tree.proofs.Invariant.KeyOfTree.{spelt_is, spelt_of}
+use Rattle.reg_tree.proofs.Invariant.ShortClasses.{classed-short}
 use Rattle.reg_tree.proofs.InsertKey.SpareCellsCarved.{calm, shape-spared, tree-spared, offsets-spared}
+
+-- ---- the size of its cell
+
+pub one-class : (class : List ℕ) (size : ℕ) → (1 ≤ length class) × (size ≡ cell_size (length class)) → size ∷ [] ≡ class_sizes class
+one-class [] size is = let some = is.0 in absurd (omega (arith, some))
+one-class (byte ∷ class) size is = ap (λ size. size ∷ []) is.1
+
+abbrev pub IsClassOf : List ℕ → Option ℕ → Type 0
+IsClassOf class size = MatchOption size (class ≡ []) (λ size. (1 ≤ length class) × (size ≡ cell_size (length class)))
+
+pub planned-class : (class : List ℕ) (size : Option ℕ) → IsClassOf class size → planned_sizes size ≡ class_sizes class
+planned-class [] None is = refl
+planned-class (byte ∷ class) None is = absurd (cc)
+planned-class class (Some size) is = one-class class size is
+
+pub class-size : (class : List ℕ) (size : Option ℕ) → length class < 65536 → IsClassOf class size → IsClassSize size
+class-size class None short is = tt
+class-size class (Some size) short is = (length class, short, is.1)
 
 -- a bin for one class's cell is small
 pub near-limit : (bytes : List ℕ) (size : ℕ) → size < 65536 → PassesLimit bytes (total_of (cell_size size ∷ [])) → BINS_LIMIT < length bytes + GROWTH_BOUND
@@ -121,33 +146,41 @@ module _ (old mid : Bins) (key : ℕ) (name class : List ℕ) (bare : HasNoClass
           enough = a.enough;
         })
 
-    abbrev pub markable : IsMarkable mid.bytes key name cell class
+    abbrev pub markable : IsMarkable mid.bytes key name cell class []
     markable = record {
       root = t.root;
       path = t.path;
       keys = keys;
       ring = ring;
-      table = t.table;
-      finds = finds-then;
-      shape = shape-then;
+      shape = subst (IsShape k t.root keys ring) (sym (append-nil (taken cell))) shape-then;
       at = offsets-then t.path ∙ t.at;
       cell_is = cell-then;
       bare = λ r e. bare r (sym (key-moved h k key (node-still t.path key t.at)) ∙ e);
       above = above-then;
-      classes = subst HasShortClasses (spelt_is old.bytes t.root t.holds ∙ sym tree-then) t.holds.classes;
-      short = short;
     }
 
     -- ---- when it got them
 
-    pub dressed : (new : List ℕ) (marks : ℕ) → IsMarked mid.bytes new t.root t.table t.path keys marks class →
-        IsChanged old.bytes new t.root t.table t.path (marked marks class)
-    dressed new marks i = record {
-      holds = i.holds;
-      tree = i.tree ∙ ap (λ (tree : Tree). edited tree t.path (marked marks class)) (tree-then ∙ sym (spelt_is old.bytes t.root t.holds));
-      offsets = λ q. i.offsets q ∙ offsets-then q;
-    }
+    module _ (new : List ℕ) (marks : ℕ) (i : StillStand k (cell_at new) t.root ring [] (edited (tree_of k keys) t.path (marked marks class))) where
+      tree-now : tree_in new t.root ≡ edited (tree_in old.bytes t.root) t.path (marked marks class)
+      tree-now =
+          spelt_of new t.root i.now ring i.shape
+          ∙ (i.spells
+          ∙ ap (λ (tree : Tree). edited tree t.path (marked marks class)) (tree-then ∙ sym (spelt_is old.bytes t.root t.holds)))
 
-    -- each key has the largest lengths that it had
-    pub dressed-lengths : (new : List ℕ) (marks : ℕ) → IsMarked mid.bytes new t.root t.table t.path keys marks class → LengthsStay h (cell_at new) t.root
-    dressed-lengths new marks i = λ q o at now. i.lengths q o (offsets-then q ∙ at) now ∙ ap (option_map lengths_of) (key-moved h k o (node-still q o at))
+      pub dressed : IsChanged old.bytes new t.root t.table t.path (marked marks class)
+      dressed = record {
+        holds = record {
+          keys = i.now;
+          ring = ring;
+          shape = i.shape;
+          finds = finds-same t.table k (cell_at new) ring finds-then i.described;
+          classes = subst HasShortClasses (sym tree-now) (classed-short (tree_in old.bytes t.root) t.path (marked marks class) (λ r. short) t.holds.classes);
+        };
+        tree = tree-now;
+        offsets = λ q. i.offsets q ∙ offsets-then q;
+      }
+
+      -- each key has the largest lengths that it had
+      pub dressed-lengths : LengthsStay k (cell_at new) t.root → LengthsStay h (cell_at new) t.root
+      dressed-lengths stay = λ q o at now. stay q o (offsets-then q ∙ at) now ∙ ap (option_map lengths_of) (key-moved h k o (node-still q o at))

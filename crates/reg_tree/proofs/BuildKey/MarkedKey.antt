@@ -9,6 +9,7 @@ use Rattle.reg_heap.specs.Paths.{Path}
 use Rattle.reg_heap.specs.Heaps.{Heap, allocated}
 use Rattle.reg_heap.specs.Kinds.{Found, times, is_own, owned, shared}
 use Rattle.reg_heap.specs.Kinds.Kind.{Key, Class}
+use Rattle.reg_arena.proofs.FreeList.ThreadLinks.{times-append}
 use Rattle.reg_records.specs.BigData.{if_any, named}
 use Rattle.reg_records.specs.KeyNodes.{key_at, IsPlainKey}
 use Rattle.reg_records.specs.RecordCells.{held}
@@ -75,36 +76,39 @@ none-read : (h : Heap) (size offset : ℕ) (y : List ℕ × List Found) → size
 none-read h size offset y e r =
     ap (λ (y : List ℕ × List Found). y.1) (same_Some _ _ (sym r ∙ ap (λ size. pieces_at (if_any Class size offset) h) e))
 
-module _ (h h1 h2 : Heap) (root : ℕ) (keys : Branch Node) (ring : List ℕ) (cell : Option ℕ) (w : IsShape h root keys ring (taken cell)) (p : Path)
+module _ (h h1 h2 : Heap) (root : ℕ) (keys : Branch Node) (ring : List ℕ) (cell : Option ℕ) (left : List ℕ) (w : IsShape h root keys ring (taken cell ++ left)) (p : Path)
     (key : ℕ) (at : key_offset_at h root p ≡ Some key) (name class : List ℕ) (is : IsClassCell h cell class) (bare : HasNoClass h key name)
     (puts : PutsClass h h1 cell class) (marks : ℕ) (apart : bit_and marks 103 ≡ 0) (noted : Notes h1 h2 key (noted_marks marks cell (length class))) where
   abbrev pub was : Branch Node
-  was = keyed.branch h root keys ring (taken cell) w p key at
+  was = keyed.branch h root keys ring (taken cell ++ left) w p key at
 
   abbrev n : Node
   n = was.node
 
   abbrev seen : IsSeen h root was.offset n
-  seen = keyed.seen h root keys ring (taken cell) w p key at
+  seen = keyed.seen h root keys ring (taken cell ++ left) w p key at
 
   abbrev l : IsLooked h was.offset n
-  l = keyed.looked h root keys ring (taken cell) w p key at
+  l = keyed.looked h root keys ring (taken cell ++ left) w p key at
 
   offset : was.offset ≡ key
-  offset = keyed.offset h root keys ring (taken cell) w p key at
+  offset = keyed.offset h root keys ring (taken cell ++ left) w p key at
 
   notes : Notes h1 h2 was.offset (noted_marks marks cell (length class))
   notes = subst (λ o. Notes h1 h2 o (noted_marks marks cell (length class))) (sym offset) noted
 
   -- all that a cell is, at most once
-  pub room : (z : ℕ) → total_of (owns z) was + (times z ring + times z (taken cell)) ≤ allocated h z
-  room = keyed.branch_once h root keys ring (taken cell) w p key at
+  pub room : (z : ℕ) → total_of (owns z) was + (times z ring + (times z (taken cell) + times z left)) ≤ allocated h z
+  room z =
+      let r = keyed.branch_once h root keys ring (taken cell ++ left) w p key at z in
+      let t = times-append z (taken cell) left in
+      omega (arith, r, t)
 
   key-before : key_at h was.offset ≡ Some n.key
-  key-before = subst (λ o. key_at h o ≡ Some n.key) (sym offset) (keyed.key_is h root keys ring (taken cell) w p key at)
+  key-before = subst (λ o. key_at h o ≡ Some n.key) (sym offset) (keyed.key_is h root keys ring (taken cell ++ left) w p key at)
 
   unclassed : n.key.fields.class_length ≡ 0
-  unclassed = (bare n.key (keyed.key_is h root keys ring (taken cell) w p key at)).1
+  unclassed = (bare n.key (keyed.key_is h root keys ring (taken cell ++ left) w p key at)).1
 
   no-cells : l.class_cells ≡ []
   no-cells = none-read h n.key.fields.class_length n.key.fields.class (n.class, l.class_cells) unclassed l.class_is

@@ -1,5 +1,5 @@
 -- A tree of which one key got marks and a class.
-use Rattle.std.proofs.Common.{◌≡◌, inl, inr, ℕ, ◌+◌, ◌<◌, ◌≤◌, Bool, true, false, cond, Option, Some, None, IsSome, List, [], ◌∷◌, length, bit_and, refl, sym, ap, ◌∙◌, subst, arith}
+use Rattle.std.proofs.Common.{◌≡◌, inl, inr, ℕ, ◌+◌, ◌<◌, ◌≤◌, Bool, true, false, cond, Option, Some, None, IsSome, List, [], ◌∷◌, ◌++◌, length, bit_and, refl, sym, ap, ◌∙◌, subst, arith}
 use Rattle.std.specs.Prelude.{unwrap_or, ◌^◌}
 use Rattle.std.specs.Option.{option_map}
 use Rattle.std.specs.FinMap.{get, insert, get-insert, same_map}
@@ -9,6 +9,7 @@ use Rattle.reg_heap.specs.Paths.{Path, Rec}
 use Rattle.reg_heap.specs.Edits.{edited}
 use Rattle.reg_heap.specs.Heaps.{Heap, allocated}
 use Rattle.reg_heap.specs.Kinds.{times, owned, shared}
+use Rattle.reg_arena.proofs.FreeList.ThreadLinks.{times-append}
 use Rattle.reg_arena.specs.Cells.{cell_at}
 use Rattle.reg_records.specs.KeyNodes.{KeyRecord, key_at, is_in_profile}
 use Rattle.reg_records.proofs.KeyNodeCodec.{key-profile}
@@ -36,16 +37,12 @@ use Rattle.reg_shape.proofs.Refinement.SpeltTrees.{path_total, path_same}
 use Rattle.reg_shape.proofs.Wholeness.ShapeRecords.{all-at, at-most-one}
 use Rattle.reg_shape.proofs.Wholeness.WholeAfterExchange.{all-members, forest-kept}
 use Rattle.reg_index.specs.Subkeys.{taken}
-use Rattle.reg_security.proofs.TableCells.{finds-same}
-use Rattle.reg_tree.specs.Internal.KeyBuilding.{IsMarkable, IsMarked, IsNotedAbove, MayHaveClass, PutsClass, marked, noted_marks}
+use Rattle.reg_tree.specs.Internal.KeyBuilding.{IsMarkable, IsNotedAbove, MayHaveClass, PutsClass, marked, noted_marks}
 use Rattle.reg_tree.specs.Internal.KeyNodeChanges.{Notes}
 use Rattle.reg_tree.specs.Internal.LengthChanges.{LengthsStay}
-use Rattle.reg_tree.specs.TreeKeys.{tree_in}
-use Rattle.reg_tree.specs.Internal.TreeInvariant.{HasShortClasses, TreeInvariant}
+use Rattle.reg_tree.specs.Internal.SpareCells.{StillStand}
 use Rattle.reg_tree.proofs.Invariant.KeyOfShape as keyed
-use Rattle.reg_tree.proofs.Invariant.KeyOfTree.{spelt_of}
 use Rattle.reg_tree.proofs.Invariant.LengthsAfterGraft.{lengths_stay}
-use Rattle.reg_tree.proofs.Invariant.ShortClasses.{classed-short}
 use Rattle.reg_tree.proofs.InsertKey.PathGrowth.{path-self}
 use Rattle.reg_tree.proofs.ValueChange.TreeAfterValueChange.{edited-at}
 use Rattle.reg_tree.proofs.BuildKey.KeyMarks.{marks-told}
@@ -59,26 +56,27 @@ abbrev its_offset : Option (ℕ × Node) → Option ℕ
 its_offset o = option_map (λ (z : ℕ × Node). z.0) o
 
 -- when the class was put, the key node is as it was
-module _ (old mid : List ℕ) (key : ℕ) (name : List ℕ) (cell : Option ℕ) (class : List ℕ) (d : IsMarkable old key name cell class)
+module _ (old mid : List ℕ) (key : ℕ) (name : List ℕ) (cell : Option ℕ) (class left : List ℕ) (d : IsMarkable old key name cell class left)
     (puts : PutsClass (cell_at old) (cell_at mid) cell class) where
   key-same : key_at (cell_at mid) key ≡ key_at (cell_at old) key
   key-same =
       let h : Heap = cell_at old in
-      let b : Branch Node = keyed.branch h d.root d.keys d.ring (taken cell) d.shape d.path key d.at in
-      let own = offset-own h b.offset b.node (keyed.seen h d.root d.keys d.ring (taken cell) d.shape d.path key d.at).reads in
-      let room = keyed.branch_once h d.root d.keys d.ring (taken cell) d.shape d.path key d.at b.offset in
+      let b : Branch Node = keyed.branch h d.root d.keys d.ring (taken cell ++ left) d.shape d.path key d.at in
+      let own = offset-own h b.offset b.node (keyed.seen h d.root d.keys d.ring (taken cell ++ left) d.shape d.path key d.at).reads in
+      let room = keyed.branch_once h d.root d.keys d.ring (taken cell ++ left) d.shape d.path key d.at b.offset in
       let o = at-most-one h b.offset in
-      let same = keyed.offset h d.root d.keys d.ring (taken cell) d.shape d.path key d.at in
+      let t = times-append b.offset (taken cell) left in
+      let same = keyed.offset h d.root d.keys d.ring (taken cell ++ left) d.shape d.path key d.at in
       key-moved h (cell_at mid) key
-      (subst (λ z. cell_at mid z ≡ h z) same (class-calm h (cell_at mid) cell class puts b.offset (omega (arith, own, room, o))))
+      (subst (λ z. cell_at mid z ≡ h z) same (class-calm h (cell_at mid) cell class puts b.offset (omega (arith, own, room, o, t))))
 
   pub key-mid : IsSome (key_at (cell_at mid) key)
-  key-mid = is_some_of _ _ (key-same ∙ keyed.key_is (cell_at old) d.root d.keys d.ring (taken cell) d.shape d.path key d.at)
+  key-mid = is_some_of _ _ (key-same ∙ keyed.key_is (cell_at old) d.root d.keys d.ring (taken cell ++ left) d.shape d.path key d.at)
 
   pub name-mid : (k : KeyRecord) → key_at (cell_at mid) key ≡ Some k → k.name ≡ name
   name-mid k e = (d.bare k (sym key-same ∙ e)).0
 
-module _ (old mid new : List ℕ) (key : ℕ) (name : List ℕ) (cell : Option ℕ) (class : List ℕ) (d : IsMarkable old key name cell class) (marks : ℕ)
+module _ (old mid new : List ℕ) (key : ℕ) (name : List ℕ) (cell : Option ℕ) (class left : List ℕ) (d : IsMarkable old key name cell class left) (marks : ℕ)
     (apart : bit_and marks 103 ≡ 0) (puts : PutsClass (cell_at old) (cell_at mid) cell class)
     (notes : Notes (cell_at mid) (cell_at new) key (noted_marks marks cell (length class))) where
   abbrev h : Heap
@@ -99,47 +97,51 @@ module _ (old mid new : List ℕ) (key : ℕ) (name : List ℕ) (cell : Option �
   abbrev p : Path
   p = d.path
 
-  abbrev w : IsShape h root keys ring (taken cell)
+  abbrev w : IsShape h root keys ring (taken cell ++ left)
   w = d.shape
 
   abbrev was : Branch Node
-  was = key_of.was h (cell_at mid) k root keys ring cell w p key d.at name class d.cell_is d.bare puts marks apart notes
+  was = key_of.was h (cell_at mid) k root keys ring cell left w p key d.at name class d.cell_is d.bare puts marks apart notes
 
   abbrev n : Node
   n = was.node
 
   was-is : branch_at p keys ≡ Some was
-  was-is = keyed.branch_is h root keys ring (taken cell) w p key d.at
+  was-is = keyed.branch_is h root keys ring (taken cell ++ left) w p key d.at
 
   stands-before : StandsIn h root was
-  stands-before = keyed.stands h root keys ring (taken cell) w p key d.at
+  stands-before = keyed.stands h root keys ring (taken cell ++ left) w p key d.at
 
   abbrev m : Node
-  m = key_of.after h (cell_at mid) k root keys ring cell w p key d.at name class d.cell_is d.bare puts marks apart notes
+  m = key_of.after h (cell_at mid) k root keys ring cell left w p key d.at name class d.cell_is d.bare puts marks apart notes
 
   seen-now : IsSeen k root was.offset m
-  seen-now = key_of.sees-after h (cell_at mid) k root keys ring cell w p key d.at name class d.cell_is d.bare puts marks apart notes
+  seen-now = key_of.sees-after h (cell_at mid) k root keys ring cell left w p key d.at name class d.cell_is d.bare puts marks apart notes
 
   fits-now : (below : List (ℕ × Node)) → Fits was.offset n below → Fits was.offset m below
-  fits-now = key_of.fits-after h (cell_at mid) k root keys ring cell w p key d.at name class d.cell_is d.bare puts marks apart notes
+  fits-now = key_of.fits-after h (cell_at mid) k root keys ring cell left w p key d.at name class d.cell_is d.bare puts marks apart notes
 
   owned-now : (z : ℕ) → owned z (cells_of m) ≡ owned z (cells_of n) + times z (taken cell)
-  owned-now = key_of.owned-after h (cell_at mid) k root keys ring cell w p key d.at name class d.cell_is d.bare puts marks apart notes
+  owned-now = key_of.owned-after h (cell_at mid) k root keys ring cell left w p key d.at name class d.cell_is d.bare puts marks apart notes
 
   shared-now : (z : ℕ) → shared z (cells_of m) ≡ shared z (cells_of n)
-  shared-now = key_of.shared-after h (cell_at mid) k root keys ring cell w p key d.at name class d.cell_is d.bare puts marks apart notes
+  shared-now = key_of.shared-after h (cell_at mid) k root keys ring cell left w p key d.at name class d.cell_is d.bare puts marks apart notes
 
   allocated-now : (z : ℕ) → allocated k z ≡ allocated h z
-  allocated-now = key_of.allocated-after h (cell_at mid) k root keys ring cell w p key d.at name class d.cell_is d.bare puts marks apart notes
+  allocated-now = key_of.allocated-after h (cell_at mid) k root keys ring cell left w p key d.at name class d.cell_is d.bare puts marks apart notes
 
   calm : (z : ℕ) → times z (taken cell) ≡ 0 → owned z (cells_of n) ≡ 0 → k z ≡ h z
-  calm = key_of.calm-others h (cell_at mid) k root keys ring cell w p key d.at name class d.cell_is d.bare puts marks apart notes
+  calm = key_of.calm-others h (cell_at mid) k root keys ring cell left w p key d.at name class d.cell_is d.bare puts marks apart notes
 
-  room : (z : ℕ) → total_of (owns z) was + (times z ring + times z (taken cell)) ≤ allocated h z
-  room = keyed.branch_once h root keys ring (taken cell) w p key d.at
+  room : (z : ℕ) → total_of (owns z) was + (times z ring + (times z (taken cell) + times z left)) ≤ allocated h z
+  room = key_of.room h (cell_at mid) k root keys ring cell left w p key d.at name class d.cell_is d.bare puts marks apart notes
 
   calm-ring : (z : ℕ) → 0 < times z ring → k z ≡ h z
   calm-ring z l = let r = room z in let o = at-most-one h z in calm z (omega (arith, r, o, l)) (omega (arith, r, o, l))
+
+  -- a cell that is left too
+  calm-left : (z : ℕ) → 0 < times z left → k z ≡ h z
+  calm-left z l = let r = room z in let o = at-most-one h z in calm z (omega (arith, r, o, l)) (omega (arith, r, o, l))
 
   -- ---- the keys stand
 
@@ -147,7 +149,7 @@ module _ (old mid new : List ℕ) (key : ℕ) (name : List ℕ) (cell : Option �
   now = graft_at p m was.below keys
 
   once : (z : ℕ) → total_of (owns z) keys + times z (taken cell) ≤ 1
-  once z = let x = w.exact z in let o = at-most-one h z in omega (arith, x, o)
+  once z = let x = w.exact z in let o = at-most-one h z in let t = times-append z (taken cell) left in omega (arith, x, o, t)
 
   -- at the root
   at-root : p ≡ [] → StandsIn k root now
@@ -163,14 +165,14 @@ module _ (old mid new : List ℕ) (key : ℕ) (name : List ℕ) (cell : Option �
   -- below another
   module _ (a : IsNotedAbove h root p (length class)) where
     abbrev above : Branch Node
-    above = keyed.branch h root keys ring (taken cell) w a.above a.offset a.at
+    above = keyed.branch h root keys ring (taken cell ++ left) w a.above a.offset a.at
 
     above-is : branch_at a.above keys ≡ Some above
-    above-is = keyed.branch_is h root keys ring (taken cell) w a.above a.offset a.at
+    above-is = keyed.branch_is h root keys ring (taken cell ++ left) w a.above a.offset a.at
 
     enough : length class ≤ above.node.key.fields.largest_subkey_class
     enough =
-        let same : a.key ≡ above.node.key = same_Some _ _ (sym a.reads ∙ keyed.key_is h root keys ring (taken cell) w a.above a.offset a.at) in
+        let same : a.key ≡ above.node.key = same_Some _ _ (sym a.reads ∙ keyed.key_is h root keys ring (taken cell ++ left) w a.above a.offset a.at) in
         subst (λ (r : KeyRecord). length class ≤ r.fields.largest_subkey_class) same a.enough
 
     right-below : branch_at (a.name ∷ []) above ≡ Some was
@@ -184,7 +186,7 @@ module _ (old mid new : List ℕ) (key : ℕ) (name : List ℕ) (cell : Option �
     above-stands : StandsIn k root (record above { below = graft_in (a.name ∷ []) m was.below above.below })
     above-stands =
         row-stands h k root was m (taken cell) (length class) near seen-now fits-now calm above a.name right-below enough
-        (keyed.stands h root keys ring (taken cell) w a.above a.offset a.at)
+        (keyed.stands h root keys ring (taken cell ++ left) w a.above a.offset a.at)
         (λ z. (let b = branch-total (owns z) above a.above keys above-is in let o = once z in omega (arith, b, o)))
 
     at-below : StandsIn k root now
@@ -222,11 +224,11 @@ module _ (old mid new : List ℕ) (key : ℕ) (name : List ℕ) (cell : Option �
       ring-recounted h k was was ring
       (all-members (λ z. IsRecounted h k (total_of (shares z) was) (total_of (shares z) was) z) ring recounted) w.closed
 
-  shape-now : IsShape k root now ring []
+  shape-now : IsShape k root now ring left
   shape-now = record {
     offset = graft-offset m was.below p keys ∙ w.offset;
     stands = stands-now;
-    exact = λ z. (let x = w.exact z in let o = owns-all z in let a = allocated-now z in omega (arith, x, o, a));
+    exact = λ z. (let x = w.exact z in let t = times-append z (taken cell) left in let o = owns-all z in let a = allocated-now z in omega (arith, x, t, o, a));
     closed = closed-now;
     ringed = λ z. (
       (λ l. (w.ringed z).0 (let s = shares-all z in omega (arith, s, l))),
@@ -238,7 +240,7 @@ module _ (old mid new : List ℕ) (key : ℕ) (name : List ℕ) (cell : Option �
     shallow = (
         let g = graft-depth was m was.below p keys was-is in
         let s = w.shallow in
-        let q = keyed.shallow h root keys ring (taken cell) w p key d.at in
+        let q = keyed.shallow h root keys ring (taken cell ++ left) w p key d.at in
         omega (arith, g, s, q));
   }
 
@@ -288,7 +290,7 @@ module _ (old mid new : List ℕ) (key : ℕ) (name : List ℕ) (cell : Option �
       by false e = ap its_offset (found-other q e)
 
   -- each key has the largest lengths that it had
-  lengths-now : LengthsStay h k root
+  pub lengths-now : LengthsStay h k root
   lengths-now =
       lengths_stay h k root p keys was (record was { node = m }) was-is named-now w.offset w.stands (graft-offset m was.below p keys ∙ w.offset) stands-now
       (λ y r o a b e f. ap (λ (z : ℕ × Node). z.1) (same_Some _ _ (sym f ∙ e))) refl
@@ -308,7 +310,7 @@ module _ (old mid new : List ℕ) (key : ℕ) (name : List ℕ) (cell : Option �
 
   module _ (small : marks < 2 ^ 16) where
     profile : is_in_profile n.key.fields.flags ≡ true
-    profile = key-profile h key n.key (keyed.key_is h root keys ring (taken cell) w p key d.at)
+    profile = key-profile h key n.key (keyed.key_is h root keys ring (taken cell ++ left) w p key d.at)
 
     -- it is told with its marks and its class
     told-marked : tells k (was.offset, m) ≡ marked marks class rec
@@ -335,20 +337,13 @@ module _ (old mid new : List ℕ) (key : ℕ) (name : List ℕ) (cell : Option �
             ∙ (sym (told-found h keys (apart-stands h root keys w.stands) q)
             ∙ sym (ap (λ t. cond t (Some (marked marks class rec)) (get (tree_of h keys) q)) e)))
 
-    tree-now : tree_in new root ≡ edited (tree_of h keys) p (marked marks class)
-    tree-now =
-        spelt_of new root now ring shape-now
-        ∙ (same_map path_total path_same (tree_of k now) (insert (tree_of h keys) p (marked marks class rec)) tree-at
-        ∙ sym (edited-at (tree_of h keys) p rec (marked marks class) (keyed.rec_there h root keys ring (taken cell) w p key d.at)))
-
-    holds-now : TreeInvariant new root d.table
-    holds-now = record {
-      keys = now;
-      ring = ring;
+    pub is-marked : StillStand h k root ring left (edited (tree_of h keys) p (marked marks class))
+    is-marked = record {
+      now = now;
       shape = shape-now;
-      finds = finds-same d.table h k ring d.finds describes-now;
-      classes = subst HasShortClasses (sym tree-now) (classed-short (tree_of h keys) p (marked marks class) (λ r. d.short) d.classes);
+      spells = same_map path_total path_same (tree_of k now) (insert (tree_of h keys) p (marked marks class rec)) tree-at
+          ∙ sym (edited-at (tree_of h keys) p rec (marked marks class) (keyed.rec_there h root keys ring (taken cell ++ left) w p key d.at));
+      offsets = offsets-now;
+      described = describes-now;
+      spare = calm-left;
     }
-
-    pub is-marked : IsMarked old new root d.table p keys marks class
-    is-marked = record { holds = holds-now; tree = tree-now; offsets = offsets-now; lengths = lengths-now }

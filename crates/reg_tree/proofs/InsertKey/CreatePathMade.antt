@@ -19,10 +19,6 @@ use Rattle.reg_records.specs.KeyNodes.{KeyRecord, key_at}
 use Rattle.reg_records.specs.KeySecurities.{KeySecurityRecord}
 use Rattle.reg_shape.specs.Whole.{descriptor_at}
 use Rattle.reg_shape.specs.PathLookup.{key_offset_at, subkey_named}
-use Rattle.reg_shape.specs.Nodes.{Node}
-use Rattle.reg_shape.specs.Internal.Forests.{Branch}
-use Rattle.reg_shape.specs.Internal.Shapes.{tree_of}
-use Rattle.reg_shape.specs.Internal.Grafts.{IsShape}
 use Rattle.reg_security.specs.Rings.{DescriptorCells}
 use Rattle.reg_security.proofs.TableCells.{finds-same}
 use Rattle.reg_tree.specs.declared.node.Node.{Node as TreeNode}
@@ -41,7 +37,7 @@ use Rattle.reg_tree.specs.Internal.TreeInvariant.{HasShortClasses, TreeInvariant
 use Rattle.reg_tree.specs.Internal.PathWalks.{Stops, Reaches}
 use Rattle.reg_tree.specs.Internal.ReachedPlaces.{BelongsFirst}
 use Rattle.reg_tree.specs.Internal.SpareCells.{HaveSizes, MayGrowAll, GrowsAll, IsSpared}
-use Rattle.reg_tree.specs.Internal.KeyCreation.{IsCreated}
+use Rattle.reg_tree.specs.Internal.KeyCreation.{IsCreated, IsGrownAll}
 use Rattle.reg_tree.proofs.Invariant.ShortClasses.{made-short}
 use Rattle.reg_tree.proofs.Invariant.KeyOfTree.{spelt_of, spelt_is, key_there}
 use Rattle.reg_tree.proofs.Invariant.CellReadings.{key-exists}
@@ -51,25 +47,11 @@ use Rattle.reg_tree.proofs.InsertKey.SpareCellsCarved.{tree-spared, offsets-spar
 use Rattle.reg_tree.proofs.InsertKey.MadeCells.{made_makes}
 use Rattle.reg_tree.proofs.InsertKey.CreatePath as reached
 
--- ---- keys made, with some cells left, whatever finds their securities
-
--- keys of some names were made from a path on, each with its parent's descriptor; the cells that are left have their sizes
-pub record IsGrownAll (old new : List ℕ) (root : ℕ) (path : Path) (names : List (List ℕ)) (moment : ℕ) (ring more last : List ℕ) (from made : TreeNode) : Type 0 where
-  pub now : Branch Node
-  pub shape : IsShape (cell_at new) root now ring last
-  pub others : HaveSizes (cell_at new) last more
-  pub tree : tree_of (cell_at new) now ≡ with_keys (tree_in old root) path names None moment
-  pub offset : key_offset_at (cell_at new) root (path ++ map folded names) ≡ Some made.offset
-  pub depth : made.depth ≡ from.depth + length names
-  pub keeps : (q : Path) (o : ℕ) → key_offset_at (cell_at old) root q ≡ Some o → key_offset_at (cell_at new) root q ≡ Some o
-  pub lengths : LengthsChange (cell_at old) (cell_at new) root (last_there (tree_in old root) path names)
-      (with_first_length (missing (tree_in old root) path names))
-  pub noted : MadeLengths (cell_at new) root (last_there (tree_in old root) path names) (missing (tree_in old root) path names)
-  pub described : (z : ℕ) → 0 < times z ring → descriptor_at (cell_at new) z ≡ descriptor_at (cell_at old) z
+-- ---- keys made
 
 -- where no cell is left, the table finds them as before
 pub created : (old new : List ℕ) (from : TreeNode) (t : IsHere old from.offset) (names : List (List ℕ)) (moment : ℕ) (made : TreeNode) →
-    IsGrownAll old new t.root t.path names moment t.holds.ring [] [] from made → IsCreated old new t.root t.table t.path from names None moment made
+    IsGrownAll old new t.root t.path names moment t.holds.ring [] from made → IsCreated old new t.root t.table t.path from names None moment made
 created old new from t names moment made g =
     let tree = spelt_of new t.root g.now t.holds.ring g.shape ∙ g.tree in
     record {
@@ -169,12 +151,11 @@ module _ (old : List ℕ) (from : TreeNode) (t : IsHere old from.offset) (path :
       then-at : (q : Path) (o : ℕ) → key_offset_at (cell_at old) t.root q ≡ Some o → key_offset_at (cell_at mid) t.root q ≡ Some o
       then-at q o e = offsets-spared (cell_at old) (cell_at mid) t.root t.holds.keys t.holds.ring spare t.holds.shape s.come q ∙ e
 
-      pub grown_all : IsGrownAll old new t.root t.path names moment t.holds.ring more last from made
+      pub grown_all : IsGrownAll old new t.root t.path names moment t.holds.ring last from made
       unfolding may_make may_grow_all here_then
       grown_all = record {
         now = grown.now;
         shape = grown.shape;
-        others = sizes-kept (cell_at mid) (cell_at new) last more grown.spare s.others;
         tree = grown.tree
             ∙ (ap (λ (tree : Tree). with_keys tree (t.path ++ map folded passed) left None moment)
             (tree-spared (cell_at old) (cell_at mid) t.root t.holds.keys t.holds.ring spare t.holds.shape s.come ∙
@@ -194,6 +175,10 @@ module _ (old : List ℕ) (from : TreeNode) (t : IsHere old from.offset) (path :
             (subst (MadeLengths (cell_at new) t.root (t.path ++ map folded passed)) (sym missing-are) grown.noted);
         described = λ z l. grown.described z l ∙ carved_described old mid t.root t.holds spare s.come z l;
       }
+
+      -- the cells that are left have their sizes
+      pub grown_room : HaveSizes (cell_at new) last more
+      grown_room = sizes-kept (cell_at mid) (cell_at new) last more grown.spare s.others
 
 -- ---- the cells that come
 
@@ -251,23 +236,11 @@ module _ (bins : Bins) (from : TreeNode) (t : IsHere bins.bytes from.offset) (pa
   created_room place plan_is more lacks =
       subst (LacksRoom bins) (ap (λ plan. sizes_of plan (map own_sizes (path_of rest)) ++ more) plan_is ∙ ap (λ sizes. sizes ++ more) (sym (created_sizes place))) lacks
 
-  -- where the keys alone take cells
-  pub made_alone : (mid new : List ℕ) (place : Place) (spare : List ℕ) → IsSpared bins.bytes mid parent.offset place (path_of rest) [] [] spare → KeepsCells (cell_at mid) (cell_at new) →
-      ((z : ℕ) → 0 < times z spare → IsSome (cell_at new z)) → Makes heap (cell_at new) (made_sizes seen t.path (path_of path) place)
-  made_alone mid new place spare s keeps stay =
-      subst (Makes heap (cell_at new)) (append-nil (made_sizes seen t.path (path_of path) place)) (created_cells mid new place [] [] spare s keeps stay)
-
-  pub room_alone : {plan : IndexCells} (place : Place) → plan ≡ planned heap parent.offset place → LacksRoom bins (sizes_of plan (map own_sizes (path_of rest)) ++ []) →
-      LacksRoom bins (made_sizes seen t.path (path_of path) place)
-  room_alone place plan_is lacks = subst (LacksRoom bins) (append-nil (made_sizes seen t.path (path_of path) place)) (created_room place plan_is [] lacks)
-
   pub created_growth : {plan : IndexCells} (place : Place) → plan ≡ planned heap parent.offset place → (more new : List ℕ) →
       GrowsFor bins.bytes new (sizes_of plan (map own_sizes (path_of rest)) ++ more) → GrowsFor bins.bytes new (made_sizes seen t.path (path_of path) place ++ more)
   created_growth place plan_is more new grown =
       subst (GrowsFor bins.bytes new) (ap (λ plan. sizes_of plan (map own_sizes (path_of rest)) ++ more) plan_is ∙ ap (λ sizes. sizes ++ more) (sym (created_sizes place))) grown
 
-  pub growth_alone : {plan : IndexCells} (place : Place) → plan ≡ planned heap parent.offset place → (mid new : List ℕ) → length new ≡ length mid →
-      GrowsFor bins.bytes mid (sizes_of plan (map own_sizes (path_of rest)) ++ []) → GrowsFor bins.bytes new (made_sizes seen t.path (path_of path) place)
-  growth_alone place plan_is mid new long grown =
-      growth-then bins.bytes mid new _ long
-      (subst (GrowsFor bins.bytes mid) (append-nil (made_sizes seen t.path (path_of path) place)) (created_growth place plan_is [] mid grown))
+  -- where the keys alone take cells
+  pub sizes_alone : (place : Place) → made_sizes seen t.path (path_of path) place ++ [] ≡ made_sizes seen t.path (path_of path) place
+  sizes_alone place = append-nil (made_sizes seen t.path (path_of path) place)

@@ -1,9 +1,9 @@
 -- The last of the keys that were made of a path, described by what is given.
-use Rattle.std.proofs.Common.{◌≡◌, ℕ, ◌+◌, ◌<◌, cond, Option, Some, None, IsSome, is_some, List, [], ◌∷◌, ◌++◌, map, length, refl, sym, ap, ◌∙◌, subst}
-use Rattle.std.proofs.Common.{arith, length-append}
+use Rattle.std.proofs.Common.{◌≡◌, ℕ, ◌+◌, ◌<◌, ◌≤◌, cond, Option, Some, None, IsSome, is_some, List, [], ◌∷◌, ◌++◌, map, length, refl, sym, ap, ◌∙◌, subst}
+use Rattle.std.proofs.Common.{arith}
 use Rattle.std.specs.Option.{option_and_then}
-use Rattle.std.proofs.lemmas.Bool.{false≢true}
 use Rattle.reg_names.specs.Names.{folded, path_of}
+use Rattle.reg_heap.specs.declared.limits.TheConstants.{DESCRIPTOR_LIMIT}
 use Rattle.reg_heap.specs.Paths.{Tree}
 use Rattle.reg_heap.specs.Edits.{edited, missing, last_there, with_descriptor}
 use Rattle.reg_heap.specs.Heaps.{Heap}
@@ -12,33 +12,33 @@ use Rattle.reg_arena.specs.Arena.{Bins}
 use Rattle.reg_arena.specs.EachCell.{GrowsFor}
 use Rattle.reg_arena.specs.Cells.{cell_at}
 use Rattle.reg_arena.specs.NewCells.{cell_size}
-use Rattle.reg_index.specs.declared.IndexCells.{IndexCells}
 use Rattle.reg_index.specs.declared.Place.{Place}
 use Rattle.reg_index.specs.Subkeys.{KeepsCells, taken}
-use Rattle.reg_index.proofs.KeptCells.{kept-then}
 use Rattle.reg_security.specs.Rings.{DescriptorCells, Finds, Expects, cell_of}
 use Rattle.reg_security.proofs.TableCells.{finds-same}
 use Rattle.reg_shape.specs.Whole.{descriptor_at}
 use Rattle.reg_shape.specs.Internal.Grafts.{IsShape}
 use Rattle.reg_shape.specs.PathLookup.{key_offset_at}
 use Rattle.reg_shape.proofs.Lookup.LookupOfShape.{offset-append}
-use Rattle.reg_shape.proofs.Wholeness.ShapeRecords.{at-most-one}
+use Rattle.reg_shape.proofs.Wholeness.ShapeRecords.{is-allocated}
 use Rattle.reg_values.specs.ValueLists.{Makes}
 use Rattle.reg_tree.specs.declared.node.Node.{Node as TreeNode}
-use Rattle.reg_tree.specs.CellSizes.{planned, planned_sizes, own_sizes, sizes_of, made_sizes, security_sizes, given_sizes, create_sizes, LacksRoom}
+use Rattle.reg_tree.specs.CellSizes.{planned_sizes, made_sizes, security_sizes, given_sizes, create_sizes, LacksRoom}
 use Rattle.reg_tree.specs.TreeKeys.{Keys, tree_in}
-use Rattle.reg_tree.specs.Internal.DescriptorChange.{IsExpected, IsPlaced, IsDescribable, IsDescribed, last_of}
-use Rattle.reg_tree.specs.Internal.KeyCreation.{IsCreated}
+use Rattle.reg_tree.specs.Internal.DescriptorChange.{IsExpected, IsPlaced, IsDescribable, IsDescribed}
+use Rattle.reg_tree.specs.Internal.KeyCreation.{IsCreated, IsGrownAll}
 use Rattle.reg_tree.specs.Internal.KeyNodeChanges.{LeavesOthers}
 use Rattle.reg_tree.specs.Internal.PathWalks.{Reaches}
-use Rattle.reg_tree.specs.Internal.SpareCells.{HaveSizes, IsSpared}
+use Rattle.reg_tree.specs.Internal.SpareCells.{HaveSizes, IsSecuritySize}
 use Rattle.reg_tree.specs.Internal.TreeInvariant.{HasShortClasses, TreeInvariant, IsHere}
 use Rattle.reg_tree.proofs.Invariant.DescribedKeys.{described_is}
 use Rattle.reg_tree.proofs.Invariant.ShortClasses.{made-short}
 use Rattle.reg_tree.proofs.Invariant.KeyOfTree.{get-none}
 use Rattle.reg_tree.proofs.PathWalk.PathSteps.{not_walked}
 use Rattle.reg_tree.proofs.InsertKey.CreatePath.{missing-are}
-use Rattle.reg_tree.proofs.InsertKey.CreatePathMade.{IsGrownAll, created_cells, created_growth, created_room, growth-then}
+use Rattle.reg_tree.proofs.InsertKey.CreatePathMade.{growth-then}
+use Rattle.reg_tree.proofs.InsertKey.MadeCells.{makes-leaving}
+use Rattle.reg_tree.proofs.InsertKey.CarvedCells.{none-left}
 use Rattle.reg_tree.proofs.InsertKey.LastDescribed.{given_last}
 
 -- ---- the cell that it takes
@@ -53,20 +53,27 @@ expects-same t h k ring descriptor x same = record {
   free = λ cell l e. x.free cell l (sym (same cell l) ∙ e);
 }
 
-pub placed-last : (old new : DescriptorCells) (h k : Heap) (ring descriptor : List ℕ) (more : Option ℕ) (cells : List ℕ) → IsExpected old new descriptor more → Finds old h ring →
-    ((z : ℕ) → 0 < times z ring → descriptor_at k z ≡ descriptor_at h z) → HaveSizes k (taken (last_of more cells)) (planned_sizes more) →
-    IsPlaced k ring new descriptor (last_of more cells)
-placed-last old new h k ring descriptor None cells x finds same room =
+pub placed-last : (old new : DescriptorCells) (h k : Heap) (ring descriptor : List ℕ) (more cell : Option ℕ) → IsExpected old new descriptor more → Finds old h ring →
+    ((z : ℕ) → 0 < times z ring → descriptor_at k z ≡ descriptor_at h z) → HaveSizes k (taken cell) (planned_sizes more) → IsPlaced k ring new descriptor cell
+placed-last old new h k ring descriptor None None x finds same room =
     (subst (λ t. Finds t k ring) (sym x.0) (finds-same old h k ring finds same), subst (λ t. IsSome (cell_of t descriptor)) (sym x.0) x.1)
-placed-last old new h k ring descriptor (Some size) cells x finds same room =
+placed-last old new h k ring descriptor None (Some cell) x finds same room = absurd room
+placed-last old new h k ring descriptor (Some size) None x finds same room = absurd room
+placed-last old new h k ring descriptor (Some size) (Some cell) x finds same room =
     let long = x.0 in
     let enough = room.0.enough in (
       expects-same new h k ring descriptor (x.2 h ring finds) same,
       record { exists = room.0.exists; enough = omega (arith, long, enough) },
     )
 
+-- the size that was answered is one of a descriptor's cell
+pub security-size : (old new : DescriptorCells) (descriptor : List ℕ) (more : Option ℕ) → length descriptor ≤ DESCRIPTOR_LIMIT → IsExpected old new descriptor more →
+    IsSecuritySize more
+security-size old new descriptor None short x = tt
+security-size old new descriptor (Some size) short x = (length descriptor, short, x.0)
+
 -- no cell is made for a descriptor that some key has, and for another one just its own
-security_is : (bytes : List ℕ) (root : ℕ) (table after : DescriptorCells) → TreeInvariant bytes root table → (descriptor : List ℕ) (more : Option ℕ) →
+pub security_is : (bytes : List ℕ) (root : ℕ) (table after : DescriptorCells) → TreeInvariant bytes root table → (descriptor : List ℕ) (more : Option ℕ) →
     IsExpected table after descriptor more → security_sizes (tree_in bytes root) descriptor ≡ planned_sizes more
 unfolding security_sizes
 security_is bytes root table after holds descriptor None x =
@@ -79,31 +86,21 @@ given-some : (tree : Tree) (names : List (List ℕ)) (descriptor : List ℕ) →
 given-some tree [] descriptor some = absurd (some refl)
 given-some tree (name ∷ names) descriptor some = refl
 
--- a descriptor's cell is among those that were carved
-pub some_cells : (old mid : List ℕ) (key : ℕ) (place : Place) (names : List (List ℕ)) (more : Option ℕ) (last cells : List ℕ) →
-    IsSpared old mid key place names (planned_sizes more) last cells → IsSome more → 0 < length cells
-some_cells old mid key place names None last cells s there = absurd (false≢true there)
-some_cells old mid key place names (Some size) last [] s there =
-    let n = ap length s.sizes in
-    let l = length-append (sizes_of (planned (cell_at old) key place) (map own_sizes names)) (size ∷ []) in
-    absurd (omega (arith, n, l))
-some_cells old mid key place names (Some size) last (cell ∷ cells) s there = omega arith
-
 -- ---- the key
 
-module _ (old new : List ℕ) (from : TreeNode) (t : IsHere old from.offset) (names : List (List ℕ)) (moment : ℕ) (more : Option ℕ) (cells : List ℕ) (made : TreeNode)
-    (g : IsGrownAll old new t.root t.path names moment t.holds.ring (planned_sizes more) (taken (last_of more cells)) from made)
-    (after : DescriptorCells) (descriptor : List ℕ) (x : IsExpected t.table after descriptor more) (cell : Option ℕ) (cell_is : cell ≡ last_of more cells) where
+module _ (old new : List ℕ) (from : TreeNode) (t : IsHere old from.offset) (names : List (List ℕ)) (moment : ℕ) (more class cell : Option ℕ) (made : TreeNode)
+    (g : IsGrownAll old new t.root t.path names moment t.holds.ring (taken class ++ taken cell) from made)
+    (none : HaveSizes (cell_at new) (taken class) []) (room : HaveSizes (cell_at new) (taken cell) (planned_sizes more))
+    (after : DescriptorCells) (descriptor : List ℕ) (x : IsExpected t.table after descriptor more) where
   abbrev pub describable : IsDescribable new made.offset after descriptor cell
   describable = record {
     root = t.root;
     path = t.path ++ map folded names;
     keys = g.now;
     ring = t.holds.ring;
-    shape = subst (λ o. IsShape (cell_at new) t.root g.now t.holds.ring (taken o)) (sym cell_is) g.shape;
+    shape = subst (λ cells. IsShape (cell_at new) t.root g.now t.holds.ring (cells ++ taken cell)) (none-left (cell_at new) class none) g.shape;
     at = g.offset;
-    placed = subst (IsPlaced (cell_at new) t.holds.ring after descriptor) (sym cell_is)
-        (placed-last t.table after (cell_at old) (cell_at new) t.holds.ring descriptor more cells x t.holds.finds g.described g.others);
+    placed = placed-last t.table after (cell_at old) (cell_at new) t.holds.ring descriptor more cell x t.holds.finds g.described room;
     classes = subst HasShortClasses (sym g.tree) (made-short (tree_in old t.root) t.path names None moment t.holds.classes);
   }
 
@@ -152,30 +149,16 @@ module _ (bins : Bins) (from : TreeNode) (t : IsHere bins.bytes from.offset) (pa
         (sym (given-some seen.tree (missing seen.tree t.path (path_of path)) descriptor (λ e. some (sym (missing-are bins.bytes from t path parent rest r moment) ∙ e)) ∙
         security_is bins.bytes t.root t.table after t.holds descriptor more x))
 
-    pub room_with : {plan : IndexCells} (place : Place) → plan ≡ planned heap parent.offset place → LacksRoom bins (sizes_of plan (map own_sizes (path_of rest)) ++ planned_sizes more) →
+    pub room_with : (place : Place) → LacksRoom bins (made_sizes seen t.path (path_of path) place ++ planned_sizes more) →
         LacksRoom bins (create_sizes seen t.path (path_of path) place (Some descriptor))
-    room_with place plan_is lacks = subst (LacksRoom bins) (sizes_with place) (created_room bins from t path parent rest r moment place plan_is (planned_sizes more) lacks)
+    room_with place lacks = subst (LacksRoom bins) (sizes_with place) lacks
 
-    pub growth_with : {plan : IndexCells} (place : Place) → plan ≡ planned heap parent.offset place → (mid new : List ℕ) → length new ≡ length mid →
-        GrowsFor bins.bytes mid (sizes_of plan (map own_sizes (path_of rest)) ++ planned_sizes more) → GrowsFor bins.bytes new (create_sizes seen t.path (path_of path) place (Some descriptor))
-    growth_with place plan_is mid new long grown =
-        growth-then bins.bytes mid new _ long
-        (subst (GrowsFor bins.bytes mid) (sizes_with place) (created_growth bins from t path parent rest r moment place plan_is (planned_sizes more) mid grown))
+    pub growth_with : (place : Place) → (mid new : List ℕ) → length new ≡ length mid →
+        GrowsFor bins.bytes mid (made_sizes seen t.path (path_of path) place ++ planned_sizes more) → GrowsFor bins.bytes new (create_sizes seen t.path (path_of path) place (Some descriptor))
+    growth_with place mid new long grown = growth-then bins.bytes mid new _ long (subst (GrowsFor bins.bytes mid) (sizes_with place) grown)
 
-    -- a cell that was carved is none of the ring's
-    apart : (mid : List ℕ) (place : Place) (spare last : List ℕ) → IsSpared bins.bytes mid parent.offset place (path_of rest) (planned_sizes more) last spare →
-        (z : ℕ) → 0 < times z spare → times z t.holds.ring ≡ 0
-    apart mid place spare last s z l =
-        let c = s.come.count z in
-        let a = at-most-one (cell_at mid) z in
-        let e = t.holds.shape.exact z in
-        omega (arith, c, a, e, l)
-
-    pub cells_with : (mid new final : List ℕ) (place : Place) (last spare : List ℕ) → IsSpared bins.bytes mid parent.offset place (path_of rest) (planned_sizes more) last spare →
-        KeepsCells (cell_at mid) (cell_at new) → ((z : ℕ) → 0 < times z spare → IsSome (cell_at new z)) → KeepsCells (cell_at new) (cell_at final) →
-        LeavesOthers (cell_at new) (cell_at final) t.holds.ring → Makes heap (cell_at final) (create_sizes seen t.path (path_of path) place (Some descriptor))
-    cells_with mid new final place last spare s keeps stay then leaves =
-        subst (Makes heap (cell_at final)) (sizes_with place)
-        (created_cells bins from t path parent rest r moment mid final place (planned_sizes more) last spare s
-        (kept-then (cell_at mid) (cell_at new) (cell_at final) keeps then)
-        (λ z l. leaves z (stay z l) (apart mid place spare last s z l)))
+    pub cells_with : (new final : Heap) (place : Place) → Makes heap new (made_sizes seen t.path (path_of path) place ++ planned_sizes more) → KeepsCells new final →
+        LeavesOthers new final t.holds.ring → Makes heap final (create_sizes seen t.path (path_of path) place (Some descriptor))
+    cells_with new final place makes keeps leaves =
+        subst (Makes heap final) (sizes_with place)
+        (makes-leaving heap new final t.holds.ring _ makes keeps leaves (λ z l. is-allocated heap z (let e = t.holds.shape.exact z in omega (arith, e, l))))

@@ -3,7 +3,7 @@ use Rattle.std.proofs.Common.{◌≡◌, ℕ, suc, ◌+◌, ◌-◌, ◌<◌, eq
 use Rattle.std.proofs.Common.{List, [], ◌∷◌, ◌++◌, map, length, get_or, replicate, refl, sym, ap, ◌∙◌, subst, arith, inl, inr}
 use Rattle.std.specs.Prelude.{unwrap_or}
 use Rattle.std.specs.Option.{option_and_then}
-use Rattle.std.proofs.lemmas.Bool.{cases_lt, eqb-true, eqb-false}
+use Rattle.std.proofs.lemmas.Bool.{cases_lt, eqb-true, eqb-false, false≢true}
 use Rattle.reg_arena.proofs.FreeList.ThreadLinks.{times-append}
 use Rattle.reg_arena.specs.Arena.{Bins, heap_of}
 use Rattle.reg_arena.specs.Cells.{cell_at}
@@ -176,6 +176,35 @@ makes_after h h1 h2 sizes m same = record {
   fresh = m.fresh;
   only = λ z none there. m.only z none (still-there (h1 z) (h2 z) (same z).0 there);
 }
+
+-- what came stays where none comes, and only cells of a ring go that was there
+pub makes-leaving : (h h1 h2 : Heap) (ring sizes : List ℕ) → Makes h h1 sizes → KeepsCells h1 h2 → LeavesOthers h1 h2 ring →
+    ((z : ℕ) → 0 < times z ring → IsSome (h z)) → Makes h h2 sizes
+makes-leaving h h1 h2 ring sizes m keeps leaves there = record {
+  offsets = m.offsets;
+  sizes_are = map-same (λ z. length (held h2 z) + 4) (λ z. length (held h1 z) + 4) m.offsets (λ z l. ap (λ n. n + 4) (long z l)) ∙ m.sizes_are;
+  once = m.once;
+  fresh = m.fresh;
+  only = λ z none now. m.only z none (keeps z now).0;
+}
+  where
+    apart : (z : ℕ) → 0 < times z m.offsets → times z ring ≡ 0
+    apart z l = elim (cases_lt 0 (times z ring)) [
+      | inl some ↦ absurd (false≢true (sym (ap is_some (m.fresh z l)) ∙ there z some))
+      | inr none ↦ omega (arith, none)
+    ]
+
+    long : (z : ℕ) → 0 < times z m.offsets → length (held h2 z) ≡ length (held h1 z)
+    long z l = by (h1 z) (h2 z) refl refl
+      where
+        by : (a b : Option (List ℕ)) → h1 z ≡ a → h2 z ≡ b → length (held h2 z) ≡ length (held h1 z)
+        by None None e f = size-of (h1 z) (h2 z) (f ∙ sym e)
+        by None (Some content) e f = absurd (false≢true (sym (ap is_some e) ∙ (keeps z (ap is_some f)).0))
+        by (Some content) b e f = (keeps z (leaves z (ap is_some e) (apart z l))).1
+
+-- and what was there keeps its size
+pub stay-keeping : (h k j : Heap) → KeepsSizes h k → KeepsCells k j → KeepsSizes h j
+stay-keeping h k j stay keeps z there now = (keeps z now).1 ∙ stay z there (keeps z now).0
 
 -- the sizes of a set, by the list that the key node names
 pub sizes_of_key : (h : Heap) (key count offset : ℕ) (name : List ℕ) (size : ℕ) → IsSome (key_at h key) → HasList h key count offset →

@@ -55,7 +55,7 @@ use Rattle.reg_tree.proofs.PathWalk.SubkeysFound.{own_subkeys}
 use Rattle.reg_tree.proofs.Invariant.UntouchedCells.{offset-own}
 
 -- a record put where it is changes nothing
-insert-same : (t : Tree) (p : Path) (r : Rec) → get t p ≡ Some r → insert t p r ≡ t
+pub insert-same : (t : Tree) (p : Path) (r : Rec) → get t p ≡ Some r → insert t p r ≡ t
 insert-same t p r e = same_map path_total path_same (insert t p r) t (λ q. get-insert path_total t p r q ∙ by q (eq_by_cmp path_cmp q p) refl)
   where
     by : (q : Path) (b : Bool) → eq_by_cmp path_cmp q p ≡ b → cond b (Some r) (get t q) ≡ get t q

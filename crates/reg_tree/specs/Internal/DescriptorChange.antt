@@ -96,3 +96,8 @@ pub record IsDescribed (old new : List ℕ) (root : ℕ) (path : Path) (keys : B
 abbrev pub last_of : Option ℕ → List ℕ → Option ℕ
 last_of None cells = None
 last_of (Some size) cells = Some (get_or cells (length cells - 1) 0)
+
+-- and the one before it, or else the last, where one was carved for a class
+abbrev pub class_of : Option ℕ → Option ℕ → List ℕ → Option ℕ
+class_of None more cells = None
+class_of (Some size) more cells = Some (get_or cells (length cells - 1 - length (taken more)) 0)

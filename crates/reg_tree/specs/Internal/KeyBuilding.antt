@@ -1,43 +1,36 @@
 -- A key's marks and class, as its key node and the one above note them (Suhanov, Windows registry file format specification, "Key node").
-use Rattle.std.specs.Prelude.{◌≡◌, ◌≢◌, ◌⊎◌, ℕ, ◌<◌, ◌≤◌, ◌+◌, max, bit_and, bit_or, unwrap_or, Option, Some, None, List, [], ◌∷◌, ◌++◌, drop, length}
+use Rattle.std.specs.Prelude.{◌≡◌, ◌≢◌, ◌⊎◌, ℕ, ◌≤◌, ◌+◌, max, bit_and, bit_or, unwrap_or, Option, Some, None, List, [], ◌∷◌, ◌++◌, drop, length}
 use Rattle.reg_heap.specs.declared.limits.TheConstants.{NONE}
 use Rattle.reg_heap.specs.Heaps.{Heap, CellFrame}
 use Rattle.reg_heap.specs.Kinds.{times}
 use Rattle.reg_heap.specs.Paths.{Path, Rec}
 use Rattle.std.specs.FinMap.{insert}
-use Rattle.reg_heap.specs.Edits.{edited, child_path}
+use Rattle.reg_heap.specs.Edits.{child_path}
 use Rattle.reg_arena.specs.Arena.{Bins, heap_of}
 use Rattle.reg_arena.specs.Cells.{cell_at}
-use Rattle.reg_arena.specs.EachCell.{GrowsFor}
 use Rattle.reg_arena.specs.NewCells.{cell_size}
 use Rattle.reg_records.specs.RecordCells.{HasRoom, held}
 use Rattle.reg_records.specs.KeyNodes.{KeyRecord, key_at}
 use Rattle.reg_shape.specs.Nodes.{Node}
 use Rattle.reg_shape.specs.Internal.Forests.{Branch}
-use Rattle.reg_shape.specs.Internal.Shapes.{tree_of}
 use Rattle.reg_shape.specs.Internal.Grafts.{IsShape}
 use Rattle.reg_shape.specs.PathLookup.{key_offset_at}
-use Rattle.reg_index.specs.declared.Place.{Place}
 use Rattle.reg_index.specs.Subkeys.{taken}
-use Rattle.reg_values.specs.ValueLists.{KeepsSizes, Makes}
-use Rattle.reg_security.specs.Rings.{DescriptorCells, Finds}
+use Rattle.reg_security.specs.Rings.{DescriptorCells}
 use Rattle.reg_tree.specs.declared.build.NewKey.{NewKey}
 use Rattle.reg_tree.specs.declared.node.Node.{Node as TreeNode}
 use Rattle.reg_tree.specs.BuiltKeys.{built_key}
-use Rattle.reg_tree.specs.CellSizes.{BelongsThere, LacksRoom, create_sizes}
 use Rattle.reg_tree.specs.KeyLengths.{Lengths}
-use Rattle.reg_tree.specs.TreeKeys.{Keys, tree_in}
-use Rattle.reg_tree.specs.Internal.LengthChanges.{LengthsStay}
-use Rattle.reg_tree.specs.Internal.TreeInvariant.{HasShortClasses, TreeInvariant}
+use Rattle.reg_tree.specs.TreeKeys.{tree_in}
+use Rattle.reg_tree.specs.Internal.TreeInvariant.{TreeInvariant}
 
 -- a key with other marks and another class
 abbrev pub marked : ℕ → List ℕ → Rec → Rec
 marked marks class r = record r { marks = marks; class = class }
 
--- a key node after a key below it got a class of this length: the time, and the largest length of a class, which only grows
-abbrev pub noted_class : ℕ → ℕ → KeyRecord → KeyRecord
-noted_class size moment key =
-    record key { fields = record key.fields { time = moment; largest_subkey_class = max key.fields.largest_subkey_class size } }
+-- a key node after a key below it got a class of this length: the largest length of a class, which only grows
+abbrev pub noted_class : ℕ → KeyRecord → KeyRecord
+noted_class size key = record key { fields = record key.fields { largest_subkey_class = max key.fields.largest_subkey_class size } }
 
 -- the larger of what a key notes of the classes right below it and the length of one of them, in bytes
 abbrev pub with_class_length : ℕ → Lengths → Lengths
@@ -82,30 +75,18 @@ MayHaveClass heap root path size = (path ≡ []) ⊎ IsNotedAbove heap root path
 abbrev pub HasNoClass : Heap → ℕ → List ℕ → Type 0
 HasNoClass heap offset name = (key : KeyRecord) → key_at heap offset ≡ Some key → (key.name ≡ name) × (key.fields.class_length ≡ 0)
 
--- a key of a tree whose keys have all their cells, and a cell for its class, where one is needed, is all that is spare; the
--- classes are short, this one too
-pub record IsMarkable (bytes : List ℕ) (key : ℕ) (name : List ℕ) (cell : Option ℕ) (class : List ℕ) : Type 0 where
+-- a key without a class, of a tree whose keys have all their cells; spare are a cell for its class, where one is needed, and cells that
+-- are left
+pub record IsMarkable (bytes : List ℕ) (key : ℕ) (name : List ℕ) (cell : Option ℕ) (class left : List ℕ) : Type 0 where
   pub root : ℕ
   pub path : Path
   pub keys : Branch Node
   pub ring : List ℕ
-  pub table : DescriptorCells
-  pub finds : Finds table (cell_at bytes) ring
-  pub shape : IsShape (cell_at bytes) root keys ring (taken cell)
+  pub shape : IsShape (cell_at bytes) root keys ring (taken cell ++ left)
   pub at : key_offset_at (cell_at bytes) root path ≡ Some key
   pub cell_is : IsClassCell (cell_at bytes) cell class
   pub bare : HasNoClass (cell_at bytes) key name
   pub above : MayHaveClass (cell_at bytes) root path (length class)
-  pub classes : HasShortClasses (tree_of (cell_at bytes) keys)
-  pub short : length class < 65536
-
--- the key at a path has marks and a class, and nothing else of the tree changed; each key stays where it stands, and has the largest
--- lengths that it had
-pub record IsMarked (old new : List ℕ) (root : ℕ) (table : DescriptorCells) (path : Path) (keys : Branch Node) (marks : ℕ) (class : List ℕ) : Type 0 where
-  pub holds : TreeInvariant new root table
-  pub tree : tree_in new root ≡ edited (tree_of (cell_at old) keys) path (marked marks class)
-  pub offsets : (q : Path) → key_offset_at (cell_at new) root q ≡ key_offset_at (cell_at old) root q
-  pub lengths : LengthsStay (cell_at old) (cell_at new) root
 
 -- the cell that a class takes, if it takes one, was carved, of its size, and no other cell changed
 abbrev pub IsCarvedForClass : Bins → Bins → List ℕ → Option ℕ → Type 0
@@ -121,19 +102,3 @@ pub record IsBuilt (old new : List ℕ) (root : ℕ) (table : DescriptorCells) (
   pub offset : key_offset_at (cell_at new) root (child_path path key.name.now) ≡ Some node.offset
   pub depth : node.depth ≡ length path + 1
   pub keeps : (q : Path) (o : ℕ) → key_offset_at (cell_at old) root q ≡ Some o → key_offset_at (cell_at new) root q ≡ Some o
-
--- the cells came that a key of a name and a descriptor takes right below the one at a path, at its place there; each cell that was there
--- and still is has its size, and the bins are no shorter
-pub record TakesForKey (old : Keys) (new : Bins) (path : Path) (name descriptor : List ℕ) : Type 0 where
-  pub place : Place
-  pub belongs : BelongsThere old path (name ∷ []) place
-  pub cells : Makes (heap_of old.bins) (heap_of new) (create_sizes old path (name ∷ []) place (Some descriptor))
-  pub stay : KeepsSizes (heap_of old.bins) (heap_of new)
-  pub growth : GrowsFor old.bins.bytes new.bytes (create_sizes old path (name ∷ []) place (Some descriptor))
-  pub kept : length old.bins.bytes ≤ length new.bytes
-
--- the bins have no room for these cells
-pub record LacksForKey (old : Keys) (path : Path) (name descriptor : List ℕ) : Type 0 where
-  pub place : Place
-  pub belongs : BelongsThere old path (name ∷ []) place
-  pub lacks : LacksRoom old.bins (create_sizes old path (name ∷ []) place (Some descriptor))

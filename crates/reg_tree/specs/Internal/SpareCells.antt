@@ -4,7 +4,7 @@ use Rattle.std.specs.Ordering.{eq_by_cmp}
 use Rattle.reg_names.specs.declared.TheConstants.{PATH_LIMIT}
 use Rattle.reg_names.specs.Names.{folded}
 use Rattle.reg_heap.specs.declared.limits.TheConstants.{DESCRIPTOR_LIMIT, SUBKEYS_LIMIT}
-use Rattle.reg_heap.specs.Paths.{Path, path_cmp}
+use Rattle.reg_heap.specs.Paths.{Path, Tree, path_cmp}
 use Rattle.reg_heap.specs.Heaps.{Heap, CellFrame}
 use Rattle.reg_heap.specs.Kinds.{times}
 use Rattle.reg_heap.specs.Edits.{child_path, with_key, with_keys}
@@ -34,6 +34,16 @@ pub record IsGrowing (bytes : List ℕ) (key : ℕ) (spare : List ℕ) : Type 0 
   pub ring : List ℕ
   pub shape : IsShape (cell_at bytes) root keys ring spare
   pub at : key_offset_at (cell_at bytes) root path ≡ Some key
+
+-- the keys stand as they stood, of the same securities, and spell this tree; each key stays where it stands, and so do the cells that are
+-- spare then
+pub record StillStand (old new : Heap) (root : ℕ) (ring left : List ℕ) (tree : Tree) : Type 0 where
+  pub now : Branch Node
+  pub shape : IsShape new root now ring left
+  pub spells : tree_of new now ≡ tree
+  pub offsets : (q : Path) → key_offset_at new root q ≡ key_offset_at old root q
+  pub described : (z : ℕ) → 0 < times z ring → descriptor_at new z ≡ descriptor_at old z
+  pub spare : (z : ℕ) → 0 < times z left → new z ≡ old z
 
 -- a key of a name may be made below it: none of that name is there, the path has room, and there are fewer than 60,000 subkeys
 pub record MayGrow (bytes : List ℕ) (key : ℕ) (spare : List ℕ) (name : List ℕ) : Type 0 where
@@ -114,6 +124,11 @@ pub record IsSpared (old new : List ℕ) (key : ℕ) (place : Place) (names : Li
   pub sizes : map (λ z. length (held (cell_at new) z) + 4) spare ≡ sizes_of (planned (cell_at old) key place) (map own_sizes names) ++ more
   pub ready : AreReady (cell_at new) left (planned (cell_at old) key place) (map own_sizes names) spare
   pub others : HaveSizes (cell_at new) left more
+
+-- the size of the cell that a class takes, or none
+abbrev pub IsClassSize : Option ℕ → Type 0
+IsClassSize None = ⊤
+IsClassSize (Some size) = (long : ℕ) × (long < 65536) × (size ≡ cell_size long)
 
 -- the size of the cell that a descriptor takes, or none
 abbrev pub IsSecuritySize : Option ℕ → Type 0

@@ -1,5 +1,5 @@
 -- Keys and values that were built one behind the other.
-use Rattle.std.proofs.Common.{◌≡◌, ◌⊎◌, ℕ, zero, suc, Some, List, [], ◌∷◌, ◌++◌, take, drop, slice_get, inl, inr}
+use Rattle.std.proofs.Common.{◌≡◌, ℕ, zero, suc, Some, List, [], ◌∷◌, ◌++◌, take, drop, slice_get, inl, inr}
 use Rattle.std.proofs.Common.{refl, sym, ap, ◌∙◌, subst}
 use Rattle.std.specs.FinMap.{insert}
 use Rattle.std.proofs.lemmas.Option.{none-some, same_Some}
@@ -11,7 +11,7 @@ use Rattle.reg_tree.specs.declared.node.Node.{Node}
 use Rattle.reg_tree.specs.TreeKeys.{Keys, IsAt}
 use Rattle.reg_tree_image.specs.declared.LoadFault.{LoadFault}
 use Rattle.reg_tree_image.specs.declared.LoadFault.TheVariants.{Limit, Memory}
-use Rattle.reg_tree.specs.BuiltKeys.{AreWhole, BuildsRoot, BuildsKey, LacksKeyRoom, LacksClassRoom}
+use Rattle.reg_tree.specs.BuiltKeys.{AreWhole, BuildsRoot, BuildsKey, LacksKeyRoom}
 use Rattle.reg_tree_image.specs.CrowdedBins.{PutsValue, PutsEach, LacksValueRoom, CrowdsEach, PutsValues, CrowdsValues}
 use Rattle.reg_tree_image.specs.CrowdedBins.{BuildsFirst, BuildsOne, BuildsEach, BuildsAll, bare_of, CrowdsRoot, CrowdsBelow, CrowdsNext}
 use Rattle.reg_tree_image.specs.Internal.BegunKeys.{IsLack, lack_of}
@@ -115,9 +115,8 @@ module _ (made key : Rec) (given : List Member) (same : made ≡ bare_of key) (v
             (subst (λ ms. CrowdsValues mid (child_path above made.name) key.time ms) values c),
       )
 
-  pub crowds-key : (old mid : Keys) (above : Path) → LacksKeyRoom old above made ⊎ LacksClassRoom old mid above made → CrowdsBelow old above key
-  crowds-key old mid above (inl l) = inl (inl (subst (λ r. LacksKeyRoom old above r) same l))
-  crowds-key old mid above (inr l) = inl (inr (mid, subst (λ r. LacksClassRoom old mid above r) same l))
+  pub crowds-key : (old : Keys) (above : Path) → LacksKeyRoom old above made → CrowdsBelow old above key
+  crowds-key old above l = inl (subst (λ r. LacksKeyRoom old above r) same l)
 
   pub builds-first : (mid new : Keys) → BuildsRoot mid made → AreWhole mid → PutsValues [] key.time given mid new → BuildsFirst new key
   builds-first mid new b w p =

@@ -78,7 +78,7 @@ pub returns-in-Err-clause-err : goal.returns-in-Err-clause-err
 returns-in-Err-clause-err c p is =
     let key = told_as c.args.named.now c.args.parts.now in
     as-lack (CrowdsBelow c.args.tree.now p key) c.in-Err.fault c.lack.result c.lack.ensures
-    (λ full. crowds-key (built_key c.new_key.result) key (members_in c.args.parts.now.values.items) c.new_key.ensures.built refl _ _ p
+    (λ full. crowds-key (built_key c.new_key.result) key (members_in c.args.parts.now.values.items) c.new_key.ensures.built refl _ p
     (c.in-Err.ensures.space p is (ap Err full)))
 
 pub returns-in_ok-put_values-in-Ok-clause-nodes : goal.returns-in_ok-put_values-in-Ok-clause-nodes

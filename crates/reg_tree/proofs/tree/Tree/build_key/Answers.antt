@@ -28,7 +28,7 @@ build_below-requires-clause-place c = place_at _ _ c.self.invariant _ c.self.vie
 pub invariant_of-self : goal.invariant_of-self
 invariant_of-self c =
     holds_built _ _ c.self.invariant _ c.self.view_is c.args.parent c.args.key c.requires.room c.build_below.new.arena c.build_below.new.securities c.build_below.result
-    c.build_below.ensures.ok c.requires.parent c.build_below.ensures.err
+    c.build_below.ensures.ok c.requires.parent c.build_below.ensures.err c.build_below.ensures.table
 
 pub returns-clause-ok : goal.returns-clause-ok
 returns-clause-ok c =
@@ -46,7 +46,7 @@ returns-clause-builds c =
 
 pub returns-clause-space : goal.returns-clause-space
 returns-clause-space c =
-    lacks_seen _ _ c.self.invariant _ c.self.view_is c.args.parent c.args.key c.requires.room c.build_below.new.arena c.build_below.result c.build_below.ensures.space
+    lacks_seen _ _ c.self.invariant _ c.self.view_is c.args.parent c.args.key c.requires.room c.build_below.result c.build_below.ensures.space
 
 pub returns-clause-lengths : goal.returns-clause-lengths
 returns-clause-lengths c = lengths_built _ _ c.self.invariant _ c.self.view_is c.args.parent c.args.key c.requires.room c.build_below.new.arena c.build_below.result _ c.build_below.ensures.lengths
