@@ -3,53 +3,21 @@
 use Rattle.std.specs.Prelude.{◌≡◌, ◌<◌, ◌≤◌, ◌+◌, ◌⊎◌, ℕ, suc, Some, List, [], ◌∷◌, ◌++◌, length, ⊤}
 use Rattle.reg_names.specs.declared.TheConstants.{PATH_LIMIT}
 use Rattle.reg_heap.specs.Paths.{Path, Rec, Member}
-use Rattle.reg_heap.specs.Edits.{child_path, edited, with_value}
+use Rattle.reg_heap.specs.Edits.{child_path, edited}
 use Rattle.reg_arena.specs.declared.Cell.{Cell}
 use Rattle.reg_arena.specs.declared.TheConstants.{CARVE_LIMIT}
-use Rattle.reg_arena.specs.Arena.{heap_of}
 use Rattle.reg_arena.specs.Cells.{BinPlace, bins_of, cells_of_bins, content_in}
 use Rattle.reg_arena.specs.NewCells.{total_of}
-use Rattle.reg_values.specs.NewValues.{all_value_sizes}
+use Rattle.reg_values.specs.NewValues.{all_value_sizes, each_value_sizes}
 use Rattle.reg_tree.specs.declared.node.Node.{Node}
 use Rattle.reg_tree.specs.TreeKeys.{Keys, IsAt}
-use Rattle.reg_tree.specs.CellSizes.{value_sizes, LacksRoom}
+use Rattle.reg_tree.specs.CellSizes.{LacksRoom}
+use Rattle.reg_tree.specs.MoreValues.{with_more_values}
 use Rattle.reg_tree.specs.BuiltKeys.{AreWhole, TakesCells, with_values, BuildsRoot, BuildsKey, LacksKeyRoom}
 use Rattle.reg_tree_image.specs.WalkSteps.{Seen}
 use Rattle.reg_tree_image.specs.LoadingWalk.{root_path}
 use Rattle.reg_tree_image.specs.Images.{nothing}
 use Rattle.reg_tree_image.specs.WalkedKeys.{Comes}
-
--- ---- values, one behind the other
-
--- a key's next value was set: the tree is that one step on, just the cells that it takes came, and all is whole
-pub record PutsValue (old new : Keys) (path : Path) (time : ℕ) (m : Member) : Type 0 where
-  pub node : Node
-  pub at : IsAt old path node
-  pub tree : new.tree ≡ edited old.tree path (with_value m.name m.kind m.bytes time)
-  pub takes : TakesCells old new (value_sizes (heap_of old.bins) node.offset m.name (length m.bytes))
-  pub root : new.root ≡ old.root
-  pub whole : AreWhole new
-
--- some values of the key at a path, one behind the other
-abbrev pub PutsEach : Path → ℕ → List Member → Keys → Keys → Type 0
-PutsEach path time [] old new = new ≡ old
-PutsEach path time (m ∷ members) old new = (next : Keys) × PutsValue old next path time m × PutsEach path time members next new
-
--- the bins have no room for the cells that a value more of the key at a path takes
-pub record LacksValueRoom (keys : Keys) (path : Path) (m : Member) : Type 0 where
-  pub node : Node
-  pub at : IsAt keys path node
-  pub lacks : LacksRoom keys.bins (value_sizes (heap_of keys.bins) node.offset m.name (length m.bytes))
-
--- of a key the first of these were set, and then there is no room for the next
-pub record CrowdsEach (old : Keys) (path : Path) (time : ℕ) (members : List Member) : Type 0 where
-  pub front : List Member
-  pub next : Member
-  pub back : List Member
-  pub members_are : members ≡ front ++ next ∷ back
-  pub now : Keys
-  pub put : PutsEach path time front old now
-  pub lacks : LacksValueRoom now path next
 
 -- ---- all values of a key
 
@@ -58,16 +26,20 @@ abbrev pub bytes_taken : ℕ → List Member → ℕ
 bytes_taken room members = total_of (all_value_sizes room members)
 
 -- with the next value the cells would have more bytes than one carve may take, where there is a next one
-abbrev pub PassesCarve : ℕ → List Member → List Member → Type 0
-PassesCarve room front [] = ⊤
-PassesCarve room front (next ∷ back) = CARVE_LIMIT < bytes_taken room (front ++ next ∷ [])
+abbrev pub PassesCarve : (List Member → ℕ) → List Member → List Member → Type 0
+PassesCarve bytes front [] = ⊤
+PassesCarve bytes front (next ∷ back) = CARVE_LIMIT < bytes (front ++ next ∷ [])
 
--- the first of a key's values, as many as one carve may take with a list that has room for all: their cells have at most 16,777,216 bytes
--- together, and those of one more would pass that; and the values behind them, of which there may be none
-pub record IsFront (members front back : List Member) : Type 0 where
+-- the first of some values, as many as one carve may take: their cells have at most 16,777,216 bytes together, and those of one more would
+-- pass that; and the values behind them, of which there may be none
+pub record IsLongest (bytes : List Member → ℕ) (members front back : List Member) : Type 0 where
   pub parts : members ≡ front ++ back
-  pub fit : bytes_taken (length members) front ≤ CARVE_LIMIT
-  pub most : PassesCarve (length members) front back
+  pub fit : bytes front ≤ CARVE_LIMIT
+  pub most : PassesCarve bytes front back
+
+-- the first of a key's values, as many as one carve may take with a list that has room for all
+abbrev pub IsFront : List Member → List Member → List Member → Type 0
+IsFront members front back = IsLongest (bytes_taken (length members)) members front back
 
 -- a key got values at once, with a list that has room for so many: the tree has them, just the cells that they take came, with at most one bin
 -- for all of them (32 bytes and theirs, rounded up to a multiple of 4,096), and all is whole
@@ -80,28 +52,67 @@ pub record PutsAll (bare new : Keys) (path : Path) (time room : ℕ) (members : 
   pub root : new.root ≡ bare.root
   pub whole : AreWhole new
 
--- the key at a path, which had no values, got these: at once as many as one carve may take, with a list that has room for all, and the others one
--- behind the other
+-- how many bytes the cells have that values take together whose list is there: those of each one's record and data
+abbrev pub more_bytes_taken : List Member → ℕ
+more_bytes_taken members = total_of (each_value_sizes members)
+
+-- a group of values: the first of them, one at least, as many as one carve may take without a list
+pub record IsGroup (members group back : List Member) : Type 0 where
+  pub some : 0 < length group
+  pub first : IsLongest more_bytes_taken members group back
+
+-- a key got values at once behind those that it had, whose list had room for them: the tree has them, just the cells that they take came, with
+-- at most one bin for all of them (32 bytes and theirs, rounded up to a multiple of 4,096), and all is whole
+pub record PutsMore (old new : Keys) (path : Path) (time : ℕ) (members : List Member) : Type 0 where
+  pub node : Node
+  pub at : IsAt old path node
+  pub tree : new.tree ≡ edited old.tree path (with_more_values members time)
+  pub takes : TakesCells old new (each_value_sizes members)
+  pub grows : length new.bins.bytes ≤ length old.bins.bytes + 4127 + more_bytes_taken members
+  pub root : new.root ≡ old.root
+  pub whole : AreWhole new
+
+-- of some values these groups were put, one behind the other, each the first of those that were left; and these are left behind them
+abbrev pub PutsGroups : Path → ℕ → List (List Member) → List Member → List Member → Keys → Keys → Type 0
+PutsGroups path time [] members left old new = (members ≡ left) × (new ≡ old)
+PutsGroups path time (group ∷ groups) members left old new =
+    (back : List Member) × (next : Keys) × IsGroup members group back × PutsMore old next path time group
+    × PutsGroups path time groups back left next new
+
+-- the key at a path, which had no values, got these: at once as many as one carve may take, with a list that has room for all, and the others in
+-- groups, until none is left
 pub record PutsFirst (bare new : Keys) (path : Path) (time : ℕ) (members : List Member) : Type 0 where
   pub front : List Member
   pub back : List Member
   pub first : IsFront members front back
   pub now : Keys
   pub together : PutsAll bare now path time (length members) front
-  pub each : PutsEach path time back now new
+  pub groups : List (List Member)
+  pub others : PutsGroups path time groups back [] now new
 
 -- the key at a path, which had no values, got these, of which there may be none
 abbrev pub PutsValues : Path → ℕ → List Member → Keys → Keys → Type 0
 PutsValues path time [] bare new = new ≡ bare
 PutsValues path time (m ∷ members) bare new = PutsFirst bare new path time (m ∷ members)
 
--- there is no room for them: for those that are put at once, or then for one of the others
+-- of some values the first groups were put, and then there is no room for the next
+pub record CrowdsGroups (old : Keys) (path : Path) (time : ℕ) (members : List Member) : Type 0 where
+  pub groups : List (List Member)
+  pub left : List Member
+  pub now : Keys
+  pub put : PutsGroups path time groups members left old now
+  pub next : List Member
+  pub back : List Member
+  pub group : IsGroup left next back
+  pub lacks : LacksRoom now.bins (each_value_sizes next)
+
+-- there is no room for them: for those that are put first, or then for one of the groups
 pub record CrowdsValues (bare : Keys) (path : Path) (time : ℕ) (members : List Member) : Type 0 where
   pub front : List Member
   pub back : List Member
   pub first : IsFront members front back
   pub lacks : LacksRoom bare.bins (all_value_sizes (length members) front)
-      ⊎ ((now : Keys) × PutsAll bare now path time (length members) front × CrowdsEach now path time back)
+      ⊎ ((now : Keys) × PutsAll bare now path time (length members) front × CrowdsGroups now path time back)
 
 -- ---- keys
 

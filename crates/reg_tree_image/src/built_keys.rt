@@ -5,20 +5,22 @@ ghost use Rattle.std.specs.Cow.{cow_slice_items};
 ghost use Rattle.std.specs.FinMap.{empty, get, insert};
 ghost use Rattle.reg_names.specs.declared.TheConstants.{PATH_LIMIT};
 ghost use Rattle.reg_heap.specs.declared.limits.TheConstants.{SUBKEYS_LIMIT, VALUES_LIMIT};
-ghost use Rattle.reg_heap.specs.Paths.{Path, Tree as KeyTree, Rec, children_of};
-ghost use Rattle.reg_heap.specs.Edits.{child_path, descriptor_of, edited, values_at, with_value};
-ghost use Rattle.reg_heap.specs.Trees.{IsSmallKey, IsSmallValue};
+ghost use Rattle.reg_heap.specs.Paths.{Path, Tree as KeyTree, Rec, Member, children_of};
+ghost use Rattle.reg_heap.specs.Edits.{child_path, descriptor_of, edited, values_at};
+ghost use Rattle.reg_heap.specs.Trees.{IsSmallKey};
 ghost use Rattle.reg_arena.specs.declared.TheConstants.{CARVE_LIMIT};
+ghost use Rattle.reg_arena.specs.Arena.{heap_of};
 ghost use Rattle.reg_shape.specs.Spelt.{marks_of};
-ghost use Rattle.reg_values.specs.NewValues.{all_told, all_value_sizes};
+ghost use Rattle.reg_values.specs.NewValues.{all_told, all_value_sizes, each_value_sizes};
 ghost use Rattle.reg_tree.specs.BuiltKeys.{built_key};
 ghost use Rattle.reg_tree.specs.CellSizes.{LacksRoom};
+ghost use Rattle.reg_tree.specs.MoreValues.{with_more_values, HasListRoom, MayExtend};
 ghost use Rattle.reg_tree.specs.Reaching.{IsWalkedTo};
 ghost use Rattle.reg_tree.specs.TreeKeys.{IsAt, IsThere, KeepsNodes};
-ghost use Rattle.reg_tree_image.specs.Internal.NamedRecords.{data_in, member_in, members_in};
-ghost use Rattle.reg_tree_image.specs.Internal.FitKeys.{IsFitName, IsOther, AreFit, AreFitBehind, AreFitParts};
+ghost use Rattle.reg_tree_image.specs.Internal.NamedRecords.{members_in};
+ghost use Rattle.reg_tree_image.specs.Internal.FitKeys.{IsFitName, AreFit, AreFitParts};
 ghost use Rattle.reg_tree_image.specs.CrowdedBins.{BuildsFirst, BuildsOne, CrowdsBelow, CrowdsRoot};
-ghost use Rattle.reg_tree_image.specs.CrowdedBins.{bytes_taken, CrowdsEach, CrowdsValues, LacksValueRoom, PutsAll, PutsEach, PutsValue, PutsValues};
+ghost use Rattle.reg_tree_image.specs.CrowdedBins.{bytes_taken, more_bytes_taken, CrowdsGroups, CrowdsValues, PutsAll, PutsGroups, PutsMore, PutsValues};
 ghost use Rattle.reg_tree_image.specs.Internal.BegunKeys.{IsBare, IsBegun, IsLack, lack_of, told_as};
 
 use crate::LoadFault;
@@ -27,7 +29,7 @@ use crate::keys::NamedKey;
 use crate::values::ReadValue;
 use reg_arena::ArenaFault;
 use reg_tree::{NewKey, NewValue, Node, Reached, Tree};
-use reg_values::front_of_one_carve;
+use reg_values::{front_of_one_carve, front_of_one_more_carve};
 use std::alloc::{AllocError, Global};
 
 /// What was lacking.
@@ -65,34 +67,29 @@ fn new_key<'a>(named: &'a NamedKey<'_>, parts: &'a KeyParts<'_>) -> NewKey<'a>
     }
 }
 
-/// Puts a value behind the others of its key, none of which has its name.
-fn put_value(
+/// Puts values behind those that a key has, in their order, all at once. The key's list has room for them, and the key keeps its
+/// time, which is given.
+fn put_more(
     alloc: Global,
     tree: &mut Tree,
     node: Node,
-    value: &ReadValue<'_>,
+    values: &[NewValue<'_>],
     time: u64,
 ) -> Result<(), LoadFault>
-    requires value { IsSmallValue (member_in value.now) }
-    requires other { (p : Path) × IsAt tree.old p node × IsOther (values_at tree.old.tree p) (cow_slice_items value.now.name)
-        × (length (values_at tree.old.tree p) < VALUES_LIMIT) }
+    requires more { (p : Path) × IsAt tree.old p node
+        × MayExtend (heap_of tree.old.bins) node.offset (values_at tree.old.tree p) (all_told values.now) }
+    requires fits { more_bytes_taken (all_told values.now) ≤ CARVE_LIMIT }
     ensures ok { (p : Path) → IsAt tree.old p node →
-        OnOk result (tree.new.tree ≡ edited tree.old.tree p (with_value (cow_slice_items value.now.name) value.now.kind (data_in value.now.bytes) time)) }
+        OnOk result (tree.new.tree ≡ edited tree.old.tree p (with_more_values (all_told values.now) time)) }
     ensures nodes { OnOk result (KeepsNodes tree.old tree.new) }
-    ensures puts { (p : Path) → IsAt tree.old p node → OnOk result (PutsValue tree.old tree.new p time (member_in value.now)) }
-    ensures err { (p : Path) → IsAt tree.old p node → IfErr result (IsLack (LacksValueRoom tree.old p (member_in value.now))) }
+    ensures room { (room : ℕ) → HasListRoom (heap_of tree.old.bins) node.offset room →
+        OnOk result (HasListRoom (heap_of tree.new.bins) node.offset room) }
+    ensures puts { (p : Path) → IsAt tree.old p node → OnOk result (PutsMore tree.old tree.new p time (all_told values.now)) }
+    ensures err { IfErr result (IsLack (LacksRoom tree.old.bins (each_value_sizes (all_told values.now)))) }
 {
     // Only for its clause `one_path`: the node is that of one key.
     let _ = tree.root();
-    match tree.set_at(
-        alloc,
-        node,
-        None,
-        value.name.as_slice(),
-        value.kind,
-        value.bytes.as_slice(),
-        time,
-    ) {
+    match tree.extend_values(alloc, node, values, time) {
         Ok(()) => {
             // Only for its clauses `whole` and `sound`.
             let _ = tree.arena();
@@ -102,24 +99,29 @@ fn put_value(
     }
 }
 
-/// Puts values behind those that a key has, in their order, one behind the other. The key keeps its time, which is given.
-fn put_each(
+/// Puts values behind those that a key has, in their order, in groups, each as large as one carve may take the cells of. The key's
+/// list has room for all of them, and the key keeps its time, which is given.
+fn put_groups(
     alloc: Global,
     tree: &mut Tree,
     node: Node,
-    values: &[ReadValue<'_>],
+    values: &[NewValue<'_>],
     time: u64,
 ) -> Result<(), LoadFault>
-    requires begun { IsBegun tree.old node time (members_in values.now) }
+    requires begun { IsBegun tree.old node time (all_told values.now) }
     ensures ok { (p : Path) → IsAt tree.old p node → (base : KeyTree) → (r : Rec) → tree.old.tree ≡ insert base p r →
-        AreFitBehind r.values (members_in values.now) → r.time ≡ time →
-        OnOk result (tree.new.tree ≡ insert base p (record r { values = r.values ++ members_in values.now })) }
+        r.time ≡ time → OnOk result (tree.new.tree ≡ insert base p (record r { values = r.values ++ all_told values.now })) }
     ensures nodes { OnOk result (KeepsNodes tree.old tree.new) }
-    ensures puts { (p : Path) → IsAt tree.old p node → OnOk result (PutsEach p time (members_in values.now) tree.old tree.new) }
-    ensures err { (p : Path) → IsAt tree.old p node → IfErr result (IsLack (CrowdsEach tree.old p time (members_in values.now))) }
+    ensures puts { (p : Path) → IsAt tree.old p node →
+        OnOk result ((groups : List (List Member)) × PutsGroups p time groups (all_told values.now) [] tree.old tree.new) }
+    ensures err { (p : Path) → IsAt tree.old p node → IfErr result (IsLack (CrowdsGroups tree.old p time (all_told values.now))) }
 {
-    for value in values {
-        put_value(alloc, tree, node, value, time)?;
+    let mut from = 0;
+    while from < values.len() {
+        let rest = &values[from..];
+        let count = front_of_one_more_carve(rest);
+        put_more(alloc, tree, node, &rest[..count], time)?;
+        from += count;
     }
     Ok(())
 }
@@ -142,6 +144,7 @@ fn put_all(
     ensures ok { (p : Path) → IsAt tree.old p node → (base : KeyTree) → (r : Rec) → tree.old.tree ≡ insert base p r →
         r.values ≡ [] → r.time ≡ time → OnOk result (tree.new.tree ≡ insert base p (record r { values = all_told values.now })) }
     ensures nodes { OnOk result (KeepsNodes tree.old tree.new) }
+    ensures room { OnOk result (0 < length values.now → HasListRoom (heap_of tree.new.bins) node.offset room) }
     ensures puts { (p : Path) → IsAt tree.old p node → OnOk result (PutsAll tree.old tree.new p time room (all_told values.now)) }
     ensures err { IfErr result (IsLack (LacksRoom tree.old.bins (all_value_sizes room (all_told values.now)))) }
 {
@@ -173,7 +176,7 @@ fn new_values<'a>(alloc: Global, values: &'a [ReadValue]) -> Result<Vec<NewValue
 }
 
 /// Puts the values of a key that was built with none, in their order: at once as many as one carve may take the cells of, with a list
-/// that has room for all, and the others one behind the other, so that the list never moves. The key keeps its time, which is given.
+/// that has room for all, and the others in groups, so that the list never moves. The key keeps its time, which is given.
 fn put_values(
     alloc: Global,
     tree: &mut Tree,
@@ -198,7 +201,7 @@ fn put_values(
     let all = told.as_slice();
     let count = front_of_one_carve(all);
     put_all(alloc, tree, node, &all[..count], all.len(), time)?;
-    put_each(alloc, tree, node, &values[count..], time)
+    put_groups(alloc, tree, node, &all[count..], time)
 }
 
 /// Builds a tree of a root that was read.

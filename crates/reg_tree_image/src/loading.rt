@@ -105,8 +105,9 @@ fn build_tree(alloc: Global, bins: &[u8], block: BaseBlock) -> Result<Tree, Load
 /// tests fails, `Limit` comes for want of room in the new bins: bins that came about by building the keys in the order in which they are
 /// met, each with just the cells that it takes, and grew only where no free cell had room. They have none for a key's
 /// key node with its class, its descriptor and its place in a list, or then none for its values: for as many of
-/// them together, from the first on, as have cells of at most 16,777,216 bytes with a list that has room for all, or then for one of
-/// the others behind those before it. No room is that no free cell has room for all cells of one of these, and that with a bin more
+/// them together, from the first on, as have cells of at most 16,777,216 bytes with a list that has room for all, or then again for
+/// as many of those that are left as have cells of at most so many bytes. No room is that no free cell has room for all cells of one of
+/// these, and that with a bin more
 /// for them the bins would pass 268,435,456 bytes. `Memory` may come as soon as the base block passed.
 pub fn load_tree<R: Source>(alloc: Global, input: &mut R) -> Result<Tree, LoadFault>
     ensures ok { IfOk result (λ tree. ReadsImage (R.remaining input.old) (R.remaining input.new) tree.tree) }

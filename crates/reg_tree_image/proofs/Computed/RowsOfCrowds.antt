@@ -14,7 +14,7 @@ use Rattle.reg_tree_image.specs.WalkSteps.{Seen}
 use Rattle.reg_tree_image.specs.LoadingWalk.{root_path, key_from}
 use Rattle.reg_tree_image.specs.Images.{nothing}
 use Rattle.reg_tree_image.specs.WalkedKeys.{Comes}
-use Rattle.reg_tree_image.specs.CrowdedBins.{bytes_taken, IsFront}
+use Rattle.reg_tree_image.specs.CrowdedBins.{bytes_taken, more_bytes_taken, IsFront, IsGroup}
 use Rattle.reg_tree_image.proofs.Computed.RowsOfWalks.{store, met, plain_rec, two}
 
 -- ---- the first key of two that are one: the walk comes to it, and then meets the fault Twice
@@ -92,3 +92,19 @@ first-two = record { parts = refl; fit = omega arith; most = tt }
 first-one : IsFront (value 4 ∷ value 5 ∷ []) (value 4 ∷ []) (value 5 ∷ []) → ⊥
 unfolding data_sizes segment_size
 first-one f = let m = f.most in omega (arith, m)
+
+-- behind others both are a group, without a list, and none alone nor no value is
+more-two : more_bytes_taken (value 4 ∷ value 5 ∷ []) ≡ 80
+unfolding data_sizes segment_size
+more-two = refl
+
+group-two : IsGroup (value 4 ∷ value 5 ∷ []) (value 4 ∷ value 5 ∷ []) []
+unfolding data_sizes segment_size
+group-two = record { some = omega arith; first = record { parts = refl; fit = omega arith; most = tt } }
+
+group-one : IsGroup (value 4 ∷ value 5 ∷ []) (value 4 ∷ []) (value 5 ∷ []) → ⊥
+unfolding data_sizes segment_size
+group-one g = let m = g.first.most in omega (arith, m)
+
+group-none : IsGroup (value 4 ∷ []) [] (value 4 ∷ []) → ⊥
+group-none g = let s = g.some in omega (arith, s)

@@ -1,8 +1,7 @@
 -- Keys and values that were built one behind the other.
-use Rattle.std.proofs.Common.{◌≡◌, ℕ, zero, suc, Some, List, [], ◌∷◌, ◌++◌, take, drop, slice_get, inl, inr}
+use Rattle.std.proofs.Common.{◌≡◌, ◌⊎◌, ℕ, List, [], ◌∷◌, ◌++◌, inl, inr}
 use Rattle.std.proofs.Common.{refl, sym, ap, ◌∙◌, subst}
 use Rattle.std.specs.FinMap.{insert}
-use Rattle.std.proofs.lemmas.Option.{none-some, same_Some}
 use Rattle.reg_heap.specs.Paths.{Path, Rec, Tree, Member}
 use Rattle.reg_heap.specs.Edits.{child_path}
 use Rattle.reg_arena.specs.declared.ArenaFault.{ArenaFault}
@@ -12,36 +11,20 @@ use Rattle.reg_tree.specs.TreeKeys.{Keys, IsAt}
 use Rattle.reg_tree_image.specs.declared.LoadFault.{LoadFault}
 use Rattle.reg_tree_image.specs.declared.LoadFault.TheVariants.{Limit, Memory}
 use Rattle.reg_tree.specs.BuiltKeys.{AreWhole, BuildsRoot, BuildsKey, LacksKeyRoom}
-use Rattle.reg_tree_image.specs.CrowdedBins.{PutsValue, PutsEach, LacksValueRoom, CrowdsEach, PutsValues, CrowdsValues}
+use Rattle.reg_tree_image.specs.CrowdedBins.{IsGroup, PutsMore, PutsGroups, PutsValues, CrowdsValues}
 use Rattle.reg_tree_image.specs.CrowdedBins.{BuildsFirst, BuildsOne, BuildsEach, BuildsAll, bare_of, CrowdsRoot, CrowdsBelow, CrowdsNext}
 use Rattle.reg_tree_image.specs.Internal.BegunKeys.{IsLack, lack_of}
 
 -- ---- values
 
-pub puts-more : (path : Path) (time : ℕ) (members : List Member) (old mid new : Keys) (m : Member) → PutsEach path time members old mid →
-    PutsValue mid new path time m → PutsEach path time (members ++ m ∷ []) old new
-puts-more path time [] old mid new m e p = (new, subst (λ k. PutsValue k new path time m) e p, refl)
-puts-more path time (x ∷ members) old mid new m e p = (e.0, e.1, puts-more path time members e.0 mid new m e.2 p)
-
--- the values before one, that one and those behind it
-parted : (members : List Member) (index : ℕ) (m : Member) → slice_get members index ≡ Some m →
-    members ≡ take index members ++ m ∷ drop (suc index) members
-parted [] index m e = absurd (none-some _ e)
-parted (x ∷ members) zero m e = ap (λ x. x ∷ members) (same_Some _ _ e)
-parted (x ∷ members) (suc index) m e = ap (λ ms. x ∷ ms) (parted members index m e)
-
-pub crowds-each : (bare now : Keys) (path : Path) (time : ℕ) (members : List Member) (index : ℕ) (m : Member) →
-    slice_get members index ≡ Some m → PutsEach path time (take index members) bare now → LacksValueRoom now path m →
-    CrowdsEach bare path time members
-crowds-each bare now path time members index m e p l = record {
-  front = take index members;
-  next = m;
-  back = drop (suc index) members;
-  members_are = parted members index m e;
-  now = now;
-  put = p;
-  lacks = l;
-}
+-- one group more
+pub groups-more : (path : Path) (time : ℕ) (groups : List (List Member)) (members left back : List Member) (old mid new : Keys) (group : List Member) →
+    PutsGroups path time groups members left old mid → IsGroup left group back → PutsMore mid new path time group →
+    PutsGroups path time (groups ++ group ∷ []) members back old new
+groups-more path time [] members left back old mid new group e g p =
+    (back, new, subst (λ ms. IsGroup ms group back) (sym e.0) g, subst (λ k. PutsMore k new path time group) e.1 p, (refl, refl))
+groups-more path time (x ∷ groups) members left back old mid new group e g p =
+    (e.0, e.1, e.2, e.3, groups-more path time groups e.0 left back e.1 mid new group e.4 g p)
 
 -- ---- what was lacking
 

@@ -1,34 +1,43 @@
--- All values of a key, put at once or one behind the other.
+-- All values of a key, put at once or in groups, one behind the other.
 use Rattle.std.proofs.Common.{◌≡◌, ℕ, zero, suc, ◌+◌, ◌-◌, ◌<◌, ◌≤◌, Result, Ok, Err, OnOk, IfErr, Some, List, [], ◌∷◌, ◌++◌, inl, inr}
-use Rattle.std.proofs.Common.{length, take, drop, slice_get, refl, sym, ap, ◌∙◌, subst, arith, length-append, length-drop}
+use Rattle.std.proofs.Common.{length, take, drop, slice_get, get_or, refl, sym, ap, ◌∙◌, subst, arith, length-append, length-take, length-drop}
 use Rattle.std.specs.Cow.{cow_slice_items}
 use Rattle.std.specs.FinMap.{get, insert}
 use Rattle.std.proofs.lemmas.Option.{none-some, same_Some}
-use Rattle.std.proofs.lemmas.List.{map-append, take-map, drop-map, length-map, take-append-drop, append_assoc, append-nil}
+use Rattle.std.proofs.lemmas.List.{map-append, take-map, drop-map, length-map, take-append-drop}
 use Rattle.reg_heap.specs.declared.limits.TheConstants.{VALUES_LIMIT}
 use Rattle.reg_heap.specs.Paths.{Path, Rec, Tree, Member}
 use Rattle.reg_heap.specs.Edits.{edited, values_at, values_of}
+use Rattle.reg_arena.specs.Arena.{heap_of}
 use Rattle.reg_arena.specs.declared.TheConstants.{CARVE_LIMIT}
 use Rattle.reg_values.specs.declared.making.NewValue.{NewValue}
 use Rattle.reg_values.proofs.ValueChanges.ValuesPlanned.{take-all}
 use Rattle.reg_values.specs.NewValues.{told, all_told, all_value_sizes, MayFollow}
 use Rattle.reg_tree.specs.declared.node.Node.{Node}
 use Rattle.reg_tree.specs.BuiltKeys.{with_values}
+use Rattle.reg_tree.specs.MoreValues.{HasListRoom}
 use Rattle.reg_tree.specs.CellSizes.{LacksRoom}
 use Rattle.reg_tree.specs.TreeKeys.{Keys, IsAt, KeepsNodes}
 use Rattle.reg_tree.proofs.ValueChange.TreeAfterValueChange.{edited-at}
 use Rattle.reg_tree.proofs.InsertKey.LastDescribed.{insert-twice}
 use Rattle.reg_tree_image.specs.declared.LoadFault.{LoadFault}
 use Rattle.reg_tree_image.specs.declared.values.ReadValue.{ReadValue}
-use Rattle.reg_tree_image.specs.CrowdedBins.{bytes_taken, PassesCarve, IsFront, PutsEach, PutsAll, PutsFirst, PutsValues, CrowdsEach, CrowdsValues}
+use Rattle.reg_tree_image.specs.CrowdedBins.{bytes_taken, PassesCarve, IsFront, PutsGroups, PutsAll, PutsFirst, PutsValues, CrowdsGroups, CrowdsValues}
 use Rattle.reg_tree_image.specs.Internal.NamedRecords.{data_in, member_in, members_in}
 use Rattle.reg_tree_image.specs.Internal.FitKeys.{AreNew, AreFit, AreFitBehind}
 use Rattle.reg_tree_image.specs.Internal.BegunKeys.{IsBare, IsBegun, IsLack}
 use Rattle.reg_tree_image.proofs.KeyStacks.BuiltChains.{lack-as}
-use Rattle.reg_tree_image.proofs.Readers.PutValues.{index-none, there}
+use Rattle.reg_tree_image.proofs.Readers.PutValues.{may-follow, passes, there}
 use Rattle.reg_tree_image.proofs.Readers.NewValues.{new-front, new-back}
 
 -- ---- the values as they are to be built
+
+-- the value of a turn
+pub turn : (values : List ReadValue) (index : ℕ) (v d : ReadValue) → index < length values → v ≡ get_or values index d →
+    slice_get values index ≡ Some v
+turn [] index v d l e = absurd (omega (arith, l))
+turn (x ∷ values) zero v d l e = ap Some (sym e)
+turn (x ∷ values) (suc index) v d l e = turn values index v d (omega (arith, l)) e
 
 take-read : (values : List ReadValue) (index : ℕ) (v : ReadValue) → slice_get values index ≡ Some v →
     take (suc index) (members_in values) ≡ take index (members_in values) ++ member_in v ∷ []
@@ -60,11 +69,6 @@ all-read [] zero l = refl
 all-read [] (suc index) l = refl
 all-read (x ∷ values) zero l = absurd (omega (arith, l))
 all-read (x ∷ values) (suc index) l = ap (λ ms. member_in x ∷ ms) (all-read values index (omega (arith, l)))
-
--- they may be put one behind the other
-pub may-follow : (members before : List Member) → AreNew before members → MayFollow before members
-may-follow [] before a = tt
-may-follow (m ∷ members) before a = (a.0, index-none m.name before a.1, may-follow members (before ++ m ∷ []) a.2)
 
 -- ---- the key in the tree
 
@@ -102,18 +106,6 @@ module _ (bare new : Keys) (path : Path) (time : ℕ) where
 
 -- ---- the first of them, at once, and the others
 
-passes : (room : ℕ) (members before : List Member) (count : ℕ) →
-    (count < length members → CARVE_LIMIT < bytes_taken room (before ++ take (suc count) members)) →
-    PassesCarve room (before ++ take count members) (drop count members)
-passes room [] before zero f = tt
-passes room [] before (suc n) f = tt
-passes room (m ∷ members) before zero f =
-    subst (λ ms. CARVE_LIMIT < bytes_taken room (ms ++ m ∷ [])) (sym (append-nil before)) (f (omega arith))
-passes room (m ∷ members) before (suc n) f =
-    subst (λ ms. PassesCarve room ms (drop n members)) (append_assoc before (m ∷ []) (take n members))
-    (passes room members (before ++ m ∷ []) n
-    (λ l. subst (λ ms. CARVE_LIMIT < bytes_taken room ms) (sym (append_assoc before (m ∷ []) (take (suc n) members))) (f (omega (arith, l)))))
-
 module _ (values : List ReadValue) (all : List NewValue) (same : all_told all ≡ members_in values) (count : ℕ) where
   abbrev members : List Member
   members = members_in values
@@ -122,19 +114,20 @@ module _ (values : List ReadValue) (all : List NewValue) (same : all_told all �
   front = all_told (take count all)
 
   -- the values behind these, as the code's slice has them
-  abbrev others : List ReadValue
-  others = take (length values - count) (drop count values)
+  abbrev others : List NewValue
+  others = take (length all - count) (drop count all)
 
   abbrev back : List Member
-  back = members_in others
+  back = all_told others
 
   front-is : front ≡ take count members
   front-is = sym (take-map told count all) ∙ ap (take count) same
 
   back-is : drop count members ≡ back
   back-is =
-      drop-map member_in count values
-      ∙ ap members_in (sym (take-all (drop count values) (length values - count) (let l = length-drop count values in omega (arith, l))))
+      ap (drop count) (sym same)
+      ∙ (drop-map told count all
+      ∙ ap all_told (sym (take-all (drop count all) (length all - count) (let l = length-drop count all in omega (arith, l)))))
 
   as-many : length all ≡ length members
   as-many = sym (length-map all told) ∙ ap length same
@@ -174,7 +167,11 @@ module _ (values : List ReadValue) (all : List NewValue) (same : all_told all �
     -- of a key that got the first of them
     module _ (bare now : Keys) (node : Node) (time : ℕ) (keep : KeepsNodes bare now)
         (put : (p : Path) → IsAt bare p node → (base : Tree) → (r : Rec) → bare.tree ≡ insert base p r → r.values ≡ [] → r.time ≡ time →
-        now.tree ≡ insert base p (record r { values = front })) where
+        now.tree ≡ insert base p (record r { values = front })) (room : 0 < length (take count all) → HasListRoom (heap_of now.bins) node.offset (length all))
+        (within : count ≤ length all) (some : 0 < count) where
+      slice-some : 0 < length (take count all)
+      slice-some = let l = length-take count all in omega (arith, l, within, some)
+
       pub then-begun : IsBare bare node time → IsBegun now node time back
       then-begun b = record {
         path = b.path;
@@ -184,6 +181,8 @@ module _ (values : List ReadValue) (all : List NewValue) (same : all_told all �
         put = put b.path b.at b.base b.key b.put b.bare b.timed;
         timed = b.timed;
         follow = fit-back;
+        some = (let l = length-map (take count all) told in let s = slice-some in omega (arith, l, s));
+        room = subst (HasListRoom (heap_of now.bins) node.offset) (as-many ∙ (ap length parts ∙ length-append front back)) (room slice-some);
       }
 
   -- the key that got the first of them, and then the others, has all
@@ -201,9 +200,9 @@ module _ (values : List ReadValue) (all : List NewValue) (same : all_told all �
     first = record {
       parts = parts;
       fit = subst (λ n. bytes_taken n front ≤ CARVE_LIMIT) as-many fit-carve;
-      most = subst (λ ms. PassesCarve (length members) ms back) (sym front-is)
-          (subst (PassesCarve (length members) (take count members)) back-is
-          (passes (length members) members [] count (λ l. past (subst (λ n. count < n) (sym as-many) l))));
+      most = subst (λ ms. PassesCarve (bytes_taken (length members)) ms back) (sym front-is)
+          (subst (PassesCarve (bytes_taken (length members)) (take count members)) back-is
+          (passes (bytes_taken (length members)) members [] count (λ l. past (subst (λ n. count < n) (sym as-many) l))));
     }
       where
         past : count < length all → CARVE_LIMIT < bytes_taken (length members) (take (suc count) members)
@@ -225,13 +224,14 @@ module _ (values : List ReadValue) (all : List NewValue) (same : all_told all �
         put-together : PutsAll bare now path time (length members) front
         put-together = subst (λ n. PutsAll bare now path time n front) as-many together
 
-        pub crowds-some : CrowdsEach now path time back → CrowdsValues bare path time members
+        pub crowds-some : CrowdsGroups now path time back → CrowdsValues bare path time members
         crowds-some c = record { front = front; back = back; first = first; lacks = inr (now, put-together, c) }
 
-        pub puts-some : (new : Keys) → 0 < length values → PutsEach path time back now new → PutsValues path time members bare new
-        puts-some new some each =
+        pub puts-some : (new : Keys) → 0 < length values → (groups : List (List Member)) × PutsGroups path time groups back [] now new →
+            PutsValues path time members bare new
+        puts-some new some others =
             some-put bare new path time values some
-            (record { front = front; back = back; first = first; now = now; together = put-together; each = each })
+            (record { front = front; back = back; first = first; now = now; together = put-together; groups = others.0; others = others.1 })
 
 -- ---- a result as it is
 

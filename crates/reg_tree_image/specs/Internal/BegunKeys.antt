@@ -1,15 +1,17 @@
 -- A key that is begun, part by part.
-use Rattle.std.specs.Prelude.{◌≡◌, ◌⊎◌, ℕ, zero, suc, Result, Ok, Err, IsOk, List, [], ⊤}
+use Rattle.std.specs.Prelude.{◌≡◌, ◌<◌, ◌+◌, ◌⊎◌, ℕ, zero, suc, Result, Ok, Err, IsOk, List, [], length, ⊤}
 use Rattle.std.specs.Cow.{cow_slice_items}
 use Rattle.std.specs.FinMap.{insert}
 use Rattle.reg_heap.specs.Paths.{Path, Rec, Tree, Member}
 use Rattle.reg_heap.specs.Heaps.{Heap}
+use Rattle.reg_arena.specs.Arena.{heap_of}
 use Rattle.reg_arena.specs.declared.ArenaFault.{ArenaFault}
 use Rattle.reg_arena.specs.declared.ArenaFault.TheVariants.{Full, Memory as OutOfMemory}
 use Rattle.reg_records.specs.SubkeyLists.{Entry, Form, SubkeysList}
 use Rattle.reg_records.specs.declared.lists.ListForm.TheVariants.{IndexRoot, IndexLeaf, FastLeaf, HashLeaf}
 use Rattle.reg_shape.specs.Spelt.{marks_of}
 use Rattle.reg_tree.specs.declared.node.Node.{Node}
+use Rattle.reg_tree.specs.MoreValues.{HasListRoom}
 use Rattle.reg_tree.specs.TreeKeys.{Keys, IsAt}
 use Rattle.reg_tree_image.specs.declared.LoadFault.{LoadFault}
 use Rattle.reg_tree_image.specs.declared.LoadFault.TheVariants.{Limit, Memory}
@@ -74,7 +76,8 @@ pub record IsBare (keys : Keys) (node : Node) (time : ℕ) : Type 0 where
   pub bare : key.values ≡ []
   pub timed : key.time ≡ time
 
--- a node is that of a key of a time, which was put into a tree with values that these may follow
+-- a node is that of a key of a time, which was put into a tree with values, one at least, that these may follow, and its list has room for
+-- these
 pub record IsBegun (keys : Keys) (node : Node) (time : ℕ) (members : List Member) : Type 0 where
   pub path : Path
   pub base : Tree
@@ -83,6 +86,8 @@ pub record IsBegun (keys : Keys) (node : Node) (time : ℕ) (members : List Memb
   pub put : keys.tree ≡ insert base path key
   pub timed : key.time ≡ time
   pub follow : AreFitBehind key.values members
+  pub some : 0 < length key.values
+  pub room : HasListRoom (heap_of keys.bins) node.offset (length key.values + length members)
 
 -- ---- the list of its subkeys
 

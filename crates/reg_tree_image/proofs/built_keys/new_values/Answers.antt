@@ -1,6 +1,5 @@
 use Rattle.std.proofs.Common.{◌∙◌, refl}
-use Rattle.reg_tree_image.proofs.Readers.PutValues.{turn}
-use Rattle.reg_tree_image.proofs.Readers.AllValues.{one-told, all-read}
+use Rattle.reg_tree_image.proofs.Readers.AllValues.{turn, one-told, all-read}
 use Rattle.reg_tree_image.proofs.built_keys.new_values.Goals as goal
 
 pub loop-value-preserved : goal.loop-value-preserved

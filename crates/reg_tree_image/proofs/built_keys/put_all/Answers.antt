@@ -1,5 +1,6 @@
 use Rattle.std.proofs.Common.{[]}
-use Rattle.reg_tree_image.proofs.Readers.AllValues.{may-follow, none-there, values-put}
+use Rattle.reg_tree_image.proofs.Readers.AllValues.{none-there, values-put}
+use Rattle.reg_tree_image.proofs.Readers.PutValues.{may-follow}
 use Rattle.reg_tree_image.proofs.built_keys.put_all.Goals as goal
 
 pub build_values-requires-clause-bare : goal.build_values-requires-clause-bare

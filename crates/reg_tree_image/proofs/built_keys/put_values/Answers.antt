@@ -6,7 +6,7 @@ use Rattle.reg_tree_image.specs.Internal.NamedRecords.{members_in}
 use Rattle.reg_tree_image.specs.CrowdedBins.{CrowdsValues}
 use Rattle.reg_tree_image.proofs.KeyStacks.StackEnds.{if_err}
 use Rattle.reg_tree_image.proofs.KeyStacks.BuiltChains.{lack-as}
-use Rattle.reg_tree_image.proofs.Readers.AllValues.{few-all, follow-all, as-read, fit-front, fit-back, fit-carve, then-begun, joined, crowds-all, crowds-some, puts-some, on_ok, if_lack}
+use Rattle.reg_tree_image.proofs.Readers.AllValues.{few-all, follow-all, as-read, fit-front, fit-carve, then-begun, joined, crowds-all, crowds-some, puts-some, on_ok, if_lack}
 use Rattle.reg_tree_image.proofs.built_keys.put_values.Goals as goal
 
 pub front_of_one_carve-count-requires-clause-few : goal.front_of_one_carve-count-requires-clause-few
@@ -32,17 +32,13 @@ put_all-requires-clause-fits c =
     fit-carve c.args.values.now c.as_slice-all.result.now (ap all_told c.as_slice-all.ensures.value ∙ c.in-Ok.ensures)
     c.front_of_one_carve-count.result e.fits e.longest
 
-pub slice_bounds-put_each-start : goal.slice_bounds-put_each-start
-slice_bounds-put_each-start c =
-    let n = as-read c.args.values.now c.as_slice-all.result.now (ap all_told c.as_slice-all.ensures.value ∙ c.in-Ok.ensures) 0 in
-    let w = c.front_of_one_carve-count.ensures.within in
-    omega (arith, n, w)
-
-pub put_each-requires : goal.put_each-requires
-put_each-requires c = record {
+pub put_groups-requires : goal.put_groups-requires
+put_groups-requires c = record {
   begun = then-begun c.args.values.now c.as_slice-all.result.now (ap all_told c.as_slice-all.ensures.value ∙ c.in-Ok.ensures)
       c.front_of_one_carve-count.result c.requires.values _ _ c.args.node c.args.time c.in_ok-put_all.ensures.nodes
-      c.in_ok-put_all.ensures.ok c.requires.bare;
+      c.in_ok-put_all.ensures.ok c.in_ok-put_all.ensures.room c.front_of_one_carve-count.ensures.within
+      (c.front_of_one_carve-count.ensures.some (let n = as-read c.args.values.now c.as_slice-all.result.now (ap all_told c.as_slice-all.ensures.value ∙ c.in-Ok.ensures) 0 in
+      let t = c.if-is_empty.false in let i = c.is_empty.ensures in grind (arith, t, i, n))) c.requires.bare;
 }
 
 pub returns-in_err-put_all-clause-err : goal.returns-in_err-put_all-clause-err
@@ -60,29 +56,28 @@ returns-clause-ok c p at base r o v t =
     let same = ap all_told c.as_slice-all.ensures.value ∙ c.in-Ok.ensures in
     let n = c.front_of_one_carve-count.result in
     let first : Rec = record r { values = all_told (take n c.as_slice-all.result.now) } in
-    on_ok c.put_each.result (joined c.args.values.now c.as_slice-all.result.now same n _ base p r)
-    (c.put_each.ensures.ok p (c.in_ok-put_all.ensures.nodes p c.args.node at) base first (c.in_ok-put_all.ensures.ok p at base r o v t)
-    (fit-back c.args.values.now c.as_slice-all.result.now same n c.requires.values) t)
+    on_ok c.put_groups.result (joined c.args.values.now c.as_slice-all.result.now same n _ base p r)
+    (c.put_groups.ensures.ok p (c.in_ok-put_all.ensures.nodes p c.args.node at) base first (c.in_ok-put_all.ensures.ok p at base r o v t) t)
 
 pub returns-clause-nodes : goal.returns-clause-nodes
 returns-clause-nodes c =
-    on_ok c.put_each.result (λ keep p n at. keep p n (c.in_ok-put_all.ensures.nodes p n at)) c.put_each.ensures.nodes
+    on_ok c.put_groups.result (λ keep p n at. keep p n (c.in_ok-put_all.ensures.nodes p n at)) c.put_groups.ensures.nodes
 
 pub returns-clause-puts : goal.returns-clause-puts
 returns-clause-puts c p at =
     let e = c.front_of_one_carve-count.ensures in
     let t = c.if-is_empty.false in
     let i = c.is_empty.ensures in
-    on_ok c.put_each.result
+    on_ok c.put_groups.result
     (puts-some c.args.values.now c.as_slice-all.result.now (ap all_told c.as_slice-all.ensures.value ∙ c.in-Ok.ensures)
     c.front_of_one_carve-count.result e.fits e.longest c.args.tree.now p c.args.time _ (c.in_ok-put_all.ensures.puts p at) _
     (grind (arith, t, i)))
-    (c.put_each.ensures.puts p (c.in_ok-put_all.ensures.nodes p c.args.node at))
+    (c.put_groups.ensures.puts p (c.in_ok-put_all.ensures.nodes p c.args.node at))
 
 pub returns-clause-err : goal.returns-clause-err
 returns-clause-err c p at =
     let e = c.front_of_one_carve-count.ensures in
-    if_lack _ _ c.put_each.result
+    if_lack _ _ c.put_groups.result
     (crowds-some c.args.values.now c.as_slice-all.result.now (ap all_told c.as_slice-all.ensures.value ∙ c.in-Ok.ensures)
     c.front_of_one_carve-count.result e.fits e.longest c.args.tree.now p c.args.time _ (c.in_ok-put_all.ensures.puts p at))
-    (c.put_each.ensures.err p (c.in_ok-put_all.ensures.nodes p c.args.node at))
+    (c.put_groups.ensures.err p (c.in_ok-put_all.ensures.nodes p c.args.node at))
