@@ -5,3 +5,4 @@ pub mod TreeAfterValueChange
 pub mod ValueAtPlace
 pub mod ValuesBuilt
 pub mod ValueCells
+pub mod NotedNames

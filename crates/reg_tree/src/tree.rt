@@ -18,6 +18,7 @@ ghost use Rattle.reg_values.specs.ValueLists.{Makes, Tells};
 
 use crate::cells::carve_two;
 use crate::key::new_root;
+use crate::names_seen::NamesSeen;
 use crate::{
     Created, NewKey, NewValue, Node, Reached, Subkey, TreeFault, ValueFound, build, build_values,
     find, make, prune, read, security, unmake, values,
@@ -35,11 +36,13 @@ pub struct Tree {
     arena: Arena,
     root: u32,
     securities: SecurityTable,
+    names: NamesSeen,
 }
 
 impl Model for Tree {
     ghost use Rattle.reg_tree.specs.TreeKeys.{Keys, coded_keys, tree_in};
     ghost use Rattle.reg_tree.specs.Internal.TreeInvariant.{TreeInvariant};
+    ghost use Rattle.reg_tree.specs.Internal.NamesSeen.{AreNoted};
 
     ghost Value = { Keys };
 
@@ -47,7 +50,7 @@ impl Model for Tree {
 
     ghost view = { λ t. record { bins = t.arena; root = t.root; tree = tree_in t.arena.bytes t.root } };
 
-    ghost invariant = { λ t. TreeInvariant t.arena.bytes t.root t.securities };
+    ghost invariant = { λ t. TreeInvariant t.arena.bytes t.root t.securities × AreNoted t.names t.arena.bytes t.root };
 }
 
 impl Tree {
@@ -101,6 +104,7 @@ impl Tree {
             arena,
             root,
             securities,
+            names: NamesSeen::new(alloc),
         })
     }
 
@@ -136,6 +140,7 @@ impl Tree {
         ensures lengths { OnOk result (lengths_at (heap_of self.new.bins) self.new.root ≡ lengths_at (heap_of self.old.bins) self.old.root) }
         ensures full { (result ≡ Err ArenaFault.Full) → BINS_LIMIT < length self.old.bins.bytes + GROWTH_BOUND }
     {
+        self.names.forget();
         build::dress(
             alloc,
             &mut self.arena,
@@ -311,6 +316,9 @@ impl Tree {
         requires { IsThere self.now node }
         ensures { (p : Path) → IsAt self.now p node → IsFound (values_at self.now.tree p) (value_named name.now (values_at self.now.tree p)) result }
     {
+        if self.names.lacks(node.offset, name) {
+            return None;
+        }
         values::find(&self.arena, node.offset, name)
     }
 
@@ -320,6 +328,9 @@ impl Tree {
         requires { IsThere self.now node }
         ensures { (p : Path) → IsAt self.now p node → result ≡ index_named name.now (values_at self.now.tree p) }
     {
+        if self.names.lacks(node.offset, name) {
+            return None;
+        }
         values::index(&self.arena, node.offset, name)
     }
 
@@ -375,15 +386,14 @@ impl Tree {
             (value_sizes (heap_of self.old.bins) node.offset name.now (length bytes.now))) }
         ensures kept { OnOk result (length self.old.bins.bytes ≤ length self.new.bins.bytes) }
     {
-        values::set(
-            alloc,
-            &mut self.arena,
-            node.offset,
-            name,
-            kind,
-            bytes,
-            moment,
-        )
+        let place = self.value_index(node, name);
+        if values::is_full(&self.arena, node.offset, place) {
+            return Err(TreeFault::Limit);
+        }
+        match self.set_at(alloc, node, place, name, kind, bytes, moment) {
+            Ok(()) => Ok(()),
+            Err(fault) => Err(TreeFault::from(fault)),
+        }
     }
 
     /// Sets a value of a key at the place that `value_index` told for its name, and the key's time: the value there keeps its
@@ -422,6 +432,7 @@ impl Tree {
         ensures grows { OnOk result (length self.new.bins.bytes ≤ length self.old.bins.bytes + GROWTH_BOUND) }
         ensures kept { OnOk result (length self.old.bins.bytes ≤ length self.new.bins.bytes) }
     {
+        self.names.expect(&self.arena, node.offset, name);
         values::set_at(
             alloc,
             &mut self.arena,
@@ -442,6 +453,7 @@ impl Tree {
         ensures lengths { KeepsLengths self.old self.new }
         ensures long { length self.new.bins.bytes ≡ length self.old.bins.bytes }
     {
+        self.names.forget();
         values::remove_at(&mut self.arena, node.offset, index, moment)
     }
 
@@ -458,6 +470,7 @@ impl Tree {
         ensures err { OnErr result (self.new ≡ self.old) }
         ensures long { OnOk result (length self.new.bins.bytes ≡ length self.old.bins.bytes) }
     {
+        self.names.forget();
         values::delete(&mut self.arena, node.offset, name, moment)
     }
 
@@ -511,6 +524,7 @@ impl Tree {
         ensures grows { OnOk result (length self.new.bins.bytes ≤ length self.old.bins.bytes + GROWTH_BOUND) }
         ensures kept { OnOk result (length self.old.bins.bytes ≤ length self.new.bins.bytes) }
     {
+        self.names.forget();
         make::create(
             alloc,
             &mut self.arena,
@@ -573,6 +587,7 @@ impl Tree {
         ensures grows { OnOk result (length self.new.bins.bytes ≤ length self.old.bins.bytes + GROWTH_BOUND) }
         ensures kept { OnOk result (length self.old.bins.bytes ≤ length self.new.bins.bytes) }
     {
+        self.names.forget();
         make::create_at(
             alloc,
             &mut self.arena,
@@ -611,6 +626,7 @@ impl Tree {
         ensures growth { OnOk result (GrowsFor self.old.bins.bytes self.new.bins.bytes (security_sizes self.old.tree descriptor.now)) }
         ensures kept { OnOk result (length self.old.bins.bytes ≤ length self.new.bins.bytes) }
     {
+        self.names.forget();
         security::set(
             alloc,
             &mut self.arena,
@@ -632,6 +648,7 @@ impl Tree {
         ensures lengths { KeepsLengths self.old self.new }
         ensures long { length self.new.bins.bytes ≡ length self.old.bins.bytes }
     {
+        self.names.forget();
         unmake::delete_at(
             &mut self.arena,
             &mut self.securities,
@@ -656,6 +673,7 @@ impl Tree {
         ensures err { OnErr result (self.new ≡ self.old) }
         ensures long { OnOk result (length self.new.bins.bytes ≡ length self.old.bins.bytes) }
     {
+        self.names.forget();
         unmake::delete(&mut self.arena, &mut self.securities, node.offset, moment)
     }
 
@@ -687,6 +705,7 @@ impl Tree {
         ensures lengths { KeepsLengths self.old self.new }
         ensures long { length self.new.bins.bytes ≡ length self.old.bins.bytes }
     {
+        self.names.forget();
         prune::delete_tree_at(
             &mut self.arena,
             &mut self.securities,
@@ -706,6 +725,7 @@ impl Tree {
         ensures lengths { KeepsLengths self.old self.new }
         ensures long { length self.new.bins.bytes ≡ length self.old.bins.bytes }
     {
+        self.names.forget();
         prune::empty(&mut self.arena, &mut self.securities, node.offset, moment)
     }
 
@@ -724,6 +744,7 @@ impl Tree {
         ensures err { OnErr result (self.new ≡ self.old) }
         ensures long { OnOk result (length self.new.bins.bytes ≡ length self.old.bins.bytes) }
     {
+        self.names.forget();
         prune::delete_tree(&mut self.arena, &mut self.securities, node.offset, moment)
     }
 
@@ -770,6 +791,7 @@ impl Tree {
         ensures grows { length self.new.bins.bytes ≤ length self.old.bins.bytes + 2 * GROWTH_BOUND }
         ensures kept { length self.old.bins.bytes ≤ length self.new.bins.bytes }
     {
+        self.names.forget();
         let known = security::security_like(&self.arena, like);
         build::build_below(
             alloc,
@@ -817,6 +839,7 @@ impl Tree {
             length self.old.bins.bytes + 4127 + total_of (all_value_sizes room (all_told values.now))) }
         ensures kept { OnOk result (length self.old.bins.bytes ≤ length self.new.bins.bytes) }
     {
+        self.names.forget();
         build_values::build(alloc, &mut self.arena, node.offset, values, room, moment)
     }
 }
