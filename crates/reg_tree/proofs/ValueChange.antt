@@ -6,3 +6,4 @@ pub mod ValueAtPlace
 pub mod ValuesBuilt
 pub mod ValuesMore
 pub mod ValueCells
+pub mod NotedNames

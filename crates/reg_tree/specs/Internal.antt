@@ -13,3 +13,4 @@ pub mod TreeInvariant
 pub mod LengthChanges
 pub mod DescriptorChange
 pub mod KeyBuilding
+pub mod NamesSeen

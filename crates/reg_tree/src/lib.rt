@@ -23,6 +23,7 @@ mod find;
 mod held_bytes;
 mod key;
 mod make;
+mod names_seen;
 mod node;
 mod prune;
 mod read;

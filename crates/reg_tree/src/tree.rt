@@ -19,6 +19,7 @@ ghost use Rattle.reg_values.specs.ValueLists.{Makes, Tells};
 
 use crate::cells::carve_two;
 use crate::key::new_root;
+use crate::names_seen::NamesSeen;
 use crate::{
     Created, NewKey, NewValue, Node, Reached, Subkey, TreeFault, ValueFound, build, build_values,
     find, make, prune, read, security, unmake, values,
@@ -36,11 +37,13 @@ pub struct Tree {
     arena: Arena,
     root: u32,
     securities: SecurityTable,
+    names: NamesSeen,
 }
 
 impl Model for Tree {
     ghost use Rattle.reg_tree.specs.TreeKeys.{Keys, coded_keys, tree_in};
     ghost use Rattle.reg_tree.specs.Internal.TreeInvariant.{TreeInvariant};
+    ghost use Rattle.reg_tree.specs.Internal.NamesSeen.{AreNoted};
 
     ghost Value = { Keys };
 
@@ -48,7 +51,7 @@ impl Model for Tree {
 
     ghost view = { λ t. record { bins = t.arena; root = t.root; tree = tree_in t.arena.bytes t.root } };
 
-    ghost invariant = { λ t. TreeInvariant t.arena.bytes t.root t.securities };
+    ghost invariant = { λ t. TreeInvariant t.arena.bytes t.root t.securities × AreNoted t.names t.arena.bytes t.root };
 }
 
 impl Tree {
@@ -103,6 +106,7 @@ impl Tree {
             arena,
             root,
             securities,
+            names: NamesSeen::new(alloc),
         })
     }
 
@@ -138,6 +142,7 @@ impl Tree {
         ensures lengths { OnOk result (lengths_at (heap_of self.new.bins) self.new.root ≡ lengths_at (heap_of self.old.bins) self.old.root) }
         ensures full { (result ≡ Err ArenaFault.Full) → BINS_LIMIT < length self.old.bins.bytes + GROWTH_BOUND }
     {
+        self.names.forget();
         build::dress(
             alloc,
             &mut self.arena,
@@ -331,6 +336,9 @@ impl Tree {
         requires { IsThere self.now node }
         ensures { (p : Path) → IsAt self.now p node → IsFound (values_at self.now.tree p) (value_named name.now (values_at self.now.tree p)) result }
     {
+        if self.names.lacks(node.offset, name) {
+            return None;
+        }
         values::find(&self.arena, node.offset, name)
     }
 
@@ -340,6 +348,9 @@ impl Tree {
         requires { IsThere self.now node }
         ensures { (p : Path) → IsAt self.now p node → result ≡ index_named name.now (values_at self.now.tree p) }
     {
+        if self.names.lacks(node.offset, name) {
+            return None;
+        }
         values::index(&self.arena, node.offset, name)
     }
 
@@ -395,15 +406,14 @@ impl Tree {
             (value_sizes (heap_of self.old.bins) node.offset name.now (length bytes.now))) }
         ensures kept { OnOk result (length self.old.bins.bytes ≤ length self.new.bins.bytes) }
     {
-        values::set(
-            alloc,
-            &mut self.arena,
-            node.offset,
-            name,
-            kind,
-            bytes,
-            moment,
-        )
+        let place = self.value_index(node, name);
+        if values::is_full(&self.arena, node.offset, place) {
+            return Err(TreeFault::Limit);
+        }
+        match self.set_at(alloc, node, place, name, kind, bytes, moment) {
+            Ok(()) => Ok(()),
+            Err(fault) => Err(TreeFault::from(fault)),
+        }
     }
 
     /// Sets a value of a key at the place that `value_index` told for its name, and the key's time: the value there keeps its
@@ -442,6 +452,7 @@ impl Tree {
         ensures grows { OnOk result (length self.new.bins.bytes ≤ length self.old.bins.bytes + GROWTH_BOUND) }
         ensures kept { OnOk result (length self.old.bins.bytes ≤ length self.new.bins.bytes) }
     {
+        self.names.expect(&self.arena, node.offset, name);
         values::set_at(
             alloc,
             &mut self.arena,
@@ -462,6 +473,7 @@ impl Tree {
         ensures lengths { KeepsLengths self.old self.new }
         ensures long { length self.new.bins.bytes ≡ length self.old.bins.bytes }
     {
+        self.names.forget();
         values::remove_at(&mut self.arena, node.offset, index, moment)
     }
 
@@ -478,6 +490,7 @@ impl Tree {
         ensures err { OnErr result (self.new ≡ self.old) }
         ensures long { OnOk result (length self.new.bins.bytes ≡ length self.old.bins.bytes) }
     {
+        self.names.forget();
         values::delete(&mut self.arena, node.offset, name, moment)
     }
 
@@ -531,6 +544,7 @@ impl Tree {
         ensures grows { OnOk result (length self.new.bins.bytes ≤ length self.old.bins.bytes + GROWTH_BOUND) }
         ensures kept { OnOk result (length self.old.bins.bytes ≤ length self.new.bins.bytes) }
     {
+        self.names.forget();
         make::create(
             alloc,
             &mut self.arena,
@@ -593,6 +607,7 @@ impl Tree {
         ensures grows { OnOk result (length self.new.bins.bytes ≤ length self.old.bins.bytes + GROWTH_BOUND) }
         ensures kept { OnOk result (length self.old.bins.bytes ≤ length self.new.bins.bytes) }
     {
+        self.names.forget();
         make::create_at(
             alloc,
             &mut self.arena,
@@ -631,6 +646,7 @@ impl Tree {
         ensures growth { OnOk result (GrowsFor self.old.bins.bytes self.new.bins.bytes (security_sizes self.old.tree descriptor.now)) }
         ensures kept { OnOk result (length self.old.bins.bytes ≤ length self.new.bins.bytes) }
     {
+        self.names.forget();
         security::set(
             alloc,
             &mut self.arena,
@@ -652,6 +668,7 @@ impl Tree {
         ensures lengths { KeepsLengths self.old self.new }
         ensures long { length self.new.bins.bytes ≡ length self.old.bins.bytes }
     {
+        self.names.forget();
         unmake::delete_at(
             &mut self.arena,
             &mut self.securities,
@@ -676,6 +693,7 @@ impl Tree {
         ensures err { OnErr result (self.new ≡ self.old) }
         ensures long { OnOk result (length self.new.bins.bytes ≡ length self.old.bins.bytes) }
     {
+        self.names.forget();
         unmake::delete(&mut self.arena, &mut self.securities, node.offset, moment)
     }
 
@@ -707,6 +725,7 @@ impl Tree {
         ensures lengths { KeepsLengths self.old self.new }
         ensures long { length self.new.bins.bytes ≡ length self.old.bins.bytes }
     {
+        self.names.forget();
         prune::delete_tree_at(
             &mut self.arena,
             &mut self.securities,
@@ -726,6 +745,7 @@ impl Tree {
         ensures lengths { KeepsLengths self.old self.new }
         ensures long { length self.new.bins.bytes ≡ length self.old.bins.bytes }
     {
+        self.names.forget();
         prune::empty(&mut self.arena, &mut self.securities, node.offset, moment)
     }
 
@@ -744,6 +764,7 @@ impl Tree {
         ensures err { OnErr result (self.new ≡ self.old) }
         ensures long { OnOk result (length self.new.bins.bytes ≡ length self.old.bins.bytes) }
     {
+        self.names.forget();
         prune::delete_tree(&mut self.arena, &mut self.securities, node.offset, moment)
     }
 
@@ -788,6 +809,7 @@ impl Tree {
         ensures grows { length self.new.bins.bytes ≤ length self.old.bins.bytes + GROWTH_BOUND }
         ensures kept { length self.old.bins.bytes ≤ length self.new.bins.bytes }
     {
+        self.names.forget();
         let known = security::security_like(&self.arena, like);
         build::build_below(
             alloc,
@@ -836,6 +858,7 @@ impl Tree {
             length self.old.bins.bytes + 4127 + total_of (all_value_sizes room (all_told values.now))) }
         ensures kept { OnOk result (length self.old.bins.bytes ≤ length self.new.bins.bytes) }
     {
+        self.names.forget();
         build_values::build(alloc, &mut self.arena, node.offset, values, room, moment)
     }
 
@@ -873,6 +896,7 @@ impl Tree {
             length self.old.bins.bytes + 4127 + total_of (each_value_sizes (all_told values.now))) }
         ensures kept { OnOk result (length self.old.bins.bytes ≤ length self.new.bins.bytes) }
     {
+        self.names.forget();
         build_values::extend(alloc, &mut self.arena, node.offset, values, moment)
     }
 }

@@ -103,7 +103,7 @@ pub fn largest(arena: &Arena, key: u32) -> LargestValues
 }
 
 /// Whether there are as many values as there may be, and a new one has no place.
-fn is_full(arena: &Arena, key: u32, place: Option<u32>) -> bool
+pub fn is_full(arena: &Arena, key: u32, place: Option<u32>) -> bool
     requires { IsHere arena.now.bytes key }
     ensures full { (t : IsHere arena.now.bytes key) → result ≡ true →
         (VALUES_LIMIT ≤ length (values_at (tree_in arena.now.bytes t.root) t.path)) × (place ≡ None) }
@@ -155,47 +155,6 @@ pub fn set_at(
         moment,
     );
     Ok(())
-}
-
-/// Sets a value of a key: a search for its name, and then `set_at`. `Limit` where there are 16,384 values and none of that name;
-/// `Full` and `Memory` as `set_at` has them. After a fault the arena is as before.
-pub fn set(
-    alloc: Global,
-    arena: &mut Arena,
-    key: u32,
-    name: &[u8],
-    kind: u32,
-    bytes: &[u8],
-    moment: u64,
-) -> Result<(), TreeFault>
-    requires here { IsHere arena.old.bytes key }
-    requires name { is_value_name name.now ≡ true }
-    requires bytes { length bytes.now ≤ DATA_LIMIT }
-    ensures ok { (t : IsHere arena.old.bytes key) →
-        OnOk result (IsChanged arena.old.bytes arena.new.bytes t.root t.table t.path (with_value name.now kind bytes.now moment)) }
-    ensures cells { OnOk result (Makes (heap_of arena.old) (heap_of arena.new) (value_sizes (heap_of arena.old) key name.now (length bytes.now))) }
-    ensures lengths { (t : IsHere arena.old.bytes key) →
-        OnOk result (LengthsChange (heap_of arena.old) (heap_of arena.new) t.root t.path (with_value_lengths (length name.now) (length bytes.now))) }
-    ensures limit { (t : IsHere arena.old.bytes key) →
-        ((result ≡ Err TreeFault.Limit) ↔ ((VALUES_LIMIT ≤ length (values_at (tree_in arena.old.bytes t.root) t.path))
-        × (value_named name.now (values_at (tree_in arena.old.bytes t.root) t.path) ≡ None))) }
-    ensures others { IfErr result (λ fault. (fault ≡ TreeFault.Limit) ⊎ ((fault ≡ TreeFault.Full) ⊎ (fault ≡ TreeFault.Memory))) }
-    ensures full { (result ≡ Err TreeFault.Full) → BINS_LIMIT < length arena.old.bytes + GROWTH_BOUND }
-    ensures space { IfErr result (λ fault. fault ≡ TreeFault.Full →
-        LacksRoom arena.old (value_sizes (heap_of arena.old) key name.now (length bytes.now))) }
-    ensures err { OnErr result (arena.new ≡ arena.old) }
-    ensures grows { OnOk result (length arena.new.bytes ≤ length arena.old.bytes + GROWTH_BOUND) }
-    ensures growth { OnOk result (GrowsFor arena.old.bytes arena.new.bytes (value_sizes (heap_of arena.old) key name.now (length bytes.now))) }
-    ensures kept { OnOk result (length arena.old.bytes ≤ length arena.new.bytes) }
-{
-    let place = index(arena, key, name);
-    if is_full(arena, key, place) {
-        return Err(TreeFault::Limit);
-    }
-    match set_at(alloc, arena, key, place, name, kind, bytes, moment) {
-        Ok(()) => Ok(()),
-        Err(fault) => Err(TreeFault::from(fault)),
-    }
 }
 
 /// Removes the value of a key at an index, counted from 0, and notes the list that is left and the time in the key's own node.

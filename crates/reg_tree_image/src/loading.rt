@@ -107,8 +107,7 @@ fn build_tree(alloc: Global, bins: &[u8], block: BaseBlock) -> Result<Tree, Load
 /// key node with its class, its descriptor and its place in a list, or then none for its values: for as many of
 /// them together, from the first on, as have cells of at most 16,777,216 bytes with a list that has room for all, or then again for
 /// as many of those that are left as have cells of at most so many bytes. No room is that no free cell has room for all cells of one of
-/// these, and that with a bin more
-/// for them the bins would pass 268,435,456 bytes. `Memory` may come as soon as the base block passed.
+/// these, and that with a bin more for them the bins would pass 268,435,456 bytes. `Memory` may come as soon as the base block passed.
 pub fn load_tree<R: Source>(alloc: Global, input: &mut R) -> Result<Tree, LoadFault>
     ensures ok { IfOk result (λ tree. ReadsImage (R.remaining input.old) (R.remaining input.new) tree.tree) }
     ensures err { IfErr result (λ fault. MeetsFault fault (R.remaining input.old) (R.remaining input.new)) }

@@ -5,9 +5,9 @@ use Rattle.reg_tree.proofs.Invariant.NodeLemmas.{here_at, there_at, of_tree}
 use Rattle.reg_tree.proofs.tree.Tree.class.Goals as goal
 
 pub class-requires : goal.class-requires
-class-requires c = there_at _ _ c.self.invariant _ c.self.view_is _ c.requires
+class-requires c = there_at _ _ c.self.invariant.0 _ c.self.view_is _ c.requires
 
 pub returns-clause-told : goal.returns-clause-told
 returns-clause-told c = λ p at.
-    of_tree _ _ c.self.invariant _ c.self.view_is (λ (t : Tree). (r : Rec) → get t p ≡ Some r → c.class.result.now ≡ r.class)
-    (c.class.ensures.told (here_at _ _ c.self.invariant _ c.self.view_is c.args.node p at))
+    of_tree _ _ c.self.invariant.0 _ c.self.view_is (λ (t : Tree). (r : Rec) → get t p ≡ Some r → c.class.result.now ≡ r.class)
+    (c.class.ensures.told (here_at _ _ c.self.invariant.0 _ c.self.view_is c.args.node p at))

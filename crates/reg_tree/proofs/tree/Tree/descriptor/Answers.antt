@@ -5,9 +5,9 @@ use Rattle.reg_tree.proofs.Invariant.NodeLemmas.{here_at, there_at, of_tree}
 use Rattle.reg_tree.proofs.tree.Tree.descriptor.Goals as goal
 
 pub descriptor-requires : goal.descriptor-requires
-descriptor-requires c = there_at _ _ c.self.invariant _ c.self.view_is _ c.requires
+descriptor-requires c = there_at _ _ c.self.invariant.0 _ c.self.view_is _ c.requires
 
 pub returns-clause-told : goal.returns-clause-told
 returns-clause-told c = λ p at.
-    of_tree _ _ c.self.invariant _ c.self.view_is (λ (t : Tree). (r : Rec) → get t p ≡ Some r → c.descriptor.result.now ≡ r.descriptor)
-    (c.descriptor.ensures.told (here_at _ _ c.self.invariant _ c.self.view_is c.args.node p at))
+    of_tree _ _ c.self.invariant.0 _ c.self.view_is (λ (t : Tree). (r : Rec) → get t p ≡ Some r → c.descriptor.result.now ≡ r.descriptor)
+    (c.descriptor.ensures.told (here_at _ _ c.self.invariant.0 _ c.self.view_is c.args.node p at))

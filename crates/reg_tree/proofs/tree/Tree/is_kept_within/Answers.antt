@@ -5,9 +5,9 @@ use Rattle.reg_tree.proofs.Invariant.NodeLemmas.{there_at, here_at, of_tree}
 use Rattle.reg_tree.proofs.tree.Tree.is_kept_within.Goals as goal
 
 pub is_kept_within-requires : goal.is_kept_within-requires
-is_kept_within-requires c = there_at _ _ c.self.invariant _ c.self.view_is _ c.requires
+is_kept_within-requires c = there_at _ _ c.self.invariant.0 _ c.self.view_is _ c.requires
 
 pub returns : goal.returns
 returns c = λ p at.
-    of_tree _ _ c.self.invariant _ c.self.view_is (λ (t : Tree). c.is_kept_within.result ≡ any_kept_within t p)
-    (c.is_kept_within.ensures (here_at _ _ c.self.invariant _ c.self.view_is c.args.node p at))
+    of_tree _ _ c.self.invariant.0 _ c.self.view_is (λ (t : Tree). c.is_kept_within.result ≡ any_kept_within t p)
+    (c.is_kept_within.ensures (here_at _ _ c.self.invariant.0 _ c.self.view_is c.args.node p at))

@@ -1,29 +1,36 @@
-use Rattle.std.proofs.Common.{length, ◌≡◌, ◌↔◌, ◌≤◌, Err, None}
+use Rattle.std.proofs.Common.{sym, ◌∙◌, length, ◌≡◌, ◌≤◌, ◌<◌, None}
 use Rattle.reg_heap.specs.declared.limits.TheConstants.{VALUES_LIMIT}
 use Rattle.reg_heap.specs.Paths.{Tree}
 use Rattle.reg_heap.specs.Edits.{values_at}
-use Rattle.reg_heap.specs.Members.{value_named}
 use Rattle.reg_tree.specs.declared.fault.TreeFault.TheVariants.{Limit}
-use Rattle.reg_tree.proofs.Invariant.NodeLemmas.{here_at, there_at, of_tree, holds_then, changed_ok, changed_nodes}
-use Rattle.reg_tree.proofs.Invariant.LengthsSeen.{lengths_changed}
+use Rattle.reg_tree.proofs.Invariant.NodeLemmas.{here_at, of_tree}
+use Rattle.reg_tree.proofs.KeyAnswers.RefinementOfValues.{just_fault, no_fault, other_fault}
+use Rattle.reg_tree.proofs.ValueChange.ValueAtPlace.{unnamed, not_full}
 use Rattle.reg_tree.proofs.tree.Tree.set_value.Goals as goal
 
-pub set-requires-clause-here : goal.set-requires-clause-here
-set-requires-clause-here c = there_at _ _ c.self.invariant _ c.self.view_is _ c.requires.node
+pub returns-then-is_full-clause-limit : goal.returns-then-is_full-clause-limit
+returns-then-is_full-clause-limit c = λ p at.
+    let full = c.is_full.ensures.full (here_at _ _ c.self.invariant.0 _ c.self.view_is c.args.node p at) c.if-is_full.true in
+    just_fault Limit (
+      of_tree _ _ c.self.invariant.0 _ c.self.view_is (λ (t : Tree). VALUES_LIMIT ≤ length (values_at t p)) full.0,
+      unnamed c.args.name.now (values_at c.args.self.now.tree p) (sym (c.value_index-place.ensures p at) ∙ full.1),
+    )
 
-pub invariant_of-self : goal.invariant_of-self
-invariant_of-self c = holds_then _ _ c.self.invariant _ c.self.view_is _ c.set.result c.args.node c.requires.node _ c.set.ensures.ok c.set.ensures.err
+pub set_at-requires-clause-room : goal.set_at-requires-clause-room
+set_at-requires-clause-room c = λ p at.
+    of_tree _ _ c.self.invariant.0 _ c.self.view_is (λ (t : Tree). c.value_index-place.result ≡ None → length (values_at t p) < VALUES_LIMIT)
+    (c.is_full.ensures.room (here_at _ _ c.self.invariant.0 _ c.self.view_is c.args.node p at) c.if-is_full.false)
 
-pub returns-clause-ok : goal.returns-clause-ok
-returns-clause-ok c = changed_ok _ _ c.self.invariant _ c.self.view_is _ c.set.result c.args.node c.requires.node _ c.set.ensures.ok c.set.ensures.err
+pub returns-in-Ok-clause-limit : goal.returns-in-Ok-clause-limit
+returns-in-Ok-clause-limit c = λ p at.
+    let room =
+    of_tree _ _ c.self.invariant.0 _ c.self.view_is (λ (t : Tree). c.value_index-place.result ≡ None → length (values_at t p) < VALUES_LIMIT)
+    (c.is_full.ensures.room (here_at _ _ c.self.invariant.0 _ c.self.view_is c.args.node p at) c.if-is_full.false) in
+    no_fault Limit (λ full. not_full c.args.name.now _ _ (c.value_index-place.ensures p at) room full.0 full.1)
 
-pub returns-clause-nodes : goal.returns-clause-nodes
-returns-clause-nodes c = changed_nodes _ _ c.self.invariant _ c.self.view_is _ c.set.result c.args.node c.requires.node _ c.set.ensures.ok c.set.ensures.err
-
-pub returns-clause-limit : goal.returns-clause-limit
-returns-clause-limit c = λ p at.
-    of_tree _ _ c.self.invariant _ c.self.view_is (λ (t : Tree). (c.set.result ≡ Err Limit) ↔ ((VALUES_LIMIT ≤ length (values_at t p)) × (value_named c.args.name.now (values_at t p) ≡ None)))
-    (c.set.ensures.limit (here_at _ _ c.self.invariant _ c.self.view_is c.args.node p at))
-
-pub returns-clause-lengths : goal.returns-clause-lengths
-returns-clause-lengths c = lengths_changed _ _ c.self.invariant _ c.self.view_is _ c.set.result c.args.node _ c.set.ensures.lengths
+pub returns-in-Err-clause-limit : goal.returns-in-Err-clause-limit
+returns-in-Err-clause-limit c = λ p at.
+    let room =
+    of_tree _ _ c.self.invariant.0 _ c.self.view_is (λ (t : Tree). c.value_index-place.result ≡ None → length (values_at t p) < VALUES_LIMIT)
+    (c.is_full.ensures.room (here_at _ _ c.self.invariant.0 _ c.self.view_is c.args.node p at) c.if-is_full.false) in
+    other_fault c.in-Err.fault c.from.result c.from.ensures (λ full. not_full c.args.name.now _ _ (c.value_index-place.ensures p at) room full.0 full.1)

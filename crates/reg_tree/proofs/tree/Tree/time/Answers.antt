@@ -5,9 +5,9 @@ use Rattle.reg_tree.proofs.Invariant.NodeLemmas.{here_at, there_at, of_tree}
 use Rattle.reg_tree.proofs.tree.Tree.time.Goals as goal
 
 pub time-requires : goal.time-requires
-time-requires c = there_at _ _ c.self.invariant _ c.self.view_is _ c.requires
+time-requires c = there_at _ _ c.self.invariant.0 _ c.self.view_is _ c.requires
 
 pub returns : goal.returns
 returns c = λ p at.
-    of_tree _ _ c.self.invariant _ c.self.view_is (λ (t : Tree). (r : Rec) → get t p ≡ Some r →
-    c.time.result ≡ r.time) (c.time.ensures (here_at _ _ c.self.invariant _ c.self.view_is c.args.node p at))
+    of_tree _ _ c.self.invariant.0 _ c.self.view_is (λ (t : Tree). (r : Rec) → get t p ≡ Some r →
+    c.time.result ≡ r.time) (c.time.ensures (here_at _ _ c.self.invariant.0 _ c.self.view_is c.args.node p at))

@@ -1,0 +1,114 @@
+//! Which names the values of one key may have, so that a new value isn't looked for among all that the key has.
+ghost use Rattle.std.specs.Prelude.{◌≡◌, ℕ, List, Some, None, true, false};
+ghost use Rattle.reg_heap.specs.Edits.{values_at};
+ghost use Rattle.reg_tree.specs.TreeKeys.{tree_in};
+ghost use Rattle.reg_tree.specs.Internal.NamesSeen.{may_have, HasNoted};
+ghost use Rattle.reg_tree.specs.Internal.TreeInvariant.{IsHere};
+
+use crate::values;
+use reg_arena::Arena;
+use reg_names::name_hash;
+use std::alloc::Global;
+use std::collections::HashSet;
+
+/// How many values a key has at least where their names are noted. Fewer are searched as fast as noted.
+const MANY_VALUES: u32 = 64;
+
+/// The names of the values of one key, by their hashes: of the key on which values are being set. No answer depends on them; they
+/// only spare a search for a name that no value has.
+#[derive(Drop)]
+pub struct NamesSeen {
+    /// The key the names of whose values are all noted.
+    noted: Option<u32>,
+    /// The key on which a value was set last, if nothing else was changed since.
+    last: Option<u32>,
+    /// The hashes of the names.
+    hashes: HashSet<u32>,
+}
+
+impl NamesSeen {
+    /// The names of no key.
+    pub fn new(alloc: Global) -> NamesSeen
+        ensures { result.noted ≡ None }
+    {
+        NamesSeen {
+            noted: None,
+            last: None,
+            hashes: HashSet::new(alloc),
+        }
+    }
+
+    /// Notes no key any more, as before each change but the set of a value.
+    pub fn forget(&mut self)
+        ensures { self.new.noted ≡ None }
+    {
+        self.last = None;
+        self.noted = None;
+    }
+
+    /// Whether it is known without a search that a key has no value of that name.
+    pub fn lacks(&self, key: u32, name: &[u8]) -> bool
+        ensures noted { result ≡ true → self.now.noted ≡ Some key }
+        ensures lacks { result ≡ true → may_have self.now name.now ≡ false }
+    {
+        self.noted == Some(key) && !self.hashes.contains(&name_hash(name))
+    }
+
+    /// Gets ready for a value of that name to be set on a key: notes the name where the key is noted, and else all names that the
+    /// key has where it has many values and one was set on it just before. Where memory is refused, no key is noted.
+    pub fn expect(&mut self, arena: &Arena, key: u32, name: &[u8])
+        requires { IsHere arena.now.bytes key }
+        ensures noted { (other : ℕ) → self.new.noted ≡ Some other → other ≡ key }
+        ensures expected { (other : ℕ) → self.new.noted ≡ Some other → may_have self.new name.now ≡ true }
+        ensures kept { (t : IsHere arena.now.bytes key) →
+            HasNoted self.old key (values_at (tree_in arena.now.bytes t.root) t.path) →
+            HasNoted self.new key (values_at (tree_in arena.now.bytes t.root) t.path) }
+    {
+        if self.noted != Some(key) {
+            self.turn_to(arena, key);
+        }
+        self.note(name);
+    }
+
+    /// Turns to a key on which a value is to be set.
+    fn turn_to(&mut self, arena: &Arena, key: u32)
+        requires { IsHere arena.now.bytes key }
+        ensures noted { (other : ℕ) → self.new.noted ≡ Some other → other ≡ key }
+        ensures all { (t : IsHere arena.now.bytes key) → HasNoted self.new key (values_at (tree_in arena.now.bytes t.root) t.path) }
+    {
+        let is_again = self.last == Some(key);
+        self.noted = None;
+        self.last = Some(key);
+        if is_again && values::count(arena, key) >= MANY_VALUES {
+            self.note_all(arena, key);
+        }
+    }
+
+    /// Notes the names of all values of a key.
+    fn note_all(&mut self, arena: &Arena, key: u32)
+        requires { IsHere arena.now.bytes key }
+        ensures noted { (other : ℕ) → self.new.noted ≡ Some other → other ≡ key }
+        ensures all { (t : IsHere arena.now.bytes key) → HasNoted self.new key (values_at (tree_in arena.now.bytes t.root) t.path) }
+    {
+        self.hashes.clear();
+        self.noted = Some(key);
+        for index in 0..values::count(arena, key) {
+            match values::at(arena, key, index) {
+                Some(value) => self.note(value.name),
+                None => unreachable!(),
+            }
+        }
+    }
+
+    /// Notes a name of the key that is noted. Where memory is refused, no key is noted any more.
+    fn note(&mut self, name: &[u8])
+        ensures noted { (key : ℕ) → self.new.noted ≡ Some key → self.old.noted ≡ Some key }
+        ensures expected { (key : ℕ) → self.new.noted ≡ Some key → may_have self.new name.now ≡ true }
+        ensures kept { (other : List ℕ) → may_have self.old other ≡ true → may_have self.new other ≡ true }
+    {
+        match self.hashes.insert(name_hash(name)) {
+            Ok(_) => {}
+            Err(_) => self.noted = None,
+        }
+    }
+}
