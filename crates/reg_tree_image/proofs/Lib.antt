@@ -4,3 +4,4 @@ pub mod Readers
 pub mod KeyStacks
 pub mod Devices
 pub mod CleanWalks
+pub mod Anew

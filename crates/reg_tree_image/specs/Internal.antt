@@ -15,3 +15,4 @@ pub mod CheckedStacks
 pub mod FirstUses
 pub mod InputParts
 pub mod BlockFields
+pub mod FreeCells

@@ -5,4 +5,5 @@ pub mod Images
 pub mod WalkedKeys
 pub mod CrowdedBins
 pub mod Loads
+pub mod FreeBytes
 pub mod Internal

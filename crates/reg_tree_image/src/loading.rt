@@ -57,7 +57,7 @@ impl LoadFault {
 }
 
 /// The tree of the keys in foreign bins, built anew: `Limit` also where the new bins have no room for a key that is met before any fault.
-fn build_keys(alloc: Global, bins: &[u8], block: BaseBlock) -> Result<Tree, LoadFault>
+pub fn build_keys(alloc: Global, bins: &[u8], block: BaseBlock) -> Result<Tree, LoadFault>
     requires pages { length bins.now % 4096 ≡ 0 }
     requires small { length bins.now ≤ BINS_LIMIT }
     ensures ok { IfOk result (λ tree. tree_in (bins_walk bins.now block.minor block.root nothing) ≡ Ok tree.tree) }

@@ -16,7 +16,7 @@ use reg_text::{Sink, write_counted};
 use reg_tree::Tree;
 
 /// The size of the bin that begins at an offset, as its header says.
-fn bin_size(arena: &Arena, at: u32) -> u32
+pub fn bin_size(arena: &Arena, at: u32) -> u32
     requires { IsInBin arena.now.bytes at 12 }
     ensures { result ≡ word arena.now.bytes (at + 8) }
 {

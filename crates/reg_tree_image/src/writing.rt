@@ -108,7 +108,7 @@ fn push_block(
 }
 
 /// Copies the bins, page by page.
-fn push_bins(out: &mut Vec<u8>, arena: &Arena) -> Result<(), AllocError>
+pub fn push_bins(out: &mut Vec<u8>, arena: &Arena) -> Result<(), AllocError>
     ensures { OnOk result (out.new.items ≡ out.old.items ++ arena.now.bytes) }
 {
     for page in 0..arena.bins_size() / 4096 {

@@ -31,7 +31,7 @@ contents : (bins : List ℕ) (cells : List Cell) → cells_of bins ≡ Some cell
 unfolding cell_at
 contents bins cells e = ap (λ c. content_of bins c) (sym e)
 
-bins-walked : (bins : List ℕ) (cells : List Cell) (minor root : ℕ) (seen : Seen) → cells_of bins ≡ Some cells →
+pub bins-walked : (bins : List ℕ) (cells : List Cell) (minor root : ℕ) (seen : Seen) → cells_of bins ≡ Some cells →
     bins_walk bins minor root seen ≡ key_from (cell_at bins) minor 513 [] root_path root seen
 unfolding bins_walk cells_of
 bins-walked bins cells minor root seen e =

@@ -16,7 +16,7 @@ use Rattle.reg_tree_image.proofs.CleanWalks.ShapesOfWholeHives.{branch, its_keys
 use Rattle.reg_tree_image.proofs.CleanWalks.CleanImages.{image-loads}
 
 module _ (bins : List ℕ) (root : ℕ) (w : Whole bins root) where
-  spelt-is : spelt (length w.cells) (cell_at bins) root ≡ Some (tree_of (cell_at bins) (its_keys (cell_at bins) (length w.cells) root w.whole))
+  pub spelt-is : spelt (length w.cells) (cell_at bins) root ≡ Some (tree_of (cell_at bins) (its_keys (cell_at bins) (length w.cells) root w.whole))
   spelt-is = spelt-in bins root (its_keys (cell_at bins) (length w.cells) root w.whole) w.whole.ring w.cells w.cells_are
       (shape-of-whole (cell_at bins) (length w.cells) root w.whole)
 

@@ -1,0 +1,3 @@
+-- Free bytes counted, and a tree built anew.
+pub mod FreeSums
+pub mod RebuiltTrees
