@@ -1,6 +1,6 @@
 -- What was found by a handle, as commits take it.
-use Rattle.std.proofs.Common.{◌≡◌, ◌≢◌, ℕ, ◌<◌, ◌≤◌, Bool, true, false, is_some, List, [], ◌∷◌, ◌++◌, map, length, Option, None, refl, sym, ap, ◌∙◌, subst, true≢false, arith}
-use Rattle.std.specs.Prelude.{◌==◌}
+use Rattle.std.proofs.Common.{◌≡◌, ◌≢◌, ℕ, ◌<◌, ◌≤◌, Bool, true, false, is_some, List, [], ◌∷◌, ◌++◌, map, length, Option, Some, None, refl, sym, ap, ◌∙◌, subst, true≢false, arith}
+use Rattle.std.specs.Prelude.{◌==◌, MatchOption}
 use Rattle.std.proofs.lemmas.Grind.{common_steps}
 use Rattle.std.proofs.lemmas.Bool.Decides.{nat_tests}
 use Rattle.reg_names.specs.declared.TheConstants.{PATH_LIMIT}
@@ -60,6 +60,14 @@ pub has-room : (name : List ℕ) (members : List Member) (place : Option ℕ) �
 has-room name members place none at room =
     let lacks : is_some (value_named name members) ≡ false = sym (named_if name members) ∙ ap (λ (o : Option ℕ). is_some o) (sym at ∙ none) in
     grind (arith, nat_tests, common_steps, lacks, room)
+
+-- ---- what was admitted with a text or without one
+
+pub some-part : {A : Type 0} (o : Option A) (x : A) → o ≡ Some x → (P : Type 0) (Q : A → Type 0) → MatchOption o P Q → Q x
+some-part o x e P Q m = subst (λ o. MatchOption o P Q) e m
+
+pub none-part : {A : Type 0} (o : Option A) → o ≡ None → (P : Type 0) (Q : A → Type 0) → MatchOption o P Q → P
+none-part o e P Q m = subst (λ o. MatchOption o P Q) e m
 
 -- ---- texts without names
 

@@ -1,17 +1,18 @@
 -- What a look-up by a handle finds.
-use Rattle.std.proofs.Common.{◌≡◌, ℕ, List, ◌++◌, map, Option, Some, refl, sym, ap, ◌∙◌, subst}
-use Rattle.std.proofs.lemmas.List.{map-append}
+use Rattle.std.proofs.Common.{◌≡◌, ◌==◌, ℕ, Bool, true, false, cond, List, [], ◌++◌, map, Option, Some, None, refl, sym, ap, ◌∙◌, subst}
+use Rattle.std.proofs.lemmas.List.{append-nil, map-append}
+use Rattle.std.proofs.lemmas.Option.{none-some, same_Some}
 use Rattle.std.specs.Prelude.{Result, Ok, Err, IfOk, IfSome}
 use Rattle.reg_names.specs.Names.{folded, path_of}
 use Rattle.reg_names.proofs.FoldingLemmas.{names-again}
 use Rattle.reg_heap.specs.Paths.{Path}
 use Rattle.reg_heap.specs.Edits.{folded_path}
-use Rattle.reg_model.specs.Worlds.{Handle, At, IsStanding, look, path_at, path_from}
+use Rattle.reg_model.specs.Worlds.{Handle, At, IsStanding, look, numbered, owned, path_at, path_from}
 use Rattle.reg_model.specs.Causes.{by_handle}
 use Rattle.reg_model.proofs.HandleInvariant.{Has, target-there}
 use Rattle.reg_tree.specs.TreeKeys.{IsAt}
 use Rattle.reg_tree.specs.declared.node.Node.{Node}
-use Rattle.reg_handles.specs.HandleTables.{payload_on, IsFoldedPath}
+use Rattle.reg_handles.specs.HandleTables.{payload_on, IsFoldedPath, IsLeadingTo}
 use Rattle.reg_handles.specs.FoundHandles.{destination_shown, IfLeads, HasPayload}
 use Rattle.reg_handles.specs.declared.keys.Target.{Target}
 use Rattle.reg_handles.specs.declared.handles.Found.{Found}
@@ -47,6 +48,23 @@ target-at store session number t = rw (t.found, t.destination) refl
 
 pub target-from : (store : Store) (session number : ℕ) (t : IsTarget store session number) (text : List ℕ) → path_from session number store.handles.handles text ≡ t.path ++ folded_path text
 target-from store session number t text = ap (λ (p : Path). p ++ folded_path text) (target-at store session number t)
+
+-- the empty path from it leads there
+pub target-own : (store : Store) (session number : ℕ) (t : IsTarget store session number) (text : List ℕ) → text ≡ [] → t.path ≡ path_from session number store.handles.handles text
+target-own store session number t text empty =
+    sym (target-from store session number t text ∙ (ap (λ (x : List ℕ). t.path ++ folded_path x) empty ∙ append-nil t.path))
+
+-- its handle leads there, whosever it is
+pub target-leads : (store : Store) (session number : ℕ) (t : IsTarget store session number) → IsLeadingTo t.path (numbered number store.handles.handles)
+target-leads store session number t = by (numbered number store.handles.handles) t.found
+  where
+    one : (h : Handle) (b : Bool) → cond b (Some h) None ≡ Some t.handle → h ≡ t.handle
+    one h true e = same_Some _ _ e
+    one h false e = absurd (none-some _ e)
+
+    by : (o : Option Handle) → owned session o ≡ Some t.handle → IsLeadingTo t.path o
+    by None e = absurd (none-some _ e)
+    by (Some h) e = ap (λ (x : Handle). x.destination) (one h (h.session == session) e) ∙ t.destination
 
 -- what its handle's causes are is what they are of the handle that it is
 pub by_handle-at : (store : Store) (session number : ℕ) (t : IsTarget store session number) (f : Handle → Option ℕ) → by_handle f (look session number store.handles.handles) ≡ f t.handle

@@ -57,6 +57,10 @@ module _ (store : Store) (known : KnowsKeys store) where
 
   -- ---- handles that come
 
+  -- one to a key that another handle leads to
+  pub beside_known : (table : Table Node) → ((text : List ℕ) → payload_on table text ≡ kept text) → KnowsKeys (record { tree = store.tree; handles = table; watches = store.watches })
+  beside_known table same = λ text node e. known text node (sym (same text) ∙ e)
+
   module _ (table : Table Node) (path : List ℕ) (node : Node)
       (added : (text : List ℕ) → payload_on table text ≡ cond (bytes_eq path text) (Some (unwrap_or (kept path) node)) (kept text)) where
     -- a handle to a key

@@ -19,3 +19,4 @@ pub mod AcceptedChanges
 pub mod RememberedEvents
 pub mod QuietChanges
 pub mod HandlesLead
+pub mod LargestNumbers

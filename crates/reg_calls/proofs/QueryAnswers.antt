@@ -1,18 +1,16 @@
 -- What questions are answered.
-use Rattle.std.proofs.Common.{◌≡◌, ◌≢◌, ℕ, ◌+◌, ◌<◌, ◌≤◌, true, false, not, nat_lt, nat_le, cond, is_some, List, [], ◌∷◌, ◌++◌, map, take, length, slice_get, get_or, Option, Some, None, refl}
+use Rattle.std.proofs.Common.{◌≡◌, ◌≢◌, ℕ, ◌<◌, ◌≤◌, true, false, not, nat_lt, nat_le, is_some, List, [], length, slice_get, get_or, Option, Some, None, refl}
 use Rattle.std.proofs.Common.{sym, ap, ◌∙◌, subst, arith, inl, inr, ◌⊎◌}
 use Rattle.std.specs.Prelude.{bit_and, IsSome}
 use Rattle.std.specs.FinMap.{get, insert, empty}
-use Rattle.std.proofs.lemmas.Bool.{false≢true}
 use Rattle.std.proofs.lemmas.Bool.Decides.{nat_tests}
-use Rattle.std.proofs.lemmas.List.{map-append, take_more, take_all}
 use Rattle.std.proofs.lemmas.Option.{slice_get_within, slice_get_cases}
 use Rattle.reg_names.specs.Names.{is_value_name}
 use Rattle.reg_heap.specs.Paths.{Path, Tree, Rec, Member, children_of}
 use Rattle.reg_heap.specs.Members.{value_named}
 use Rattle.reg_heap.specs.Edits.{values_at, descriptor_of}
 use Rattle.reg_model.specs.Causes.{State, early_query_cause, late_query_cause, query_cause, refuse, asked, has, subkeys_of, members_of, lacks_value, ◌or◌}
-use Rattle.reg_model.specs.Replies.{body_of, value_told, key_told, member_told, info_told, security_told, largest_of, name_of}
+use Rattle.reg_model.specs.Replies.{body_of, value_told, key_told, member_told, info_told, security_told}
 use Rattle.reg_model.specs.declared.rights.TheConstants.{READ_CONTROL}
 use Rattle.reg_model.specs.declared.answer.AnswerBody.{AnswerBody}
 use Rattle.reg_model.specs.declared.answer.AnswerBody.TheVariants.{Refused}
@@ -190,38 +188,6 @@ found_as members (Some m) found h = record { member = m; is = refl; at_index = h
 pub found_not : (members : List Member) (o : Option Member) → IsFound members o None → o ≡ None
 found_not members None h = refl
 found_not members (Some m) h = absurd h
-
--- ---- the largest of some numbers
-
-swapped : (m n x : ℕ) → cond (nat_lt (cond (nat_lt m n) n m) x) x (cond (nat_lt m n) n m) ≡ cond (nat_lt (cond (nat_lt m x) x m) n) n (cond (nat_lt m x) x m)
-swapped m n x = grind (arith, nat_tests)
-
-largest-push : (ns : List ℕ) (n : ℕ) → largest_of (ns ++ n ∷ []) ≡ cond (nat_lt (largest_of ns) n) n (largest_of ns)
-largest-push [] n = refl
-largest-push (x ∷ ns) n = ap (λ (m : ℕ). cond (nat_lt m x) x m) (largest-push ns n) ∙ swapped (largest_of ns) n x
-
--- the largest of one more
-pub largest-next : {X : Type 0} (f : X → ℕ) (xs : List X) (i : ℕ) (d x : X) → i < length xs → get_or xs i d ≡ x →
-    largest_of (map f (take (i + 1) xs)) ≡ cond (nat_lt (largest_of (map f (take i xs))) (f x)) (f x) (largest_of (map f (take i xs)))
-largest-next f xs i d x below is =
-    ap (λ l. largest_of (map f l)) (take_more xs i d below)
-    ∙ (ap largest_of (map-append f (take i xs) (get_or xs i d ∷ [])) ∙ (largest-push (map f (take i xs)) (f (get_or xs i d)) ∙
-    ap (λ y. cond (nat_lt (largest_of (map f (take i xs))) (f y)) (f y) (largest_of (map f (take i xs)))) is))
-
-pub largest-all : {X : Type 0} (f : X → ℕ) (xs : List X) (i : ℕ) → length xs ≤ i → largest_of (map f (take i xs)) ≡ largest_of (map f xs)
-largest-all f xs i past = ap (λ l. largest_of (map f l)) (take_all i xs past)
-
--- a step of a search for the largest
-pub largest-step : {X : Type 0} (f : X → ℕ) (xs : List X) (i : ℕ) (d x : X) (largest size now : ℕ) → i < length xs → get_or xs i d ≡ x →
-    largest ≡ largest_of (map f (take i xs)) → size ≡ f x → now ≡ cond (nat_lt largest size) size largest → now ≡ largest_of (map f (take (i + 1) xs))
-largest-step f xs i d x largest size now below is so_far one step =
-    step
-    ∙ (ap (λ b. cond (nat_lt largest b) b largest) one ∙ (ap (λ a. cond (nat_lt a (f x)) (f x) a) so_far ∙ sym (largest-next f xs i d x below is)))
-
--- the name of a key that is there
-pub name-told : (o : Option Rec) (name : List ℕ) → ((r : Rec) → o ≡ Some r → name ≡ r.name) → is_some o ≡ true → name ≡ name_of o
-name-told None name of_rec there = absurd (false≢true there)
-name-told (Some r) name of_rec there = of_rec r refl
 
 -- a mask that has QUERY_VALUE
 pub allowed_is : (mask : ℕ) → bit_and mask 1 ≡ 1 → has 1 mask ≡ true

@@ -116,12 +116,12 @@ module _ (n : ℕ) (store : Store) (session : ℕ) (ready : IsReady n store) whe
     pub open-room : handles_of session hs < HANDLES_LIMIT
     open-room = let m = open-met s session h path mask 0 c in room-few m.room
 
-    pub open-done : (moment : ℕ) (table : Table Node) (text : List ℕ) → path_of text ≡ path_from session h hs path → added table mask text →
-        (told : ChangeReply) → told ≡ opening None → KnowsKeys (record { tree = store.tree; handles = table; watches = store.watches }) →
+    pub open-done : (moment : ℕ) (table : Table Node) (to : Path) → to ≡ path_from session h hs path →
+        table.handles ≡ hs ++ record { number = n; session = session; mask = mask; destination = At to } ∷ [] → (told : ChangeReply) → told ≡ opening None → KnowsKeys (record { tree = store.tree; handles = table; watches = store.watches }) →
         IsDone store (record { tree = store.tree; handles = table; watches = store.watches }) session moment n
         (OpenKey h path mask) told
     unfolding after reply_to watch_of changes_keys
-    open-done moment table text names add told e known =
+    open-done moment table to names add told e known =
         let handles = add ∙ ap (λ (p : Path). hs ++ record { number = n; session = session; mask = mask; destination = At p } ∷ []) names in
         record { world = λ i. record { tree = tree; handles = handles i }; reply = e; kept_keys = λ none. refl; kept = omega arith; grows = no-growth store; known = known; watches = refl }
 

@@ -24,8 +24,10 @@ use std::alloc::Global;
 pub struct OpenKey {
     /// The rights that are asked.
     pub mask: u32,
-    /// The path of the key, as folded text.
-    pub text: Vec<u8>,
+    /// The handle by whose key it was found.
+    pub by: u64,
+    /// The path of the key, as folded text; `None` where it is that handle's own key, so that its path is not copied.
+    pub text: Option<Vec<u8>>,
     /// The key.
     pub node: Node,
 }
@@ -63,10 +65,23 @@ impl OpenKey {
         let Some(node) = store.tree.resolve(key.node, path) else {
             return Err(Refusal::Cause(FILE_NOT_FOUND));
         };
+        if path.is_empty() {
+            return Ok(OpenKey {
+                mask,
+                by: handle,
+                text: None,
+                node,
+            });
+        }
         // Only for its clause `shallow`: no key is deeper than 512 names, so that the path's text is one that the table takes.
         let _ = store.tree.root();
         match path_below(alloc, key.path, path) {
-            Ok(text) => Ok(OpenKey { mask, text, node }),
+            Ok(text) => Ok(OpenKey {
+                mask,
+                by: handle,
+                text: Some(text),
+                node,
+            }),
             Err(_) => Err(Refusal::Memory),
         }
     }
@@ -79,7 +94,18 @@ impl OpenKey {
         ensures { (moment handle : ℕ) → (path : List ℕ) → AdmitsOpenKey number store.old session handle path self →
             IsMade store.old store.new session moment number (KeyOpened handle path self.mask) result }
     {
-        let OpenKey { mask, text, node } = self;
+        let OpenKey {
+            mask,
+            by,
+            text,
+            node,
+        } = self;
+        let Some(text) = text else {
+            return match store.handles.add_beside(session, number, mask, by) {
+                Ok(()) => Ok(opened(number, None)),
+                Err(_) => Err(Lack::Memory),
+            };
+        };
         match store.handles.add(session, number, mask, text, node) {
             Ok(()) => Ok(opened(number, None)),
             Err(_) => Err(Lack::Memory),

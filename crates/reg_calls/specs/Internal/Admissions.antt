@@ -1,5 +1,5 @@
 -- What each change was admitted with: what its commit takes, as admission found it in the store when the journal had so many entries.
-use Rattle.std.specs.Prelude.{◌≡◌, ◌≢◌, ◌<◌, ℕ, List, [], map, length, Some, None, Result, Ok, Err, false, true, option_copied, vec_len, vec_capacity}
+use Rattle.std.specs.Prelude.{◌≡◌, ◌≢◌, ◌<◌, ℕ, List, [], map, length, Some, None, Result, Ok, Err, false, true, option_copied, vec_len, vec_capacity, MatchOption}
 use Rattle.reg_names.specs.Names.{folded, is_path, path_of}
 use Rattle.reg_heap.specs.Members.{index_named}
 use Rattle.reg_heap.specs.declared.limits.TheConstants.{VALUES_LIMIT}
@@ -32,7 +32,7 @@ use Rattle.reg_calls.specs.declared.changes.Admitted.TheVariants.{Close as Close
 use Rattle.reg_calls.specs.declared.refusal.Refusal.{Refusal}
 use Rattle.reg_calls.specs.declared.refusal.Refusal.TheVariants.{Cause, Memory}
 use Rattle.reg_calls.specs.Shortages.{is_closing}
-use Rattle.reg_calls.specs.Internal.Stores.{at}
+use Rattle.reg_calls.specs.Internal.Stores.{at, IsTarget}
 use Rattle.reg_calls.specs.Internal.DeletedTrees.{IsTreeFound}
 
 -- nothing refuses a change, where no callback does
@@ -45,10 +45,16 @@ pub record IsTextOf (store : Store) (session handle : ℕ) (path text : List ℕ
   pub valid : is_path text ≡ true
   pub folded : map folded (path_of text) ≡ path_of text
 
--- a handle to the key at a path from a handle's key: the path's text, and the key
+-- the path from a handle's key leads to that key itself
+pub record IsOwnKey (store : Store) (session handle : ℕ) (path : List ℕ) : Type 0 where
+  pub target : IsTarget store session handle
+  pub empty : path ≡ []
+
+-- a handle to the key at a path from a handle's key: the path's text, or none where it is that handle's own key; and the key
 pub record AdmitsOpenKey (entries : ℕ) (store : Store) (session handle : ℕ) (path : List ℕ) (found : OpenKey) : Type 0 where
   pub clear : IsClear entries store session (KeyOpened handle path found.mask)
-  pub text : IsTextOf store session handle path found.text.items
+  pub by : found.by ≡ handle
+  pub text : MatchOption found.text (IsOwnKey store session handle path) (λ text. IsTextOf store session handle path text.items)
   pub node : IsAt store.tree (path_from session handle store.handles.handles path) found.node
 
 -- keys made on a path from a handle's key: the path's text, how far it leads, which names are missing and where they belong; these
