@@ -79,7 +79,8 @@ impl<K: Copy> Handles<K> {
         requires { session < SESSIONS_LIMIT }
         ensures { result ≡ count_of session self.now.handles }
     {
-        self.counts[session as usize]
+        let place = session as usize;
+        self.counts[place]
     }
 
     /// Finds the handle of that number, if it is the session's. Lends the folded path of its key as text, with its payload, or
