@@ -1,7 +1,7 @@
 //! A key of 16,384 values whose cells have more bytes than one carve may take, and the bins of what it loads to. The wanted sizes come
 //! from the format's tables.
-use crate::support::Imaged;
-use reg_fixtures::{PlainHive, drafted, sizes_but};
+use crate::support::cells_and_bins;
+use reg_fixtures::{PlainHive, drafted};
 use reg_image::load;
 use reg_test_support::assert_report;
 use std::alloc::{AllocError, Global};
@@ -29,23 +29,11 @@ fn table_of_values(alloc: Global) -> Result<String, AllocError> {
     Ok(table)
 }
 
-/// The sizes of a hive's allocated cells, added up, and whether its bins have at most 1.05 times as many bytes.
-fn sizes<H: Imaged>(alloc: Global, hive: &H) -> Result<String, Fail> {
-    let arena = hive.tree().arena();
-    let mut cells: u32 = 0;
-    for size in &sizes_but(alloc, arena, 0)? {
-        cells = cells.saturating_add(*size);
-    }
-    let are_close = u64::from(arena.bins_size()) * 100 <= u64::from(cells).saturating_mul(105);
-    let bins = if are_close { "close" } else { "far" };
-    Ok(format!(in alloc; "{cells} {bins}")?)
-}
-
 /// The sizes of cells of the hive that an image loads to.
 fn loaded_sizes(alloc: Global, bytes: &[u8]) -> Result<String, Fail> {
     let mut input = bytes;
     let hive: PlainHive = load(alloc, &mut input)?;
-    sizes(alloc, &hive)
+    cells_and_bins(alloc, &hive)
 }
 
 /// What `loaded_sizes` tells of the image of the table of values.

@@ -2,7 +2,7 @@
 //! Whoever owns a hive does nothing but hand it on, and who is lent one takes any that is [`Imaged`]: a function is the longer to check
 //! the more it does with a hive.
 use reg_callbacks::NoCallback;
-use reg_fixtures::{FakeWriter, PlainHive, Registry};
+use reg_fixtures::{FakeWriter, PlainHive, Registry, sizes_but};
 use reg_image::{WriteFault, image, load, write_hive};
 use reg_script::{FRESH_DESCRIPTOR, run};
 use reg_tree_text::dump;
@@ -106,4 +106,22 @@ pub fn loaded_twice(alloc: Global, bytes: &[u8]) -> Result<String, Fail> {
     let mut input = bytes;
     let hive: PlainHive = load(alloc, &mut input)?;
     dumped_twice(alloc, &hive)
+}
+
+/// The sizes of a hive's allocated cells, added up.
+fn bytes_of_cells<H: Imaged>(alloc: Global, hive: &H) -> Result<u32, Fail> {
+    let mut cells: u32 = 0;
+    for size in &sizes_but(alloc, hive.tree().arena(), 0)? {
+        cells = cells.saturating_add(*size);
+    }
+    Ok(cells)
+}
+
+/// The sizes of a hive's allocated cells, added up, and whether its bins have at most 1.05 times as many bytes.
+pub fn cells_and_bins<H: Imaged>(alloc: Global, hive: &H) -> Result<String, Fail> {
+    let cells = bytes_of_cells(alloc, hive)?;
+    let bins = u64::from(hive.tree().arena().bins_size());
+    let are_close = bins * 100 <= u64::from(cells).saturating_mul(105);
+    let how = if are_close { "close" } else { "far" };
+    Ok(format!(in alloc; "{cells} {how}")?)
 }
