@@ -14,6 +14,9 @@ use std::collections::HashSet;
 /// How many values a key has at least where their names are noted. Fewer are searched as fast as noted.
 const MANY_VALUES: u32 = 64;
 
+/// How many values were set on a key at least, one after another, before the names of all are noted. So many searches cost as much.
+const MANY_TURNS: u32 = 32;
+
 /// The names of the values of one key, by their hashes: of the key on which values are being set. No answer depends on them; they
 /// only spare a search for a name that no value has.
 #[derive(Drop)]
@@ -22,8 +25,15 @@ pub struct NamesSeen {
     noted: Option<u32>,
     /// The key on which a value was set last, if nothing else was changed since.
     last: Option<u32>,
+    /// How many values were set there before that one, without another change between.
+    turns: u32,
     /// The hashes of the names.
     hashes: HashSet<u32>,
+}
+
+/// How many values were set on a key before this one, of those that were before the last: one more where it is the same key.
+fn next_turn(turns: u32, is_again: bool) -> u32 {
+    if is_again { turns.saturating_add(1) } else { 0 }
 }
 
 impl NamesSeen {
@@ -34,6 +44,7 @@ impl NamesSeen {
         NamesSeen {
             noted: None,
             last: None,
+            turns: 0,
             hashes: HashSet::new(alloc),
         }
     }
@@ -54,8 +65,9 @@ impl NamesSeen {
         self.noted == Some(key) && !self.hashes.contains(&name_hash(name))
     }
 
-    /// Gets ready for a value of that name to be set on a key: notes the name where the key is noted, and else all names that the
-    /// key has where it has many values and one was set on it just before. Where memory is refused, no key is noted.
+    /// Gets ready for a value of that name to be set on a key: notes the name where the key is noted. Where it isn't, it is noted with
+    /// all names that it has, once it has many values and many were set on it one after another. Where memory is refused, no key is
+    /// noted.
     pub fn expect(&mut self, arena: &Arena, key: u32, name: &[u8])
         requires { IsHere arena.now.bytes key }
         ensures noted { (other : ℕ) → self.new.noted ≡ Some other → other ≡ key }
@@ -67,7 +79,9 @@ impl NamesSeen {
         if self.noted != Some(key) {
             self.turn_to(arena, key);
         }
-        self.note(name);
+        if self.noted.is_some() {
+            self.note(name);
+        }
     }
 
     /// Turns to a key on which a value is to be set.
@@ -77,9 +91,10 @@ impl NamesSeen {
         ensures all { (t : IsHere arena.now.bytes key) → HasNoted self.new key (values_at (tree_in arena.now.bytes t.root) t.path) }
     {
         let is_again = self.last == Some(key);
+        self.turns = next_turn(self.turns, is_again);
         self.noted = None;
         self.last = Some(key);
-        if is_again && values::count(arena, key) >= MANY_VALUES {
+        if self.turns >= MANY_TURNS && values::count(arena, key) >= MANY_VALUES {
             self.note_all(arena, key);
         }
     }
