@@ -18,6 +18,8 @@ mod replacing;
 #[cfg(test)]
 mod searches;
 #[cfg(test)]
+mod sizes;
+#[cfg(test)]
 mod support;
 #[cfg(test)]
 mod texts;

@@ -72,6 +72,12 @@ pub fn report_while_held(rt: &HostRuntime, actions: &[Action<'_>]) -> Result<Str
     Ok(report)
 }
 
+/// How many bytes a file in a folder has.
+pub fn size_of(rt: &HostRuntime, folder: &str, name: &str) -> Result<u64, Fail> {
+    let path = format!(in rt.alloc(); "{folder}/{name}")?;
+    Ok(fs::metadata(rt, path.as_str())?.len())
+}
+
 /// Whether the moment of a new hive `a` after an edit or an import by this command line is after 2020 and before 2200.
 pub fn begins_at_the_clock<'x>(
     rt: &HostRuntime,

@@ -1,7 +1,9 @@
 //! The commands that save files.
 
-ghost use Rattle.std.specs.Prelude.{OnOk, OnErr, IfOk, IfErr};
-ghost use Rattle.reg_files.specs.Saves.{IsToSave, IsToMake};
+ghost use Rattle.std.specs.Prelude.{◌≡◌, true, OnOk, OnErr, IfOk, IfErr};
+ghost use Rattle.reg_calls.specs.HiveView.{view_of};
+ghost use Rattle.reg_tree_image.specs.FreeBytes.{are_sparse};
+ghost use Rattle.reg_files.specs.Saves.{is_saved, IsToSave, IsToMake, IsNotRebuilt};
 ghost use Rattle.reg_files.specs.Serving.{IsGiven, IsNone, EditsFile, StopsEditing, Enters, StopsImporting};
 ghost use Rattle.reg_files.specs.Internal.Cuts.{is_save_end_cut};
 
@@ -9,7 +11,8 @@ use crate::device::Device;
 use crate::fault::{Fault, SaveEnd, Step, taken};
 use crate::locks::{Lockable, open_locked, real_path};
 use crate::moments::moment_at;
-use crate::saving::{Saved, create, replace};
+use crate::saved::{Saved, SavedTree, tree_to_save};
+use crate::saving::{create, replace};
 use reg_callbacks::NoCallback;
 use reg_calls::Hive;
 use reg_edits::{Edited, edit, fresh_hive, import};
@@ -32,25 +35,31 @@ fn begin_at<H: Clock>(host: &H, begin: Begin) -> Result<u64, Fault>
 }
 
 /// What is to be saved of an edited hive: nothing where no call may have changed a key, or where the words ask for a dry run.
-fn to_save<'a>(request: EditRequest<'_>, edited: &'a Edited) -> Option<Saved<'a>>
-    ensures { IsToSave request.entry edited.now result }
+fn to_save<'a>(
+    alloc: Global,
+    request: EditRequest<'_>,
+    edited: &'a Edited,
+) -> Result<Option<Saved<'a>>, Fault>
+    ensures ok { IfOk result (λ saved. IsToSave request.entry edited.now saved) }
+    ensures err { IfErr result (λ fault. (is_saved request.entry edited.now ≡ true)
+        × (are_sparse (view_of edited.now.hive).keys.bins.bytes ≡ true) × IsNotRebuilt fault) }
 {
     if !edited.is_changed || request.dry_run {
-        return None;
+        return Ok(None);
     }
-    Some(Saved {
-        hive: &edited.hive,
+    Ok(Some(Saved {
+        tree: tree_to_save(alloc, edited.hive.tree())?,
         moment: edited.moment,
         sequence: edited.sequence,
-    })
+    }))
 }
 
-/// A new file's hive as it is saved: at moment 0, with the first sequence number.
+/// A new file's hive as it is saved: its bins as they stand, at moment 0, with the first sequence number.
 fn to_make(hive: &Hive<NoCallback>) -> Saved<'_>
     ensures { IsToMake hive.now result }
 {
     Saved {
-        hive,
+        tree: SavedTree::Own(hive.tree()),
         moment: 0,
         sequence: FIRST_SEQUENCE,
     }
@@ -64,12 +73,12 @@ fn save<H: Files>(
     path: &str,
     edited: &Edited,
 ) -> Result<(), Fault> {
-    let Some(saved) = to_save(request, edited) else {
+    let Some(saved) = to_save(alloc, request, edited)? else {
         return Ok(());
     };
     match request.output {
-        Some(target) => create(host, target, saved),
-        None => replace(alloc, host, path, saved),
+        Some(target) => create(host, target, &saved),
+        None => replace(alloc, host, path, &saved),
     }
 }
 
@@ -159,5 +168,5 @@ where
 /// Makes a file with a fresh hive.
 pub fn new_file<H: Files>(alloc: Global, host: &H, file: &str, name: &str) -> Result<(), Fault> {
     let hive = fresh_hive(alloc, name.as_bytes())?;
-    create(host, file, to_make(&hive))
+    create(host, file, &to_make(&hive))
 }

@@ -106,6 +106,9 @@ pub enum Fault {
     /// An image doesn't load.
     #[error("the image doesn't load")]
     Load(LoadFault),
+    /// A hive that is to be saved can't be built anew: memory runs out, or the new bins have no room.
+    #[error("the hive can't be built anew: {0}")]
+    Rebuild(LoadFault),
     /// There is no such key.
     #[error("there is no such key")]
     NoKey,
@@ -247,7 +250,8 @@ impl From<DiffFault> for DiffEnd {
 pub enum SaveEnd {
     /// The image doesn't load, or what was to be made of its hive was ended, or lines of the script failed.
     Hive(Fault),
-    /// A step on the files, or the clock, was refused, or memory for it: before the image was read, or as it was saved.
+    /// A step on the files, or the clock, was refused, or memory for it: before the image was read, or as it was saved; or the hive can't
+    /// be built anew.
     Files(Fault),
 }
 

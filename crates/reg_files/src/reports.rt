@@ -87,6 +87,7 @@ fn fault_text(alloc: Global, file: &str, fault: &Fault) -> Result<String, AllocE
             let number = fault.number();
             format!(in alloc; "1009 load {number} {file}: {fault}")
         }
+        Fault::Rebuild(_) => format!(in alloc; "rebuild {file}: {fault}"),
         Fault::Script(fault) => {
             let number = fault.number();
             format!(in alloc; "script {number}: {fault}")

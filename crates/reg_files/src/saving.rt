@@ -1,16 +1,16 @@
 //! Hives written to files, whole or not at all.
 
-ghost use Rattle.std.specs.Prelude.{OnOk, OnErr, IfErr};
+ghost use Rattle.std.specs.Prelude.{◌≡◌, Ok, OnOk, OnErr, IfErr};
 ghost use Rattle.std.specs.Io.KnownBytes.{Appends};
 ghost use Rattle.reg_command.specs.Failures.{IsFront};
+ghost use Rattle.reg_tree_image.specs.Images.{loaded};
 ghost use Rattle.reg_files.specs.Internal.Cuts.{IsOfStep};
-ghost use Rattle.reg_files.specs.Saves.{image_to_save};
+ghost use Rattle.reg_files.specs.Saves.{saved_keys, image_to_save};
 
 use crate::device::Device;
 use crate::fault::{Fault, Step, refused, taken};
-use reg_callbacks::NoCallback;
-use reg_calls::Hive;
-use reg_image::write_hive;
+use crate::saved::Saved;
+use reg_tree_image::write_tree;
 use std::alloc::Global;
 use std::fs;
 use std::fs::{File, Metadata, OpenFile, OpenOptions};
@@ -27,14 +27,6 @@ const RUNNER_BITS: u32 = 0o6000;
 
 /// The bits of a mode that are a group's.
 const GROUP_BITS: u32 = 0o070;
-
-/// A hive as it is saved: with its image's moment, in units of 100 ns since 1601, and sequence number.
-#[derive(Clone, Copy)]
-pub struct Saved<'a> {
-    pub hive: &'a Hive<NoCallback>,
-    pub moment: u64,
-    pub sequence: u32,
-}
 
 /// Makes a file beside a path, anew, and answers it with its name: never one that is there, whoever left it. Nobody but its owner may
 /// open it.
@@ -89,20 +81,22 @@ fn permit<H: Files>(
     taken(Step::Permit, file.set_permissions(permissions))
 }
 
-/// Writes the image of a hive to a file, or a front of it where a write is refused.
-fn write_image<F: Write>(device: &mut Device<F>, saved: Saved<'_>) -> Result<(), Fault>
-    ensures ok { OnOk result (Appends (F.contents device.old.device) (F.contents device.new.device) (image_to_save saved.entry)) }
-    ensures err { OnErr result (IsFront (image_to_save saved.entry) (F.contents device.old.device) (F.contents device.new.device)) }
+/// Writes an image to a file, or a front of it where a write is refused. By the rules of loading the image has no fault, and the keys that
+/// are saved (clause `loads`).
+fn write_image<F: Write>(device: &mut Device<F>, saved: &Saved<'_>) -> Result<(), Fault>
+    ensures ok { OnOk result (Appends (F.contents device.old.device) (F.contents device.new.device) (image_to_save saved.now)) }
+    ensures err { OnErr result (IsFront (image_to_save saved.now) (F.contents device.old.device) (F.contents device.new.device)) }
     ensures of_step { IfErr result (λ fault. IsOfStep Step.Write fault) }
+    ensures loads { loaded (image_to_save saved.now) ≡ Ok (saved_keys saved.now.tree).tree }
 {
-    match write_hive(saved.hive, saved.moment, saved.sequence, device) {
+    match write_tree(saved.tree.tree(), saved.moment, saved.sequence, device) {
         Ok(()) => Ok(()),
         Err(_) => Err(refused(Step::Write, device.take_error())),
     }
 }
 
-/// Writes the image of a hive to a new file, and has the system keep it.
-fn fill<F: Write + OpenFile + Drop>(file: F, saved: Saved<'_>) -> Result<(), Fault> {
+/// Writes an image to a new file, and has the system keep it.
+fn fill<F: Write + OpenFile + Drop>(file: F, saved: &Saved<'_>) -> Result<(), Fault> {
     let mut device = Device::new(file);
     write_image(&mut device, saved)?;
     taken(Step::Sync, device.inner().sync_all())
@@ -130,7 +124,7 @@ fn fill_like<H: Files>(
     name: &str,
     file: H::File,
     standing: &Metadata,
-    saved: Saved<'_>,
+    saved: &Saved<'_>,
 ) -> Result<(), Fault> {
     permit(host, name, &file, standing)?;
     fill(file, saved)
@@ -143,7 +137,7 @@ pub fn replace<H: Files>(
     alloc: Global,
     host: &H,
     path: &str,
-    saved: Saved<'_>,
+    saved: &Saved<'_>,
 ) -> Result<(), Fault> {
     let standing = taken(Step::Permit, fs::metadata(host, path))?;
     let (file, name) = create_beside(alloc, host, path)?;
@@ -157,7 +151,7 @@ pub fn replace<H: Files>(
 }
 
 /// Makes a file with a hive, anew: never over one that is there. After a fault there is none, but for `SyncFolder`.
-pub fn create<H: Files>(host: &H, path: &str, saved: Saved<'_>) -> Result<(), Fault> {
+pub fn create<H: Files>(host: &H, path: &str, saved: &Saved<'_>) -> Result<(), Fault> {
     let file = taken(Step::Create, File::create_new(host, path))?;
     if let Err(fault) = fill(file, saved) {
         return Err(undo(host, path, fault));
