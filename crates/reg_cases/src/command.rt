@@ -5,7 +5,7 @@ use std::alloc::{AllocError, Global};
 /// A command line.
 #[derive(Debug, Drop)]
 pub struct CommandLine {
-    /// Its words, the program's name first.
+    /// Its words, the command's name first.
     pub words: Vec<String>,
     /// The file that is its standard input.
     pub input: Option<String>,
@@ -53,7 +53,6 @@ pub fn read_line(alloc: Global, line: &str) -> Result<CommandLine, AllocError> {
         input: None,
         output: None,
     };
-    command.words.push("regtool".to_string(alloc)?)?;
     let mut role = Role::Word;
     for part in parts_of(alloc, line)? {
         match (part.as_str(), role) {

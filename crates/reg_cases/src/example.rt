@@ -83,15 +83,3 @@ pub fn example_in<'a>(alloc: Global, lines: &[&'a str]) -> Result<Option<Example
         None => Ok(None),
     }
 }
-
-/// Whether a line is as an example shows it: `..` stands for any letters.
-pub fn is_as_shown(shown: &str, line: &str) -> bool {
-    match shown.split_once("..") {
-        Some((front, back)) => {
-            line.len() >= front.len() + back.len()
-                && line.starts_with(front)
-                && line.ends_with(back)
-        }
-        None => shown == line,
-    }
-}
