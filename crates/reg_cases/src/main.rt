@@ -1,9 +1,9 @@
 //! Tests that are texts: the cases of `data/cases`, and the examples of README.md, of the manual and of the page on hive files, as they
 //! stand there.
 //!
-//! `data/` has the cases, and copies of the pages and of the files that they name; `data/cases/README.md` says how a case is written. All run on files of the
-//! system, by `file_tool` of reg_files. A line tells each that isn't as wanted, and at the end stands how many there were. No clause says what a file
-//! holds, so these functions are proved to be safe, and what they print is compared by the gate.
+//! `data/` has the cases, and copies of the pages and of the files that they name; `data/cases/README.md` says how a case is written. All
+//! run on files of the system, by `file_tool` of reg_files. A line tells each that isn't as wanted, and at the end stands how many there
+//! were. No clause says what a file holds, so these functions are proved to be safe, and what they print is compared by the gate.
 #![tactic(auto)]
 
 mod bins;

@@ -76,9 +76,12 @@ fn fault_of_step(
     fault_in(rt, &given, &outcome)
 }
 
-/// A fault with its step: the line's number and the command line.
+/// A fault with its step: the line's number, the command line, and the row if there is one.
 fn told(rt: &HostRuntime, step: &Step<'_>, row: &str, fault: &str) -> Result<String> {
     let (number, line) = (step.number, step.line);
+    if row.is_empty() {
+        return Ok(format!(in rt.alloc(); "{number}: {line}: {fault}")?);
+    }
     Ok(format!(in rt.alloc(); "{number}: {line} ({row}): {fault}")?)
 }
 
@@ -125,8 +128,8 @@ fn are_rights_asked(rt: &HostRuntime) -> Result<bool> {
     Ok(!is_opened)
 }
 
-/// Runs a case, once for each of its rows, or once where it has none: what was wrong, and how often it ran. A case that wants rights to be asked counts
-/// where they aren't, too.
+/// Runs a case, once for each of its rows, or once where it has none: what was wrong, and how often it ran. A case that wants rights to be
+/// asked counts where they aren't, too.
 pub fn run_case(rt: &HostRuntime, case: &Case<'_>) -> Result<(Vec<String>, u32)> {
     let mut faults = Vec::new(rt.alloc());
     let mut runs = 0u32;
