@@ -11,8 +11,6 @@ pub struct CommandLine {
     pub input: Option<String>,
     /// The file that takes its standard output.
     pub output: Option<String>,
-    /// The file that takes its standard error.
-    pub errors: Option<String>,
 }
 
 /// What a word is to be.
@@ -21,7 +19,6 @@ enum Role {
     Word,
     Input,
     Output,
-    Errors,
 }
 
 /// The parts of a line between blanks, without quotes; blanks between single quotes are letters, and `''` is an empty part.
@@ -49,20 +46,18 @@ fn parts_of(alloc: Global, line: &str) -> Result<Vec<String>, AllocError> {
     Ok(parts)
 }
 
-/// Takes a line apart: words, and behind `<`, `>` and `2>` files.
+/// Takes a line apart: words, and behind `<` and `>` files.
 pub fn read_line(alloc: Global, line: &str) -> Result<CommandLine, AllocError> {
     let mut command = CommandLine {
         words: Vec::new(alloc),
         input: None,
         output: None,
-        errors: None,
     };
     let mut role = Role::Word;
     for part in parts_of(alloc, line)? {
         match (part.as_str(), role) {
             ("<", _) => role = Role::Input,
             (">", _) => role = Role::Output,
-            ("2>", _) => role = Role::Errors,
             (_, Role::Word) => command.words.push(part)?,
             (_, Role::Input) => {
                 command.input = Some(part);
@@ -70,10 +65,6 @@ pub fn read_line(alloc: Global, line: &str) -> Result<CommandLine, AllocError> {
             }
             (_, Role::Output) => {
                 command.output = Some(part);
-                role = Role::Word;
-            }
-            (_, Role::Errors) => {
-                command.errors = Some(part);
                 role = Role::Word;
             }
         }

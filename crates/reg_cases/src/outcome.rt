@@ -54,16 +54,6 @@ fn tool_kept<R: Read>(rt: &HostRuntime, words: Vec<String>, input: &mut R) -> Ou
     }
 }
 
-/// What came of a command whose standard error goes to a file.
-fn without_errors(rt: &HostRuntime, outcome: Outcome, path: &str) -> Result<Outcome> {
-    fs::write(rt, path, outcome.errors.as_slice()).context(format_args!("writing {path}"))?;
-    Ok(Outcome {
-        status: outcome.status,
-        output: outcome.output,
-        errors: Vec::new(rt.alloc()),
-    })
-}
-
 /// Runs the tool by a command line, with the file that it names as standard input, or else a text.
 pub fn tool(rt: &HostRuntime, command: CommandLine, text: &str) -> Result<Outcome> {
     let alloc = rt.alloc();
@@ -79,12 +69,8 @@ pub fn tool(rt: &HostRuntime, command: CommandLine, text: &str) -> Result<Outcom
     } else {
         text.as_bytes()
     };
-    let outcome = match &command.output {
-        Some(file) => tool_into(rt, command.words, &mut input, file.as_str())?,
-        None => tool_kept(rt, command.words, &mut input),
-    };
-    match &command.errors {
-        Some(file) => without_errors(rt, outcome, file.as_str()),
-        None => Ok(outcome),
+    match &command.output {
+        Some(file) => tool_into(rt, command.words, &mut input, file.as_str()),
+        None => Ok(tool_kept(rt, command.words, &mut input)),
     }
 }
