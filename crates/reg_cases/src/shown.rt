@@ -1,7 +1,11 @@
-//! What was written, beside what a page or a case shows: `..` stands for any letters, and as a last line of its own for all that follows.
+//! What was written, beside what a page shows or a case wants. A last line of `..` stands for all that follows; elsewhere `..` stands for any
+//! letters on a page, and in a case, as a line of its own, for any line.
 
 use std::alloc::{AllocError, Global};
 use std::str::Split;
+
+/// Any line of a case; as the last one, all that follows.
+const ANY: &str = "..";
 
 /// How many letters of a line are told.
 const TOLD: usize = 200;
@@ -47,15 +51,38 @@ fn lines_of(text: &str) -> Split<'_, char> {
     text.strip_suffix('\n').unwrap_or(text).split('\n')
 }
 
-/// Whether a text is as it is shown, line by line, its last line ended.
-fn is_text_as_shown(alloc: Global, shown: &str, text: &str) -> Result<bool, AllocError> {
-    if shown == text {
+/// Whether a line is the one that a case wants: `..` is any line.
+fn is_wanted(want: &str, line: &str) -> bool {
+    want == ANY || want == line
+}
+
+/// Whether so many lines are those that a case wants.
+fn is_front_wanted(wanted: &[&str], lines: &[&str]) -> bool {
+    if lines.len() < wanted.len() {
+        return false;
+    }
+    for at in 0..wanted.len() {
+        if !is_wanted(wanted[at], lines[at]) {
+            return false;
+        }
+    }
+    true
+}
+
+/// Whether a text is the one that a case wants, line by line, its last line ended; a last line of `..` stands for all that follows.
+fn is_text_wanted(alloc: Global, wanted: &str, text: &str) -> Result<bool, AllocError> {
+    if wanted == text {
         return Ok(true);
     }
-    let is_ended = text.is_empty() || text.ends_with('\n');
-    let shown: Vec<&str> = lines_of(shown).collect(alloc)?;
+    if !text.is_empty() && !text.ends_with('\n') {
+        return Ok(false);
+    }
+    let wanted: Vec<&str> = lines_of(wanted).collect(alloc)?;
     let lines: Vec<&str> = lines_of(text).collect(alloc)?;
-    Ok(is_ended && are_as_shown(&shown, &lines))
+    match wanted.split_last() {
+        Some((last, front)) if *last == ANY => Ok(is_front_wanted(front, &lines)),
+        _ => Ok(wanted.len() == lines.len() && is_front_wanted(&wanted, &lines)),
+    }
 }
 
 /// The front of a line, of so many letters as are told, in quotes; or that there is no such line.
@@ -70,22 +97,22 @@ fn told_line(alloc: Global, line: Option<&str>) -> Result<String, AllocError> {
     format!(in alloc; "{:?}", front.as_str())
 }
 
-/// How a text differs from what is shown: the first line that isn't so, and what was wanted there. `None` where it is as shown.
+/// How a text differs from the one that is wanted: the first line that isn't so, and what was wanted there. `None` where it is as wanted.
 pub fn difference(
     alloc: Global,
     name: &str,
-    shown: &str,
+    wanted: &str,
     text: &str,
 ) -> Result<Option<String>, AllocError> {
-    if is_text_as_shown(alloc, shown, text)? {
+    if is_text_wanted(alloc, wanted, text)? {
         return Ok(None);
     }
-    let mut wanted = lines_of(shown);
-    let mut came = lines_of(text);
-    for number in 1..=text.len().saturating_add(shown.len()).saturating_add(1) {
-        let (want, line) = (wanted.next(), came.next());
+    let mut wants = lines_of(wanted);
+    let mut lines = lines_of(text);
+    for number in 1..=text.len().saturating_add(wanted.len()).saturating_add(1) {
+        let (want, line) = (wants.next(), lines.next());
         let is_same = match (want, line) {
-            (Some(want), Some(line)) => is_as_shown(want, line),
+            (Some(want), Some(line)) => is_wanted(want, line),
             _ => false,
         };
         if !is_same {
