@@ -74,7 +74,7 @@ fn is_text_wanted(alloc: Global, wanted: &str, text: &str) -> Result<bool, Alloc
     if wanted == text {
         return Ok(true);
     }
-    if !text.is_empty() && !text.ends_with('\n') {
+    if wanted.is_empty() || !text.ends_with('\n') {
         return Ok(false);
     }
     let wanted: Vec<&str> = lines_of(wanted).collect(alloc)?;
