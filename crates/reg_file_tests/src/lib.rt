@@ -1,27 +1,16 @@
-//! Tests of the tool's commands on files of the system, in a folder of their own. There is nothing here but tests, and so no contract.
+//! Tests of the tool's commands on files of the system that no text can say: outputs that fail, a host that refuses a step, and an edit
+//! call by call. There is nothing here but tests, and so no contract. Tests that are texts are cases of reg_cases.
 //!
-//! The wanted texts and bytes come from the manual and from the format's tables.
+//! The wanted texts come from the manual and from the system's own words.
 #![tactic(auto)]
 
 #[cfg(test)]
-mod commands;
-#[cfg(test)]
-mod edits;
-#[cfg(test)]
-mod failures;
-#[cfg(test)]
-mod listings;
-#[cfg(test)]
 mod outputs;
 #[cfg(test)]
-mod replacing;
-#[cfg(test)]
-mod searches;
+mod refusals;
 #[cfg(test)]
 mod sizes;
 #[cfg(test)]
 mod support;
-#[cfg(test)]
-mod texts;
 #[cfg(test)]
 mod turns;

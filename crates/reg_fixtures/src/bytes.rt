@@ -1,4 +1,4 @@
-//! Bytes of an image changed, told and compared.
+//! Bytes of an image changed and told.
 ghost use Rattle.std.specs.Prelude.{◌≡◌, ◌+◌, ◌≤◌, ◌↔◌, length, take, drop, string_bytes, IsOk, OnOk, OnErr, IfOk};
 ghost use Rattle.hex.specs.Hex.{encode_lower};
 ghost use Rattle.byteorder.specs.Endian.{little_bytes};
@@ -8,7 +8,7 @@ ghost use Rattle.reg_tree_image.specs.BaseBlock.{checksum_of};
 use crate::FixtureFault;
 use hex::FromHexError;
 use reg_tree_image::checksum;
-use std::alloc::{AllocError, Global};
+use std::alloc::Global;
 
 /// Where the checksum of a base block stands.
 const CHECKSUM: usize = 508;
@@ -102,13 +102,4 @@ pub fn put_changes(alloc: Global, image: &mut [u8], changes: &str) -> Result<(),
         put_line(alloc, image, change)?;
     }
     seal(image)
-}
-
-/// How long two runs of bytes are, and the first place at which they differ, if one has it.
-pub fn difference(alloc: Global, one: &[u8], other: &[u8]) -> Result<String, AllocError> {
-    let mut text = format!(in alloc; "{} {}", one.len(), other.len())?;
-    if let Some(at) = one.iter().zip(other.iter()).position(|(a, b)| a != b) {
-        write!(text, " differ at {at}")?;
-    }
-    Ok(text)
 }

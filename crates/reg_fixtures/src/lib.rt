@@ -13,15 +13,13 @@ mod bytes;
 mod drafts;
 mod fakes;
 mod fault;
-mod lies;
-mod many_keys;
+mod paths;
 mod registry;
 
 pub use crate::bins::{SubkeyLists, allocated, is_among, sizes_but, subkeys};
-pub use crate::bytes::{difference, digits, put, put_changes, put_line, put_table, seal, sum_of};
+pub use crate::bytes::{digits, put, put_changes, put_line, put_table, seal, sum_of};
 pub use crate::drafts::drafted;
 pub use crate::fakes::{Failure, FakeReader, FakeWriter, narrow, wide};
 pub use crate::fault::FixtureFault;
-pub use crate::lies::LIES;
-pub use crate::many_keys::{deep, script_of_keys, table_of_keys};
+pub use crate::paths::deep;
 pub use crate::registry::{PlainHive, Registry};

@@ -1,7 +1,7 @@
-//! Tests of whole hives, by their public calls. There is nothing here but tests, and so no contract.
+//! Tests of whole hives, by their public calls, that no text can say: callbacks, keys at random, and what only a caller of the library sees.
+//! There is nothing here but tests, and so no contract. Tests that are texts are cases of reg_cases.
 //!
-//! The wanted bytes come from the format's tables, and the wanted replies from the rules of the calls. What the tests share is in
-//! `support`: its main types are `Action`, what is done to a hive, and `Question`, what is asked of it.
+//! The wanted replies come from the rules of the calls. What the tests share is in `support`: `Action` is what is done to a hive.
 #![tactic(auto)]
 
 #[cfg(test)]
@@ -11,14 +11,8 @@ mod hives;
 #[cfg(test)]
 mod limits;
 #[cfg(test)]
-mod many_keys;
-#[cfg(test)]
 mod questions;
 #[cfg(test)]
 mod random_keys;
 #[cfg(test)]
-mod securities;
-#[cfg(test)]
 mod support;
-#[cfg(test)]
-mod values;

@@ -1,5 +1,5 @@
-//! What is refused, and that a refusal leaves the hive as it was.
-use crate::support::{ALL, Action, Question, do_all, new_hive, set, status_and_report};
+//! What only a caller of the library sees: a hive of another descriptor, handles of another hive, hives that are not made, a run.
+use crate::support::{ALL, Action, cells, do_all, new_hive, set};
 use reg_calls::NewFault;
 use reg_fixtures::{PlainHive, Registry};
 use reg_model::{Call, Change, Step};
@@ -7,31 +7,25 @@ use reg_test_support::{assert_report, assert_same};
 use std::alloc::Global;
 use std::test::Fail;
 
-/// The status of a first set by a handle with these rights, and what the hive tells then.
-fn after_a_set(
-    alloc: Global,
-    descriptor: usize,
-    mask: u32,
-    question: Question<'_>,
-) -> Result<String, Fail> {
-    let actions = [Action::Open(mask), Action::Set(b"", &[1])];
-    status_and_report(alloc, descriptor, &actions, question)
+/// The status of a first set, and the cells then.
+fn first_set_in<H: Registry>(alloc: Global, hive: &mut H) -> Result<String, Fail> {
+    let status = do_all(alloc, hive, &[Action::Open, Action::Set(b"", &[1])])?;
+    let told = cells(alloc, hive)?;
+    Ok(format!(in alloc; "{status}; {}", told.as_str())?)
+}
+
+/// What `first_set_in` tells of a new hive whose root has a descriptor of so many bytes.
+fn first_set(alloc: Global, descriptor: usize) -> Result<String, Fail> {
+    let mut hive: PlainHive = new_hive(alloc, descriptor)?;
+    first_set_in(alloc, &mut hive)
 }
 
 #[test]
 fn second_bin(rt: HostRuntime) -> Result<(), Fail> {
     // the first bin has no room for the value
     assert_report(
-        after_a_set(rt.alloc(), 3952, ALL, Question::Cells),
+        first_set(rt.alloc(), 3952),
         "0; 32 88* 120 3976* 4128 24* 4152 8* 4160 4032 ",
-    )
-}
-
-#[test]
-fn missing_right(rt: HostRuntime) -> Result<(), Fail> {
-    assert_report(
-        after_a_set(rt.alloc(), 20, 1, Question::Value(b"", None)),
-        "5; 1: 2",
     )
 }
 
@@ -43,7 +37,7 @@ fn set_in_a_new_hive(alloc: Global) -> Result<u32, Fail> {
 
 /// That status where this hive has opened a handle of the same number.
 fn set_beside<H: Registry>(alloc: Global, hive: &mut H) -> Result<u32, Fail> {
-    let actions = [Action::Open(ALL), Action::Set(b"", &[1])];
+    let actions = [Action::Open, Action::Set(b"", &[1])];
     let _status = do_all(alloc, hive, &actions)?;
     set_in_a_new_hive(alloc)
 }

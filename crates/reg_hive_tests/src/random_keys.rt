@@ -1,8 +1,8 @@
 //! Keys below one key made and deleted at random, beside a plain map of their names. After each batch the hive tells the map's names in
 //! the map's order, and the lists that stand in its bins have them.
-use crate::many_keys::{delete, make_closed, name_at};
 use crate::support::{ALL, Action, do_all, new_hive};
 use reg_fixtures::{PlainHive, Registry, SubkeyLists, allocated, subkeys};
+use reg_model::{AnswerBody, Bytes, Change, Query};
 use reg_test_support::assert_report;
 use reg_workload::Chance;
 use std::alloc::Global;
@@ -23,6 +23,52 @@ const KEY_NODE: u32 = 168;
 
 /// How many cells there are beside those of its subkeys: two keys, their security, and the root's list.
 const FIRST_CELLS: usize = 4;
+
+/// Makes a key below that of a handle, closes the handle that this opens, and tells the status and the disposition.
+fn make_closed<H: Registry>(
+    alloc: Global,
+    hive: &mut H,
+    above: u64,
+    path: &[u8],
+) -> Result<(u32, Option<u32>), Fail> {
+    let change = Change::CreateKey {
+        handle: above,
+        path: Bytes::from_slice(alloc, path)?,
+        mask: ALL,
+        descriptor: None,
+    };
+    let reply = hive.apply(0, 256, change);
+    if let Some(handle) = reply.handle {
+        let _closed = hive.apply(0, 256, Change::Close { handle });
+    }
+    Ok((reply.status, reply.disposition))
+}
+
+/// Deletes a key without subkeys below that of a handle, and tells the status.
+fn delete<H: Registry>(alloc: Global, hive: &mut H, above: u64, path: &[u8]) -> Result<u32, Fail> {
+    let change = Change::DeleteKey {
+        handle: above,
+        path: Bytes::from_slice(alloc, path)?,
+    };
+    Ok(hive.apply(0, 512, change).status)
+}
+
+/// The name of a handle's subkey at an index, or the status where there is none.
+fn name_at<H: Registry>(alloc: Global, hive: &H, above: u64, index: u32) -> Result<String, Fail> {
+    let query = Query::EnumKey {
+        handle: above,
+        index,
+        room: 255,
+    };
+    match &hive.read(0, &query).body {
+        AnswerBody::Key { name, .. } => {
+            let name = String::from_utf8_lossy(alloc, name.as_slice())?;
+            Ok(name.as_str().to_string(alloc)?)
+        }
+        AnswerBody::Refused { status } => Ok(format!(in alloc; "{status}")?),
+        _ => Err("no answer to this question".into()),
+    }
+}
 
 /// A hive with a key, and the names of the keys that are below that, as they were given, by the same in capital letters.
 #[derive(Drop)]
@@ -51,7 +97,7 @@ impl<H: Registry> RandomKeys<H> {
             names: BTreeMap::new(alloc),
             chance: Chance::new(1),
         };
-        let actions = [Action::Open(ALL), Action::Create(b"Keys", None)];
+        let actions = [Action::Open, Action::Create(b"Keys")];
         let _status = do_all(alloc, &mut keys.hive, &actions)?;
         Ok(keys)
     }

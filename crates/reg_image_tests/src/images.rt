@@ -1,58 +1,10 @@
-//! Images as they are made and written. The wanted bytes come from the format's tables.
+//! Checksums, and images as they are written, by writers that take little at a time or fail.
 use crate::support::{Imaged, fresh_hive, image_of};
-use reg_fixtures::{Failure, FakeWriter, difference, digits, narrow, put_table, sum_of, wide};
+use reg_fixtures::{Failure, FakeWriter, narrow, put_table, sum_of, wide};
 use reg_test_support::assert_report;
 use reg_tree_image::{WriteFault, write_image};
 use std::alloc::Global;
 use std::test::Fail;
-
-/// The image of a fresh hive, where it isn't 0: the base block; its checksum; the bin's header; the root's key node with its name; its
-/// security with the descriptor; the free cell.
-const FRESH: &str = "\
-0 726567660100000001000000000000000000000001000000050000000000000001000000200000000010000001000000
-508 56756766
-4096 6862696e0000000000100000
-4128 a8ffffff6e6b2c00000000000000000000000000ffffffff
-4152 0000000000000000ffffffffffffffff00000000ffffffff78000000ffffffff
-4204 04000000524f4f54
-4216 d0ffffff736b000078000000780000000100000014000000
-4240 0100048000000000000000000000000000000000
-4264 580f0000ffffffff";
-
-/// How the image of a fresh hive differs from those bytes.
-fn fresh(alloc: Global) -> Result<String, Fail> {
-    let mut wanted = vec![in alloc; 0; 8192]?;
-    put_table(alloc, &mut wanted, FRESH)?;
-    let bytes = image_of(alloc, "")?;
-    Ok(difference(alloc, &bytes, &wanted)?)
-}
-
-#[test]
-fn images_of_fresh_hives(rt: HostRuntime) -> Result<(), Fail> {
-    assert_report(fresh(rt.alloc()), "8192 8192")
-}
-
-/// The image of a fresh hive with a moment and a sequence number.
-fn fresh_with(alloc: Global, moment: u64, sequence: u32) -> Result<Vec<u8>, Fail> {
-    let hive = fresh_hive(alloc)?;
-    hive.imaged(alloc, moment, sequence)
-}
-
-/// Its first bytes and its checksum.
-fn block_with(alloc: Global, moment: u64, sequence: u32) -> Result<String, Fail> {
-    let bytes = fresh_with(alloc, moment, sequence)?;
-    let first = digits(alloc, &bytes, 0, 20)?;
-    let sum = digits(alloc, &bytes, 508, 4)?;
-    Ok(format!(in alloc; "{} {}", first.as_str(), sum.as_str())?)
-}
-
-#[test]
-fn moments_and_sequence_numbers(rt: HostRuntime) -> Result<(), Fail> {
-    assert_report(
-        block_with(rt.alloc(), 0x0102_0304_0506_0708, 0x1122_3344),
-        "7265676644332211443322110807060504030201 5a716362",
-    )
-}
 
 /// The checksum of 4,096 bytes that are 0 but where a table says otherwise.
 fn sum_with(alloc: Global, table: &str) -> Result<String, Fail> {

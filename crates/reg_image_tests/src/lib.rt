@@ -1,7 +1,8 @@
-//! Tests of images: as they are made and written, as they are loaded, and as they are told as text. There is nothing here but tests, and
-//! so no contract.
+//! Tests of images that no text can say: by readers and writers that give and take little at a time or fail, of trees that are built, and
+//! of images that are too large for a file. There is nothing here but tests, and so no contract. Images that are made, changed and told are
+//! cases of reg_cases.
 //!
-//! The wanted bytes, faults and lines come from the format's tables. Images of other programs are written out by reg_fixtures.
+//! The wanted bytes, faults and lines come from the format's tables.
 #![tactic(auto)]
 
 #[cfg(test)]
@@ -10,8 +11,6 @@ mod built_trees;
 mod crowded;
 #[cfg(test)]
 mod dumps;
-#[cfg(test)]
-mod foreign;
 #[cfg(test)]
 mod images;
 #[cfg(test)]

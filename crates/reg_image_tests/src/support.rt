@@ -84,30 +84,6 @@ pub fn loaded_bytes(alloc: Global, bytes: &[u8]) -> Result<String, Fail> {
     loaded(alloc, &mut input)
 }
 
-/// The replies of a script on what an image loads to.
-pub fn replies(alloc: Global, bytes: &[u8], script: &str) -> Result<String, Fail> {
-    let mut input = bytes;
-    let mut hive: PlainHive = load(alloc, &mut input)?;
-    hive.ran(alloc, script)
-}
-
-/// The dump of a hive, and whether its own image loads to the same.
-fn dumped_twice<H: Imaged>(alloc: Global, hive: &H) -> Result<String, Fail> {
-    let mut text = dumped(alloc, hive)?;
-    let bytes = hive.imaged(alloc, 0, 1)?;
-    let again = loaded_bytes(alloc, &bytes)?;
-    let is_same = again.as_str() == text.as_str();
-    text.push_str(if is_same { "same" } else { "other" })?;
-    Ok(text)
-}
-
-/// The dump of what an image loads to, and whether the new hive's own image loads to the same.
-pub fn loaded_twice(alloc: Global, bytes: &[u8]) -> Result<String, Fail> {
-    let mut input = bytes;
-    let hive: PlainHive = load(alloc, &mut input)?;
-    dumped_twice(alloc, &hive)
-}
-
 /// The sizes of a hive's allocated cells, added up.
 fn bytes_of_cells<H: Imaged>(alloc: Global, hive: &H) -> Result<u32, Fail> {
     let mut cells: u32 = 0;

@@ -1,10 +1,7 @@
 //! Actions in a folder, and what they report.
-use crate::folders::{
-    block_text, bytes_of, is_link, link, mode_text, names_in, new_folder, permit, put,
-};
+use crate::folders::{block_text, bytes_of, mode_text, names_in, new_folder, permit};
 use std::alloc::Global;
 use std::fs;
-use std::fs::File;
 use std::io::Write;
 use std::test::Fail;
 
@@ -28,20 +25,12 @@ pub enum Action<'a> {
     Run(&'a str),
     /// A command line with a script.
     Edit(&'a str, &'a str),
-    /// A command line with a script, whose standard output is a full device.
-    Full(&'a str, &'a str),
-    /// A file with this text.
-    Put(&'a str, &'a str),
-    /// A link of a name to another one.
-    Link(&'a str, &'a str),
     /// A file's bytes are kept in mind.
     Keep(&'a str),
     /// Whether a file's bytes are those that were kept.
     Same(&'a str),
     /// Two sequence numbers and the moment of a file's base block.
     Block(&'a str),
-    /// Whether a name is a link.
-    IsLink(&'a str),
     /// A file's permissions are set.
     Permit(&'a str, u32),
     /// A file's permissions.
@@ -59,22 +48,6 @@ fn words_of(alloc: Global, folder: &str, line: &str) -> Result<Vec<String>, Fail
     Ok(words)
 }
 
-/// The status and the errors of a command line with a script; what it writes goes to a writer.
-fn status_of_line<T: Tool, W: Write>(
-    alloc: Global,
-    tool: &T,
-    folder: &str,
-    line: &str,
-    script: &str,
-    output: &mut W,
-) -> Result<String, Fail> {
-    let words = words_of(alloc, folder, line)?;
-    let mut errors = Vec::new(alloc);
-    let status = tool.run(alloc, words, script, output, &mut errors);
-    let errors = String::from_utf8(errors)?;
-    Ok(format!(in alloc; "{status};{};", errors.as_str())?)
-}
-
 /// The status, the errors and the output of a command line with a script, with the folder's path as `@`.
 fn report_of_line<T: Tool>(
     alloc: Global,
@@ -83,23 +56,13 @@ fn report_of_line<T: Tool>(
     line: &str,
     script: &str,
 ) -> Result<String, Fail> {
-    let mut output = Vec::new(alloc);
-    let mut text = status_of_line(alloc, tool, folder, line, script, &mut output)?;
+    let words = words_of(alloc, folder, line)?;
+    let (mut output, mut errors) = (Vec::new(alloc), Vec::new(alloc));
+    let status = tool.run(alloc, words, script, &mut output, &mut errors);
+    let errors = String::from_utf8(errors)?;
+    let mut text = format!(in alloc; "{status};{};", errors.as_str())?;
     text.push_str(str::from_utf8(&output)?)?;
     Ok(text.replace(alloc, folder, "@")?)
-}
-
-/// The status and the errors of a command line with a script whose standard output is a full device.
-fn report_of_line_when_full<T: Tool>(
-    rt: &HostRuntime,
-    tool: &T,
-    folder: &str,
-    line: &str,
-    script: &str,
-) -> Result<String, Fail> {
-    let mut device = File::options().write(true).open(rt, "/dev/full")?;
-    let text = status_of_line(rt.alloc(), tool, folder, line, script, &mut device)?;
-    Ok(text.replace(rt.alloc(), folder, "@")?)
 }
 
 /// What an action reports; nothing, where it only does something.
@@ -114,11 +77,6 @@ fn report_of_action<T: Tool>(
     match action {
         Action::Run(line) => return report_of_line(alloc, tool, folder, line, ""),
         Action::Edit(line, script) => return report_of_line(alloc, tool, folder, line, script),
-        Action::Full(line, script) => return report_of_line_when_full(
-            rt, tool, folder, line, script,
-        ),
-        Action::Put(name, text) => put(rt, folder, name, text.as_bytes())?,
-        Action::Link(name, to) => link(rt, folder, name, to)?,
         Action::Keep(name) => *kept = bytes_of(rt, folder, name)?,
         Action::Same(name) => {
             let bytes = bytes_of(rt, folder, name)?;
@@ -126,10 +84,6 @@ fn report_of_action<T: Tool>(
             return Ok(format!(in alloc; "same {is_same}")?);
         }
         Action::Block(name) => return block_text(rt, folder, name),
-        Action::IsLink(name) => {
-            let is = is_link(rt, folder, name)?;
-            return Ok(format!(in alloc; "link {is}")?);
-        }
         Action::Permit(name, mode) => permit(rt, folder, name, mode)?,
         Action::Mode(name) => return mode_text(rt, folder, name),
         Action::Names => return names_in(rt, folder),

@@ -1,7 +1,7 @@
 //! A folder of a test's own, and what is done with the files in it.
 use std::fs;
 use std::fs::{File, Permissions};
-use std::os::unix::fs::{PermissionsExt, symlink};
+use std::os::unix::fs::PermissionsExt;
 use std::test::Fail;
 
 /// A new folder, empty.
@@ -22,7 +22,7 @@ pub fn bytes_of(rt: &HostRuntime, folder: &str, name: &str) -> Result<Vec<u8>, F
 }
 
 /// Puts bytes into a file in a folder.
-pub fn put(rt: &HostRuntime, folder: &str, name: &str, bytes: &[u8]) -> Result<(), Fail> {
+fn put(rt: &HostRuntime, folder: &str, name: &str, bytes: &[u8]) -> Result<(), Fail> {
     let path = format!(in rt.alloc(); "{folder}/{name}")?;
     fs::write(rt, path.as_str(), bytes)?;
     Ok(())
@@ -51,25 +51,12 @@ fn numbers_in(bytes: &[u8]) -> Option<(u32, u32, u64)> {
 }
 
 /// The numbers of a file's base block.
-pub fn block_of(rt: &HostRuntime, folder: &str, name: &str) -> Result<(u32, u32, u64), Fail> {
+fn block_of(rt: &HostRuntime, folder: &str, name: &str) -> Result<(u32, u32, u64), Fail> {
     let bytes = bytes_of(rt, folder, name)?;
     match numbers_in(bytes.as_slice()) {
         Some(numbers) => Ok(numbers),
         None => Err("the file is too short".into()),
     }
-}
-
-/// Makes a link of a name to another one.
-pub fn link(rt: &HostRuntime, folder: &str, name: &str, to: &str) -> Result<(), Fail> {
-    let path = format!(in rt.alloc(); "{folder}/{name}")?;
-    symlink(rt, to, path.as_str())?;
-    Ok(())
-}
-
-/// Whether a name is a link.
-pub fn is_link(rt: &HostRuntime, folder: &str, name: &str) -> Result<bool, Fail> {
-    let path = format!(in rt.alloc(); "{folder}/{name}")?;
-    Ok(fs::symlink_metadata(rt, path.as_str())?.is_symlink())
 }
 
 /// Sets a file's permissions.

@@ -13,4 +13,4 @@ mod folders;
 
 pub use crate::actions::{Action, Tool, report, report_in};
 pub use crate::asserts::{assert_report, assert_same};
-pub use crate::folders::{block_of, is_root, new_folder};
+pub use crate::folders::{is_root, new_folder};

@@ -1,7 +1,7 @@
 //! Many subkeys of one key, in lists under an index root: which lists there are, and what each change makes of them. The lists are
 //! read off the bins, and the wanted ones follow from the rule that a list of 501 gives way to its first 250 and its last 251.
 use crate::keys::{at, make_below, tell_names, tree, unmake};
-use reg_fixtures::{SubkeyLists, allocated, sizes_but, subkeys};
+use reg_fixtures::{SubkeyLists, allocated, subkeys};
 use reg_test_support::assert_report;
 use reg_tree::Tree;
 use std::alloc::Global;
@@ -186,39 +186,6 @@ fn an_empty_list_goes_from_the_middle(rt: HostRuntime) -> Result<(), Fail> {
     push_names(alloc, 0, 250, &mut wanted)?;
     push_names(alloc, 500, 751, &mut wanted)?;
     assert_report(without_the_middle(alloc), wanted.as_str())
-}
-
-/// The sizes of the allocated cells but of the keys, whose names have four characters, after some keys were made and the first deleted.
-fn sizes_in(alloc: Global, tree: &mut Tree, made: u32, deleted: u32) -> Result<String, Fail> {
-    grow(alloc, tree, 0, made)?;
-    shrink(alloc, tree, 0, deleted)?;
-    let sizes = sizes_but(alloc, tree.arena(), 88)?;
-    Ok(format!(in alloc; "{sizes:?}")?)
-}
-
-/// What `sizes_in` tells of a new tree.
-fn sizes(alloc: Global, made: u32, deleted: u32) -> Result<String, Fail> {
-    let mut tree = tree(alloc)?;
-    sizes_in(alloc, &mut tree, made, deleted)
-}
-
-// the security has 28 bytes with its size field, a list 8 and 8 a key, and an index root 8 and 4 a list, rounded up to eights
-#[test]
-fn lists_have_cells_of_their_sizes(rt: HostRuntime) -> Result<(), Fail> {
-    let alloc = rt.alloc();
-    for (made, deleted, wanted) in [
-        (1, 0, "[16, 32]"),
-        (20, 10, "[32, 168]"),
-        (500, 0, "[32, 4008]"),
-        (501, 0, "[16, 32, 2008, 2016]"),
-        (751, 0, "[24, 32, 2008, 2008, 2016]"),
-        (751, 250, "[24, 32, 2008, 2016]"),
-        (751, 500, "[32, 2016]"),
-        (751, 751, "[32]"),
-    ] {
-        assert_report(sizes(alloc, made, deleted), wanted)?;
-    }
-    Ok(())
 }
 
 /// A name that comes before the name of a number and behind that of the number before.

@@ -1,0 +1,59 @@
+//! The examples of README.md, of the manual and of the page on hive files, run one after another as they stand there.
+//!
+//! What an example prints and its exit status are compared. A line is printed for each that isn't as shown.
+
+use crate::command::read_line;
+use crate::example::{Example, example_in};
+use crate::outcome::{Outcome, tool};
+use crate::shown::are_as_shown;
+use anyhow::{Context, Result};
+use std::fs;
+
+/// Whether an example is as its page shows it: its status, and what it printed.
+fn is_example_as_shown(example: &Example<'_>, status: u8, lines: &[&str]) -> bool {
+    status == example.status
+        && match &example.printed {
+            Some(shown) => are_as_shown(shown, lines),
+            None => true,
+        }
+}
+
+/// What an example's command gives.
+fn outcome_of(rt: &HostRuntime, example: &Example<'_>) -> Result<Outcome> {
+    let alloc = rt.alloc();
+    let line = format!(in alloc; "regtool {}", example.line)?;
+    tool(rt, read_line(alloc, line.as_str())?, "")
+}
+
+/// Runs an example, and answers what is wrong with it.
+fn fault_of(rt: &HostRuntime, example: &Example<'_>) -> Result<Option<String>> {
+    let alloc = rt.alloc();
+    let outcome = outcome_of(rt, example)?;
+    let mut printed = outcome.output;
+    printed.extend_from_slice(&outcome.errors)?;
+    let text = String::from_utf8_lossy(alloc, &printed)?;
+    let lines: Vec<&str> = text.as_str().lines().collect(alloc)?;
+    if is_example_as_shown(example, outcome.status, &lines) {
+        return Ok(None);
+    }
+    Ok(Some(format!(in alloc; "{}: {}", outcome.status, text.as_str())?))
+}
+
+/// Runs the examples of a page, tells those that aren't as shown, and answers how many there were, and how many of these.
+pub fn run_page(rt: &HostRuntime, page: &str) -> Result<(u32, u32)> {
+    let alloc = rt.alloc();
+    let text = fs::read_to_string(rt, page).context(format_args!("reading {page}"))?;
+    let lines: Vec<&str> = text.as_str().lines().collect(alloc)?;
+    let (mut examples, mut wrong) = (0u32, 0u32);
+    for at in 0..lines.len() {
+        let Some(example) = example_in(alloc, &lines[at..])? else {
+            continue;
+        };
+        examples = examples.saturating_add(1);
+        if let Some(fault) = fault_of(rt, &example)? {
+            println!(rt; "{page}: {}: {}", example.line, fault.as_str())?;
+            wrong = wrong.saturating_add(1);
+        }
+    }
+    Ok((examples, wrong))
+}

@@ -1,0 +1,153 @@
+//! The steps of a case, run one after another in a folder of their own.
+
+use crate::cases::{Case, Step};
+use crate::command::read_line;
+use crate::given::{Given, given_by};
+use crate::outcome::{Outcome, tool};
+use crate::repeats::{filled, written_out};
+use crate::shown::difference;
+use crate::verbs::perform;
+use anyhow::Result;
+use std::fs::{File, Permissions};
+use std::os::unix::fs::PermissionsExt;
+use std::{env, fs};
+
+/// The folder of the case that runs.
+const FOLDER: &str = "case";
+
+/// What stands between the parts of a row.
+const BETWEEN: &str = " | ";
+
+/// What a command line gives.
+fn outcome_of(
+    rt: &HostRuntime,
+    line: &str,
+    given: &Given,
+    held: &mut Vec<File>,
+) -> Result<Outcome> {
+    let alloc = rt.alloc();
+    let command = read_line(alloc, line)?;
+    if command
+        .words
+        .first()
+        .is_some_and(|word| word.as_str() == "regtool")
+    {
+        return tool(rt, command, given.input.as_str());
+    }
+    let text = perform(rt, &command.words, given, held)?;
+    Ok(Outcome {
+        status: 0,
+        output: text.into_bytes(),
+        errors: Vec::new(alloc),
+    })
+}
+
+/// How what came differs from what was wanted; `None` where it doesn't.
+fn fault_in(rt: &HostRuntime, given: &Given, outcome: &Outcome) -> Result<Option<String>> {
+    let alloc = rt.alloc();
+    let output = String::from_utf8_lossy(alloc, &outcome.output)?;
+    let errors = String::from_utf8_lossy(alloc, &outcome.errors)?;
+    let wanted = given.errors.as_str();
+    if let Some(fault) = difference(alloc, "standard error", wanted, errors.as_str())? {
+        return Ok(Some(fault));
+    }
+    let wanted = given.output.as_str();
+    if let Some(fault) = difference(alloc, "standard output", wanted, output.as_str())? {
+        return Ok(Some(fault));
+    }
+    if outcome.status == given.status {
+        return Ok(None);
+    }
+    let (status, came) = (given.status, outcome.status);
+    Ok(Some(format!(in alloc; "wanted status {status}, came {came}")?))
+}
+
+/// What is wrong with a step; `None` where all is as wanted.
+fn fault_of_step(
+    rt: &HostRuntime,
+    step: &Step<'_>,
+    parts: &[&str],
+    held: &mut Vec<File>,
+) -> Result<Option<String>> {
+    let alloc = rt.alloc();
+    let given = given_by(alloc, &step.body, parts)?;
+    let line = written_out(alloc, filled(alloc, step.line, parts)?.as_str())?;
+    let outcome = outcome_of(rt, line.as_str(), &given, held)?;
+    fault_in(rt, &given, &outcome)
+}
+
+/// A fault with its step: the line's number, the command line, and the row if there is one.
+fn told(rt: &HostRuntime, step: &Step<'_>, row: &str, fault: &str) -> Result<String> {
+    let (number, line) = (step.number, step.line);
+    if row.is_empty() {
+        return Ok(format!(in rt.alloc(); "{number}: {line}: {fault}")?);
+    }
+    Ok(format!(in rt.alloc(); "{number}: {line} ({row}): {fault}")?)
+}
+
+/// Runs the steps of a case up to the first at which something is wrong, and tells that.
+fn fault_of_steps(rt: &HostRuntime, case: &Case<'_>, row: &str) -> Result<Option<String>> {
+    let alloc = rt.alloc();
+    let mut held = Vec::new(alloc);
+    let parts: Vec<&str> = if row.is_empty() {
+        Vec::new(alloc)
+    } else {
+        row.split(BETWEEN).collect(alloc)?
+    };
+    for step in &case.steps {
+        match fault_of_step(rt, step, &parts, &mut held) {
+            Ok(None) => {}
+            Ok(Some(fault)) => return Ok(Some(told(rt, step, row, fault.as_str())?)),
+            Err(error) => {
+                let fault = format!(in alloc; "{error:#}")?;
+                return Ok(Some(told(rt, step, row, fault.as_str())?));
+            }
+        }
+    }
+    Ok(None)
+}
+
+/// Runs a case for a row in a new folder, which is taken away then, and tells what is wrong, if anything is.
+fn fault_of_row(rt: &HostRuntime, case: &Case<'_>, row: &str) -> Result<Option<String>> {
+    fs::create_dir(rt, FOLDER)?;
+    env::set_current_dir(rt, FOLDER)?;
+    let fault = fault_of_steps(rt, case, row);
+    env::set_current_dir(rt, "..")?;
+    fs::set_permissions(rt, FOLDER, Permissions::from_mode(0o755))?;
+    fs::remove_dir_all(rt, FOLDER)?;
+    fault
+}
+
+/// Whether a file without rights can't be read, as by root, of whom the system asks for none.
+fn are_rights_asked(rt: &HostRuntime) -> Result<bool> {
+    let path = "rights";
+    fs::write(rt, path, b"")?;
+    fs::set_permissions(rt, path, Permissions::from_mode(0))?;
+    let is_opened = File::open(rt, path).is_ok();
+    fs::remove_file(rt, path)?;
+    Ok(!is_opened)
+}
+
+/// Runs a case, once for each of its rows, or once where it has none: what was wrong, and how often it ran. A case that wants rights to be
+/// asked counts where they aren't, too.
+pub fn run_case(rt: &HostRuntime, case: &Case<'_>) -> Result<(Vec<String>, u32)> {
+    let mut faults = Vec::new(rt.alloc());
+    let mut runs = 0u32;
+    let is_run = !case.wants_rights || are_rights_asked(rt)?;
+    let once = [""];
+    let rows: &[&str] = if case.rows.is_empty() {
+        &once
+    } else {
+        &case.rows
+    };
+    for row in rows {
+        runs = runs.saturating_add(1);
+        if !is_run {
+            continue;
+        }
+        if let Some(fault) = fault_of_row(rt, case, row)? {
+            faults.push(fault)?;
+        }
+    }
+    Ok((faults, runs))
+}

@@ -1,0 +1,86 @@
+//! The themes: a folder of files of cases each.
+
+use crate::cases::cases_in;
+use crate::steps::run_case;
+use anyhow::{Context, Result};
+use std::fs;
+
+/// The folder of the themes.
+const THEMES: &str = "cases";
+
+/// How the name of a file of cases ends.
+const ENDING: &str = ".txt";
+
+/// How many cases there were, and how many of them weren't as wanted.
+#[derive(Clone, Copy, Debug)]
+pub struct Counts {
+    /// How many cases there were.
+    pub cases: u32,
+    /// How many weren't as wanted.
+    pub wrong: u32,
+}
+
+/// The paths of what is in a folder, in order.
+fn paths_in(rt: &HostRuntime, folder: &str) -> Result<Vec<String>> {
+    let alloc = rt.alloc();
+    let mut paths = Vec::new(alloc);
+    for entry in fs::read_dir(rt, folder).context(format_args!("reading {folder}"))? {
+        let entry = entry?;
+        let name = entry.file_name().to_string(alloc)?;
+        paths.push(format!(in alloc; "{folder}/{}", name.as_str())?)?;
+    }
+    paths.sort()?;
+    Ok(paths)
+}
+
+/// Runs the cases of a file, and tells what is wrong, a line each.
+fn run_file(rt: &HostRuntime, path: &str) -> Result<Counts> {
+    let alloc = rt.alloc();
+    let text = fs::read_to_string(rt, path).context(format_args!("reading {path}"))?;
+    let cases = cases_in(alloc, text.as_str()).context(format_args!("reading {path}"))?;
+    let mut counts = Counts { cases: 0, wrong: 0 };
+    for case in &cases {
+        let (faults, runs) = run_case(rt, case).context(format_args!(
+            "{path}, the case of line {}",
+            case.number
+        ))?;
+        counts.cases = counts.cases.saturating_add(runs);
+        for fault in &faults {
+            println!(rt; "{path}:{}", fault.as_str())?;
+            counts.wrong = counts.wrong.saturating_add(1);
+        }
+    }
+    Ok(counts)
+}
+
+/// Runs the cases of a theme.
+fn run_theme(rt: &HostRuntime, folder: &str) -> Result<Counts> {
+    let mut counts = Counts { cases: 0, wrong: 0 };
+    for path in &paths_in(rt, folder)? {
+        if path.as_str().ends_with(ENDING) {
+            let file = run_file(rt, path.as_str())?;
+            counts.cases = counts.cases.saturating_add(file.cases);
+            counts.wrong = counts.wrong.saturating_add(file.wrong);
+        }
+    }
+    Ok(counts)
+}
+
+/// Runs the cases of all themes, tells how many each has, and answers how many weren't as wanted.
+pub fn run_themes(rt: &HostRuntime) -> Result<u32> {
+    let mut wrong = 0u32;
+    for path in &paths_in(rt, THEMES)? {
+        if path.as_str().ends_with(".md") {
+            continue;
+        }
+        let counts = run_theme(rt, path.as_str())?;
+        println!(rt;
+            "{}: {} cases, {} not as wanted",
+            path.as_str(),
+            counts.cases,
+            counts.wrong
+        )?;
+        wrong = wrong.saturating_add(counts.wrong);
+    }
+    Ok(wrong)
+}

@@ -1,0 +1,296 @@
+//! What a case does beside calling the tool: files made, changed, compared and told. `data/cases/README.md` has a line for each.
+
+use crate::bins::{cells_told, lists_told, sizes_told};
+use crate::given::Given;
+use anyhow::{Context, Result, bail};
+use reg_fixtures::{drafted, put_changes, put_line};
+use std::alloc::Global;
+use std::fs;
+use std::fs::{File, Permissions};
+use std::os::unix::fs::{PermissionsExt, symlink};
+
+/// The first moment of 2020, in 100 ns units since 1601.
+const FIRST_OF_2020: u64 = 132_223_104_000_000_000;
+
+/// A moment of 2199.
+const IN_2199: u64 = 189_000_000_000_000_000;
+
+/// The bytes of a file.
+fn bytes_of(rt: &HostRuntime, path: &str) -> Result<Vec<u8>> {
+    Ok(fs::read(rt, path).context(format_args!("reading {path}"))?)
+}
+
+/// Writes a file.
+fn write(rt: &HostRuntime, path: &str, bytes: &[u8]) -> Result<()> {
+    fs::write(rt, path, bytes).context(format_args!("writing {path}"))?;
+    Ok(())
+}
+
+/// The bytes that a word stands for: behind `=` its letters, behind `x` those of its digits.
+fn bytes_in(alloc: Global, word: &str) -> Result<Vec<u8>> {
+    if let Some(text) = word.strip_prefix('=') {
+        return Ok(text.as_bytes().to_vec(alloc)?);
+    }
+    match word.strip_prefix('x') {
+        Some(digits) => Ok(hex::decode(alloc, digits)?),
+        None => bail!("{word} is neither =TEXT nor xDIGITS"),
+    }
+}
+
+/// A text in UTF-16LE behind its mark.
+fn wide(alloc: Global, text: &str) -> Result<Vec<u8>> {
+    let mut bytes = Vec::new(alloc);
+    bytes.extend_from_slice(b"\xFF\xFE")?;
+    for unit in text.encode_utf16() {
+        bytes.extend_from_slice(&unit.to_le_bytes())?;
+    }
+    Ok(bytes)
+}
+
+/// The bytes of a text in a form: as it is, with CR LF in the place of each LF, that in UTF-16LE, or in UTF-8 behind its mark.
+fn in_form(alloc: Global, text: &str, form: &str) -> Result<Vec<u8>> {
+    let ended = text.replace(alloc, '\n', "\r\n")?;
+    match form {
+        "lf" => Ok(text.as_bytes().to_vec(alloc)?),
+        "crlf" => Ok(ended.as_str().as_bytes().to_vec(alloc)?),
+        "utf16" => wide(alloc, ended.as_str()),
+        "marked" => {
+            let mut bytes = Vec::new(alloc);
+            bytes.extend_from_slice(b"\xEF\xBB\xBF")?;
+            bytes.extend_from_slice(text.as_bytes())?;
+            Ok(bytes)
+        }
+        _ => bail!("{form} is no form of a text"),
+    }
+}
+
+/// Whether words name bytes.
+fn are_bytes(words: &[String]) -> bool {
+    words
+        .first()
+        .is_some_and(|word| word.starts_with('=') || word.starts_with('x'))
+}
+
+/// Makes a file: of the bytes that words name, or of the lines that were given.
+fn put(rt: &HostRuntime, path: &str, words: &[String], given: &Given) -> Result<()> {
+    let alloc = rt.alloc();
+    if !are_bytes(words) {
+        let form = match words.first() {
+            Some(form) => form.as_str(),
+            None => "lf",
+        };
+        return write(rt, path, &in_form(alloc, given.input.as_str(), form)?);
+    }
+    let mut bytes = Vec::new(alloc);
+    for word in words {
+        bytes.extend_from_slice(&bytes_in(alloc, word.as_str())?)?;
+    }
+    write(rt, path, &bytes)
+}
+
+/// The image of a table that was given, with a minor version: 5 where none is.
+fn draft(rt: &HostRuntime, path: &str, words: &[String], given: &Given) -> Result<()> {
+    let minor = match words.first() {
+        Some(minor) => minor.as_str().parse::<u32>()?,
+        None => 5,
+    };
+    let table = given.input.as_str();
+    let image = drafted(rt.alloc(), minor, table.strip_suffix('\n').unwrap_or(table))?;
+    write(rt, path, &image)
+}
+
+/// Words with a space between each two.
+fn joined(alloc: Global, words: &[String]) -> Result<String> {
+    let mut text = String::new(alloc);
+    for word in words {
+        if !text.is_empty() {
+            text.push(' ')?;
+        }
+        text.push_str(word.as_str())?;
+    }
+    Ok(text)
+}
+
+/// Changes bytes of an image, and makes its checksum anew.
+fn patch(rt: &HostRuntime, path: &str, words: &[String]) -> Result<()> {
+    let mut bytes = bytes_of(rt, path)?;
+    let changes = joined(rt.alloc(), words)?;
+    put_changes(rt.alloc(), &mut bytes, changes.as_str())?;
+    write(rt, path, &bytes)
+}
+
+/// Changes bytes of a file.
+fn poke(rt: &HostRuntime, path: &str, words: &[String]) -> Result<()> {
+    let mut bytes = bytes_of(rt, path)?;
+    let change = joined(rt.alloc(), words)?;
+    put_line(rt.alloc(), &mut bytes, change.as_str())?;
+    write(rt, path, &bytes)
+}
+
+/// Cuts a file off behind so many bytes.
+fn cut(rt: &HostRuntime, path: &str, len: &str) -> Result<()> {
+    let bytes = bytes_of(rt, path)?;
+    match bytes.get(..len.parse::<usize>()?) {
+        Some(front) => write(rt, path, front),
+        None => bail!("{path} has {} bytes", bytes.len()),
+    }
+}
+
+/// Where two files differ first; nothing, where they are the same.
+fn compare(rt: &HostRuntime, path: &str, other: &str) -> Result<String> {
+    let alloc = rt.alloc();
+    let (one, two) = (bytes_of(rt, path)?, bytes_of(rt, other)?);
+    if one.as_slice() == two.as_slice() {
+        return Ok(String::new(alloc));
+    }
+    let at = one.iter().zip(two.iter()).position(|(a, b)| a != b);
+    let at = at.unwrap_or(one.len().min(two.len()));
+    Ok(format!(in alloc; "{path} and {other} differ at byte {at}\n")?)
+}
+
+/// The digits of a file's bytes: of all, or from an offset on so many.
+fn digits(rt: &HostRuntime, path: &str, words: &[String]) -> Result<String> {
+    let bytes = bytes_of(rt, path)?;
+    let (at, len) = match words {
+        [at, len] => (
+            at.as_str().parse::<usize>()?,
+            len.as_str().parse::<usize>()?,
+        ),
+        _ => (0, bytes.len()),
+    };
+    let text = reg_fixtures::digits(rt.alloc(), &bytes, at, len)?;
+    Ok(format!(in rt.alloc(); "{}\n", text.as_str())?)
+}
+
+/// The numbers of a base block: the sequence number twice, and the moment.
+fn numbers_in(bytes: &[u8]) -> Option<(u32, u32, u64)> {
+    let first = u32::from_le_bytes(bytes.get(4..8)?.try_into().ok()?);
+    let second = u32::from_le_bytes(bytes.get(8..12)?.try_into().ok()?);
+    let moment = u64::from_le_bytes(bytes.get(12..20)?.try_into().ok()?);
+    Some((first, second, moment))
+}
+
+/// The numbers of a file's base block.
+fn numbers_of(rt: &HostRuntime, path: &str) -> Result<(u32, u32, u64)> {
+    match numbers_in(&bytes_of(rt, path)?) {
+        Some(numbers) => Ok(numbers),
+        None => bail!("{path} is too short"),
+    }
+}
+
+/// The numbers of a file's base block in a line.
+fn block(rt: &HostRuntime, path: &str) -> Result<String> {
+    let (first, second, moment) = numbers_of(rt, path)?;
+    Ok(format!(in rt.alloc(); "sequence {first} {second} moment {moment}\n")?)
+}
+
+/// Whether the moment of a file's base block is the clock's: of 2020 or later, and before 2200.
+fn century(rt: &HostRuntime, path: &str) -> Result<String> {
+    let (_, _, moment) = numbers_of(rt, path)?;
+    let is_now = moment >= FIRST_OF_2020 && moment < IN_2199;
+    let said = if is_now {
+        "of the clock"
+    } else {
+        "not of the clock"
+    };
+    Ok(format!(in rt.alloc(); "{said}\n")?)
+}
+
+/// The names in the folder, a line each, in order.
+fn names(rt: &HostRuntime) -> Result<String> {
+    let mut names = Vec::new(rt.alloc());
+    for entry in fs::read_dir(rt, ".")? {
+        names.push(entry?.file_name().to_string(rt.alloc())?)?;
+    }
+    names.sort()?;
+    let mut text = String::new(rt.alloc());
+    for name in &names {
+        write!(text, "{}\n", name.as_str())?;
+    }
+    Ok(text)
+}
+
+/// Sets permissions, in octal digits.
+fn permit(rt: &HostRuntime, path: &str, mode: &str) -> Result<()> {
+    let mode = u32::from_str_radix(mode, 8)?;
+    fs::set_permissions(rt, path, Permissions::from_mode(mode))?;
+    Ok(())
+}
+
+/// A file's permissions, in octal digits, or that a name is a link.
+fn kind(rt: &HostRuntime, path: &str) -> Result<String> {
+    if fs::symlink_metadata(rt, path)?.is_symlink() {
+        return Ok("a link\n".to_string(rt.alloc())?);
+    }
+    let mode = fs::metadata(rt, path)?.permissions().mode() % 512;
+    Ok(format!(in rt.alloc(); "mode {mode:o}\n")?)
+}
+
+/// Takes the lock of a file, as another one that edits it does, until the case ends.
+fn lock(rt: &HostRuntime, path: &str, held: &mut Vec<File>) -> Result<()> {
+    let file = File::open(rt, path)?;
+    file.lock()?;
+    held.push(file)?;
+    Ok(())
+}
+
+/// Does what changes files; `None` where the words ask for something else.
+fn change(
+    rt: &HostRuntime,
+    words: &[String],
+    given: &Given,
+    held: &mut Vec<File>,
+) -> Result<Option<()>> {
+    let [verb, path, rest @ ..] = words else {
+        return Ok(None);
+    };
+    let path = path.as_str();
+    match (verb.as_str(), rest) {
+        ("put", _) => put(rt, path, rest, given)?,
+        ("draft", _) => draft(rt, path, rest, given)?,
+        ("patch", _) => patch(rt, path, rest)?,
+        ("poke", _) => poke(rt, path, rest)?,
+        ("cut", [len]) => cut(rt, path, len.as_str())?,
+        ("copy", [to]) => write(rt, to.as_str(), &bytes_of(rt, path)?)?,
+        ("link", [to]) => symlink(rt, to.as_str(), path)?,
+        ("permit", [mode]) => permit(rt, path, mode.as_str())?,
+        ("lock", []) => lock(rt, path, held)?,
+        _ => return Ok(None),
+    }
+    Ok(Some(()))
+}
+
+/// What is told of files.
+fn told(rt: &HostRuntime, words: &[String]) -> Result<String> {
+    let alloc = rt.alloc();
+    let (verb, path, rest) = match words {
+        [verb] => (verb.as_str(), ".", words.get(1..).unwrap_or(&[])),
+        [verb, path, rest @ ..] => (verb.as_str(), path.as_str(), rest),
+        [] => bail!("no word"),
+    };
+    match (verb, rest) {
+        ("same", [other]) => compare(rt, path, other.as_str()),
+        ("digits", _) => digits(rt, path, rest),
+        ("cells", []) => cells_told(alloc, &bytes_of(rt, path)?),
+        ("sizes", []) => sizes_told(alloc, &bytes_of(rt, path)?),
+        ("lists", []) => lists_told(alloc, &bytes_of(rt, path)?),
+        ("block", []) => block(rt, path),
+        ("moment", []) => century(rt, path),
+        ("names", []) => names(rt),
+        ("kind", []) => kind(rt, path),
+        _ => bail!("{verb} isn't understood"),
+    }
+}
+
+/// Does what words ask for that are none of the tool, and answers what is told.
+pub fn perform(
+    rt: &HostRuntime,
+    words: &[String],
+    given: &Given,
+    held: &mut Vec<File>,
+) -> Result<String> {
+    match change(rt, words, given, held)? {
+        Some(()) => Ok(String::new(rt.alloc())),
+        None => told(rt, words),
+    }
+}
