@@ -5,7 +5,7 @@
 //! [`PlainHive`]; `FixtureFault` says what was wrong with a table or a place, or that memory was wanting.
 //!
 //! `bytes` changes and compares bytes of an image, `drafts` writes one out cell by cell from a table, `bins` reads a key's lists off the
-//! bins, `many_keys` names many keys, and `lies` is a table of images that lie.
+//! bins, and `paths` makes a path of many names.
 #![tactic(auto)]
 
 mod bins;
