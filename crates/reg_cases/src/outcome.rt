@@ -57,20 +57,21 @@ fn tool_kept<R: Read>(rt: &HostRuntime, words: Vec<String>, input: &mut R) -> Ou
 /// Runs the tool by a command line, with the file that it names as standard input, or else a text.
 pub fn tool(rt: &HostRuntime, command: CommandLine, text: &str) -> Result<Outcome> {
     let alloc = rt.alloc();
-    let bytes = match &command.input {
+    let CommandLine {
+        words,
+        input,
+        output,
+    } = command;
+    let bytes = match &input {
         Some(file) => fs::read(rt, file.as_str()).context(format_args!(
             "reading {}",
             file.as_str()
         ))?,
-        None => Vec::new(alloc),
+        None => text.as_bytes().to_vec(alloc)?,
     };
-    let mut input = if command.input.is_some() {
-        bytes.as_slice()
-    } else {
-        text.as_bytes()
-    };
-    match &command.output {
-        Some(file) => tool_into(rt, command.words, &mut input, file.as_str()),
-        None => Ok(tool_kept(rt, command.words, &mut input)),
+    let mut source = bytes.as_slice();
+    match &output {
+        Some(file) => tool_into(rt, words, &mut source, file.as_str()),
+        None => Ok(tool_kept(rt, words, &mut source)),
     }
 }

@@ -128,18 +128,15 @@ fn are_rights_asked(rt: &HostRuntime) -> Result<bool> {
     Ok(!is_opened)
 }
 
-/// Runs a case, once for each of its rows, or once where it has none: what was wrong, and how often it ran. A case that wants rights to be
-/// asked counts where they aren't, too.
-pub fn run_case(rt: &HostRuntime, case: &Case<'_>) -> Result<(Vec<String>, u32)> {
+/// Runs a case once for each row, unless it isn't to be run: what was wrong, and how many rows there are.
+fn run_rows(
+    rt: &HostRuntime,
+    case: &Case<'_>,
+    rows: &[&str],
+    is_run: bool,
+) -> Result<(Vec<String>, u32)> {
     let mut faults = Vec::new(rt.alloc());
     let mut runs = 0u32;
-    let is_run = !case.wants_rights || are_rights_asked(rt)?;
-    let once = [""];
-    let rows: &[&str] = if case.rows.is_empty() {
-        &once
-    } else {
-        &case.rows
-    };
     for row in rows {
         runs = runs.saturating_add(1);
         if !is_run {
@@ -150,4 +147,14 @@ pub fn run_case(rt: &HostRuntime, case: &Case<'_>) -> Result<(Vec<String>, u32)>
         }
     }
     Ok((faults, runs))
+}
+
+/// Runs a case, once for each of its rows, or once where it has none: what was wrong, and how often it ran. A case that wants rights to be
+/// asked counts where they aren't, too.
+pub fn run_case(rt: &HostRuntime, case: &Case<'_>) -> Result<(Vec<String>, u32)> {
+    let is_run = !case.wants_rights || are_rights_asked(rt)?;
+    if case.rows.is_empty() {
+        return run_rows(rt, case, &[""], is_run);
+    }
+    run_rows(rt, case, &case.rows, is_run)
 }
