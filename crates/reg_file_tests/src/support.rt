@@ -2,6 +2,7 @@
 use reg_files::{Device, Lockable, file_tool};
 use reg_test_support::{Action, Tool};
 use std::alloc::Global;
+use std::fs;
 use std::io::Write;
 use std::rt::{Clock, Files};
 use std::test::Fail;
