@@ -75,7 +75,11 @@ def locked(crate):
     """Keeps rt out of a crate's folder, by the lock that it takes itself."""
     folder = os.open(folder_of(crate), os.O_RDONLY)
     try:
-        fcntl.flock(folder, fcntl.LOCK_EX)
+        try:
+            fcntl.flock(folder, fcntl.LOCK_EX | fcntl.LOCK_NB)
+        except BlockingIOError:
+            tell(f"waiting until another rt ends in crates/{crate}")
+            fcntl.flock(folder, fcntl.LOCK_EX)
         yield
     finally:
         os.close(folder)
@@ -176,8 +180,8 @@ def rooms_of():
 class Build:
     """The libraries that are left and those that are being built, in how many of the checks that there is room for."""
 
-    def __init__(self, program, at_once, rooms):
-        self.program, self.at_once, self.rooms = program, at_once, rooms
+    def __init__(self, program, at_once, rooms, out):
+        self.program, self.at_once, self.rooms, self.out = program, at_once, rooms, out
         every = repository.crates()
         self.uses = {it: every[it] for it in repository.below([program])}
         self.count, self.done, self.begun = len(self.uses) + 1, [], time.monotonic()
@@ -217,7 +221,7 @@ class Build:
             raise Failed(f"{crate} isn't built (rt ended with {status}). The end of {os.path.relpath(log, TOP)}:\n{end_of(log)}")
         self.done.append(crate)
         minutes = (time.monotonic() - self.begun) / 60
-        print(f"{crate}: {len(self.done)} of {self.count}, {minutes:.1f} minutes", flush=True)
+        print(f"{crate}: {len(self.done)} of {self.count}, {minutes:.1f} minutes", file=self.out, flush=True)
 
     def libraries(self):
         try:
@@ -239,7 +243,8 @@ class Build:
         try:
             status = command.wait()
         finally:
-            stop([command], folder)
+            command.terminate()
+            command.wait()
         self.note(self.program, status, log)
 
 
@@ -248,14 +253,14 @@ def end_of(log):
         return "".join(lines.readlines()[-40:]).strip()
 
 
-def build(program, at_once=None):
-    """Builds a program and all below it, a line for each crate as it is done. Raises `Failed` where one isn't proved or built."""
+def build(program, at_once=None, out=sys.stdout):
+    """Builds a program and all below it, and prints a line for each crate as it is done. Raises `Failed` where one isn't built."""
     if not shutil.which("rt"):
         raise Untried("rt isn't on the path")
     for it in (signal.SIGTERM, signal.SIGHUP):
         signal.signal(it, lambda number, _: sys.exit(128 + number))
     with rooms_of() as rooms:
-        work = Build(program, at_once or checks_at_once(), rooms)
+        work = Build(program, at_once or checks_at_once(), rooms, out)
         work.libraries()
         work.link()
 
@@ -266,7 +271,7 @@ def built(program):
     if not os.path.exists(path):
         tell(f"proving and building {program} takes up to an hour")
         try:
-            build(program)
+            build(program, out=sys.stderr)
         except Failed as why:
             raise Untried(why) from None
     return path

@@ -22,9 +22,8 @@ def parser(text):
     return argparse.ArgumentParser(description=text, formatter_class=argparse.RawDescriptionHelpFormatter)
 
 
-def end(main):
-    """Runs a program's main, and ends with its status."""
-    name = os.path.basename(sys.argv[0])
+def end(main, name=os.path.basename(sys.argv[0])):
+    """Runs a program's main, and ends with its status. `name` stands before what is told of why nothing was tried."""
     try:
         status = main()
     except Untried as why:
