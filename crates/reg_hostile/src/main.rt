@@ -3,7 +3,7 @@
 //!
 //! Without an argument it runs for some seconds and prints counts, which are the same on each run. `reg_hostile fuzz SEED COUNT`
 //! tries the images and scripts of so many seeds, `bits` each bit of an image, `sizes` prints times, and `rows` runs rows of scripts
-//! on a machine that may refuse memory; `./fuzz`, `./hostile` and `./refuse-memory` call these. It has no contract of its own: that
+//! on a machine that may refuse memory; `fuzz`, `hostile` and `refuse-memory` of `tools/` call these. It has no contract of its own: that
 //! none of this makes a fault or a wrong tree is what the contracts of the libraries say. `Verdict` is what became of an image.
 #![tactic(auto)]
 
