@@ -1,22 +1,25 @@
-//! Tests of the libraries below a hive, by their public calls. There is nothing here but tests, and so no contract.
+//! Tests that no text can say: callbacks, devices that fail, keys at random beside a plain map, images of many bytes, copies, and what only a
+//! caller of the libraries sees. There is nothing here but tests, and so no contract. Tests that are texts are cases of reg_cases.
 //!
-//! The wanted bytes come from the format's tables, and the wanted answers from the rules of the calls. The tests stand in crates of
-//! their own since a crate with tests is proved twice; here are those of names, calls, arenas, records and trees.
+//! The wanted replies come from the rules of the calls, the wanted bytes and faults from the format's tables. What a clause says of a
+//! function isn't tested again. A test and each of its helpers are proved, too: so there are few, and they go over tables of rows.
 #![tactic(auto)]
 
 #[cfg(test)]
-mod arena;
+mod callbacks;
 #[cfg(test)]
-mod copies;
+mod calls;
 #[cfg(test)]
-mod fault_texts;
+mod devices;
 #[cfg(test)]
-mod index_roots;
+mod faults;
 #[cfg(test)]
-mod keys;
+mod large_images;
 #[cfg(test)]
-mod names;
+mod questions;
 #[cfg(test)]
-mod records;
+mod random_keys;
 #[cfg(test)]
-mod rings;
+mod support;
+#[cfg(test)]
+mod trees;

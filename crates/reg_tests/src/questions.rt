@@ -4,14 +4,13 @@
 //!
 //! The rows are those of the rules' tables: each call, where it is accepted and by each of its refusals. Three causes are left out, which
 //! take more than a test has: a full journal, bins without room and want of memory.
+use crate::support::replies;
 use reg_callbacks::Callback;
 use reg_calls::Hive;
 use reg_fixtures::drafted;
 use reg_image::load;
 use reg_model::{Change, Query};
-use reg_script::run;
-use reg_test_support::assert_report;
-use std::alloc::Global;
+use std::alloc::{AllocError, Global};
 use std::cell::Cell;
 use std::rc::Rc;
 use std::test::Fail;
@@ -123,6 +122,11 @@ as 2;root 983103;{15000 create 30002 =c# 983103;}as 3;root 983103;{15000 create 
 SetValue, values | root 983103;{16384 set 0 =# 4 x;} | set 0 =v 4 x01 | 1450 | 0
 Notify, notifications | root 983103;{4096 notify 0 4 0;} | notify 0 4 0 | 1450 | 0";
 
+/// A hive of a root alone, whose descriptor has one byte.
+const FRESH: &str = "\
+sk 0 0 0 1 x07
+nk 44 0 0 - 0 - @1 - 0 =ROOT";
+
 /// A hive as another program may leave it: no call gives a key the mark 0x08, which `B` below `A` has.
 const MARKED: &str = "\
 sk 0 0 0 1 x07
@@ -139,25 +143,20 @@ DeleteTree, mark 0x08 | root 983103; | deltree 0 =A\\B | 5 | 321
 DeleteTree, mark 0x08 below | root 983103; | deltree 0 =A | 5 | 321
 DeleteTree, empty path, mark 0x08 below | root 983103; | deltree 0 = | 5 | 321";
 
-/// The hive on which a row begins.
-#[derive(Clone, Copy)]
-enum Begin {
-    Fresh,
-    Marked,
-}
-
 /// A row's parts.
 #[derive(Clone, Copy)]
 struct Row<'a> {
     name: &'a str,
     setup: &'a str,
     call: &'a str,
-    reply: &'a str,
-    asked: &'a str,
+    /// The reply and the callbacks that are asked.
+    wanted: &'a str,
 }
 
-/// The status that the callback in the middle refuses by.
+/// The status that the callback in the middle refuses by, and what is wanted then: the lowest isn't asked.
 const REFUSAL: u32 = 77;
+
+const REFUSED: &str = "77 | 32";
 
 /// Answers a status to each call, and notes that it was asked: its digit behind those of the callbacks that were asked before.
 #[derive(Drop)]
@@ -189,54 +188,53 @@ impl Callback for Noting {
 }
 
 fn parse(row: &str) -> Option<Row<'_>> {
-    let mut parts = row.split(" | ");
+    let (name, rest) = row.split_once(" | ")?;
+    let (setup, rest) = rest.split_once(" | ")?;
+    let (call, wanted) = rest.split_once(" | ")?;
     Some(Row {
-        name: parts.next()?,
-        setup: parts.next()?,
-        call: parts.next()?,
-        reply: parts.next()?,
-        asked: parts.next()?,
+        name,
+        setup,
+        call,
+        wanted,
     })
 }
 
-/// Appends a text so many times: the number, a space and the text.
-fn push_repeated(alloc: Global, to: &mut String, repeated: &str) -> Result<(), Fail> {
-    let Some((count, text)) = repeated.split_once(' ') else {
-        return Err("a number is missing".into());
-    };
-    let is_numbered = text.contains('#');
-    for turn in 0..count.parse::<u32>()? {
-        if is_numbered {
-            let number = format!(in alloc; "{turn}")?;
-            to.push_str(text.replace(alloc, '#', number.as_str())?.as_str())?;
-        } else {
-            to.push_str(text)?;
+/// Appends a text so many times, with `#` for how many times it came before.
+fn push_repeated(
+    alloc: Global,
+    to: &mut String,
+    count: u32,
+    repeated: &str,
+) -> Result<(), AllocError> {
+    for turn in 0..count {
+        match repeated.split_once('#') {
+            Some((front, rest)) => write!(to, "{front}{turn}{rest}")?,
+            None => to.push_str(repeated)?,
         }
     }
     Ok(())
 }
 
+/// The number and the text of a repetition `N TEXT}`, and what is behind it.
+fn repetition_in(piece: &str) -> Option<(u32, &str, &str)> {
+    let (repeated, rest) = piece.split_once('}')?;
+    let (count, text) = repeated.split_once(' ')?;
+    Some((count.parse::<u32>().ok()?, text, rest))
+}
+
 /// The lines that a row's text stands for.
-fn lines_of(alloc: Global, text: &str) -> Result<String, Fail> {
+fn lines_of(alloc: Global, text: &str) -> Result<String, AllocError> {
     let mut lines = String::new(alloc);
     for piece in text.split('{') {
-        match piece.split_once('}') {
-            Some((repeated, rest)) => {
-                push_repeated(alloc, &mut lines, repeated)?;
+        match repetition_in(piece) {
+            Some((count, repeated, rest)) => {
+                push_repeated(alloc, &mut lines, count, repeated)?;
                 lines.push_str(rest)?;
             }
             None => lines.push_str(piece)?,
         }
     }
-    Ok(lines.as_str().replace(alloc, ';', "\n")?)
-}
-
-/// What a hive replies to lines.
-fn replies(alloc: Global, hive: &mut Hive<Noting>, lines: &str) -> Result<String, Fail> {
-    let mut input = lines.as_bytes();
-    let mut output = Vec::new(alloc);
-    run(alloc, &mut input, &mut output, hive)?;
-    Ok(String::from_utf8(output)?)
+    lines.as_str().replace(alloc, ';', "\n")
 }
 
 /// Registers three callbacks, whose digits rise with their altitudes. The one in the middle answers this status, and the others 0.
@@ -254,7 +252,7 @@ fn register(hive: &mut Hive<Noting>, status: u32, asked: &Rc<Cell<u32>>) -> Resu
     Ok(())
 }
 
-/// What a hive replies to a call after a script, and which callbacks were asked of the call.
+/// What a hive replies to a call after a setup, and which callbacks were asked of the call.
 fn asked_in(
     alloc: Global,
     hive: &mut Hive<Noting>,
@@ -269,97 +267,63 @@ fn asked_in(
     Ok(format!(in alloc; "{} | {}", reply.as_str().trim_end(), asked.get())?)
 }
 
-fn fresh_hive(alloc: Global) -> Result<Hive<Noting>, Fail> {
-    let hive = Hive::new(alloc, b"ROOT", &[7], 0)?;
-    Ok(hive)
-}
-
-fn marked_hive(alloc: Global) -> Result<Hive<Noting>, Fail> {
-    let image = drafted(alloc, 5, MARKED)?;
-    let mut input = image.as_slice();
-    let hive = load(alloc, &mut input)?;
-    Ok(hive)
-}
-
-fn begun(alloc: Global, begin: Begin) -> Result<Hive<Noting>, Fail> {
-    match begin {
-        Begin::Fresh => fresh_hive(alloc),
-        Begin::Marked => marked_hive(alloc),
-    }
-}
-
-/// What `asked_in` tells of a hive that rows begin on.
+/// What `asked_in` tells of the hive of a draft.
 fn asked_of(
     alloc: Global,
-    begin: Begin,
+    table: &str,
     setup: &str,
     call: &str,
     status: u32,
 ) -> Result<String, Fail> {
-    let mut hive = begun(alloc, begin)?;
+    let image = drafted(alloc, 5, table)?;
+    let mut input = image.as_slice();
+    let mut hive = load(alloc, &mut input)?;
     asked_in(alloc, &mut hive, setup, call, status)
 }
 
-/// Whether a row's call is one of which callbacks are asked.
-fn is_asked(row: Row<'_>) -> bool {
-    row.asked != "0"
-}
-
-/// A row's reply and the callbacks that are asked, where the one in the middle refuses its call; and, where they are asked, the same where
-/// all let it go on.
-fn report_of(alloc: Global, begin: Begin, row: Row<'_>) -> Result<String, Fail> {
+/// Tests a row where the callback in the middle answers this status.
+fn check_status(
+    alloc: Global,
+    table: &str,
+    row: Row<'_>,
+    status: u32,
+    wanted: &str,
+) -> Result<(), Fail> {
     let setup = lines_of(alloc, row.setup)?;
     let call = lines_of(alloc, row.call)?;
-    let mut text = format!(in alloc; "{}: ", row.name)?;
-    let refused = asked_of(alloc, begin, setup.as_str(), call.as_str(), REFUSAL)?;
-    text.push_str(refused.as_str())?;
-    if is_asked(row) {
-        let passed = asked_of(alloc, begin, setup.as_str(), call.as_str(), 0)?;
-        write!(text, "; {}", passed.as_str())?;
+    let told = asked_of(alloc, table, setup.as_str(), call.as_str(), status)?;
+    if told.as_str() == wanted {
+        return Ok(());
     }
-    Ok(text)
+    Err(Fail::new(format_args!("{}: {}, and not {wanted}", row.name, told.as_str())))
 }
 
-/// What is wanted of a row: a call of which the callbacks are asked is refused by the one in the middle, and then the lowest isn't asked.
-fn wanted_of(alloc: Global, row: Row<'_>) -> Result<String, Fail> {
-    let Row {
-        name,
-        reply,
-        asked,
-        ..
-    } = row;
-    if is_asked(row) {
-        return Ok(format!(in alloc; "{name}: {REFUSAL} | 32; {reply} | {asked}")?);
-    }
-    Ok(format!(in alloc; "{name}: {reply} | 0")?)
-}
-
-fn check(alloc: Global, begin: Begin, row: &str) -> Result<(), Fail> {
+/// Tests a row where the callback in the middle refuses its call; and, where callbacks are asked of it, where all let it go on.
+fn check(alloc: Global, table: &str, row: &str) -> Result<(), Fail> {
     let Some(row) = parse(row) else {
         return Err("a part is missing".into());
     };
-    let wanted = wanted_of(alloc, row)?;
-    assert_report(report_of(alloc, begin, row), wanted.as_str())
+    if row.wanted.ends_with(" | 0") {
+        return check_status(alloc, table, row, REFUSAL, row.wanted);
+    }
+    check_status(alloc, table, row, REFUSAL, REFUSED)?;
+    check_status(alloc, table, row, 0, row.wanted)
 }
 
-fn check_all(alloc: Global, begin: Begin, rows: &str) -> Result<(), Fail> {
+fn check_all(alloc: Global, table: &str, rows: &str) -> Result<(), Fail> {
     for row in rows.split('\n') {
-        check(alloc, begin, row)?;
+        check(alloc, table, row)?;
     }
     Ok(())
 }
 
 #[test]
 fn callbacks_are_asked_in_their_place(rt: HostRuntime) -> Result<(), Fail> {
-    check_all(rt.alloc(), Begin::Fresh, ROWS)
+    check_all(rt.alloc(), FRESH, ROWS)?;
+    check_all(rt.alloc(), MARKED, KEPT)
 }
 
 #[test]
 fn nobody_is_asked_where_a_count_refuses(rt: HostRuntime) -> Result<(), Fail> {
-    check_all(rt.alloc(), Begin::Fresh, CROWDED)
-}
-
-#[test]
-fn callbacks_are_asked_where_a_mark_refuses(rt: HostRuntime) -> Result<(), Fail> {
-    check_all(rt.alloc(), Begin::Marked, KEPT)
+    check_all(rt.alloc(), FRESH, CROWDED)
 }

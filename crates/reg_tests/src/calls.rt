@@ -1,0 +1,73 @@
+//! A question that is copied and run, and the copies of its answer and of a journal's entry. What is compared is the `Debug` text of a copy,
+//! which has every field.
+use crate::support::replies;
+use reg_calls::Hive;
+use reg_fixtures::PlainHive;
+use reg_model::{Bytes, Call, Entry, Outcome, Query, Step};
+use reg_test_support::assert_report;
+use std::alloc::Global;
+use std::test::Fail;
+
+/// A question of session 3 for the value `name`.
+fn question(alloc: Global) -> Result<Step, Fail> {
+    let name = Bytes::from_slice(alloc, b"name")?.into_vec();
+    let query = Query::QueryValue {
+        handle: 0,
+        name: Bytes::from_vec(name),
+        room: Some(2),
+    };
+    Ok(Step {
+        session: 0,
+        moment: 9,
+        call: Call::Query(query),
+    })
+}
+
+/// The copies of a question and of what is answered to it.
+fn copied(alloc: Global, step: &Step, outcomes: &[Outcome]) -> Result<String, Fail> {
+    let mut text = format!(in alloc; "{:?}\n", step.try_clone(alloc)?)?;
+    for outcome in outcomes {
+        write!(text, "{:?}\n", outcome.try_clone(alloc)?)?;
+    }
+    Ok(text)
+}
+
+/// What is answered to a step.
+fn run_one(alloc: Global, hive: &mut PlainHive, step: Step) -> Result<Vec<Outcome>, Fail> {
+    Ok(hive.run(vec![in alloc; step]?)?)
+}
+
+/// The text of a copy of an entry.
+fn copied_entry(alloc: Global, entry: Option<&Entry>) -> Result<String, Fail> {
+    match entry {
+        Some(entry) => Ok(format!(in alloc; "{:?}", entry.try_clone(alloc)?)?),
+        None => Err("there is no such entry".into()),
+    }
+}
+
+fn told_in(alloc: Global, hive: &mut PlainHive) -> Result<String, Fail> {
+    let _set = replies(alloc, hive, "root 983103\nat 7\nset 0 =name 3 x0809\n")?;
+    let step = question(alloc)?;
+    let outcomes = run_one(alloc, hive, step.try_clone(alloc)?)?;
+    let mut text = copied(alloc, &step, &outcomes)?;
+    text.push_str(copied_entry(alloc, hive.entry(1))?.as_str())?;
+    Ok(text)
+}
+
+fn told(alloc: Global) -> Result<String, Fail> {
+    let mut hive = Hive::new(alloc, b"ROOT", &[7; 20], 0)?;
+    told_in(alloc, &mut hive)
+}
+
+#[test]
+fn copies_of_a_step_an_outcome_and_an_entry(rt: HostRuntime) -> Result<(), Fail> {
+    assert_report(
+        told(rt.alloc()),
+        "\
+Step { session: 0, moment: 9, call: Query(QueryValue { handle: 0, name: Bytes { items: [110, 97, 109, 101] }, room: Some(2) }) }
+Answered(Answer { at: 2, body: Value { kind: 3, size: 2, bytes: Some(Bytes { items: [8, 9] }) } })
+Entry { number: 1, session: 0, moment: 7, \
+change: SetValue { handle: 0, name: Bytes { items: [110, 97, 109, 101] }, kind: 3, bytes: Bytes { items: [8, 9] } }, \
+reply: ChangeReply { status: 0, number: Some(1), handle: None, disposition: None } }",
+    )
+}

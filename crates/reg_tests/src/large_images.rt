@@ -1,0 +1,143 @@
+//! Images of many bytes: keys whose values take more than one carve, which load, and keys that have, in the cells of new bins, more bytes
+//! than bins may have, with what is wrong with the last of them. The wanted sizes and faults come from the format's tables.
+use reg_fixtures::{drafted, put_changes, sizes_but};
+use reg_test_support::assert_report;
+use reg_tree::Tree;
+use reg_tree_image::load_tree;
+use std::alloc::{AllocError, Global};
+use std::test::Fail;
+
+/// An image: so many keys below the root, of so many values each, of so many bytes each, and another key.
+#[derive(Clone, Copy)]
+struct Image {
+    keys: u32,
+    values: u32,
+    size: u32,
+}
+
+/// Changes of an image, and what it loads to then.
+type Row = (&'static str, &'static str);
+
+/// The first lines of a table: a security; the key that the walk meets last; and behind that a list of keys that names this key itself.
+const FIRST_LINES: &str = "\
+sk 0 0 0 20 x0100048000000000000000000000000000000000
+nk 32 0 0 - 0 - @1 - 0 =k99999
+li @2";
+
+/// Appends the lines of a key, behind a line of this number: its values, their list, and the key, whose number it tells.
+fn push_key(table: &mut String, image: Image, number: u32, behind: u32) -> Result<u32, AllocError> {
+    let Image { values, size, .. } = image;
+    let mut line = behind;
+    for value in 0..values {
+        line = line.saturating_add(2);
+        let data = line.saturating_sub(1);
+        write!(
+            table,
+            "\nfill {} x61616161\nvk {size} @{data} 3 1 =v{value:05}",
+            size / 4
+        )?;
+    }
+    table.push_str("\nrow")?;
+    for value in 0..values {
+        let record = behind
+            .saturating_add(2)
+            .saturating_add(value.saturating_mul(2));
+        write!(table, " @{record}")?;
+    }
+    let list = line.saturating_add(1);
+    write!(table, "\nnk 32 0 0 - {values} @{list} @1 - 0 =k{number:05}")?;
+    Ok(list.saturating_add(1))
+}
+
+/// The table of an image: its root is `ROOT`, its keys are `k00000` and on, and last `k99999`.
+fn table_of(alloc: Global, image: Image) -> Result<String, AllocError> {
+    let mut table = FIRST_LINES.to_string(alloc)?;
+    let mut list = "li".to_string(alloc)?;
+    let mut line = 3;
+    for number in 0..image.keys {
+        line = push_key(&mut table, image, number, line)?;
+        write!(list, " @{line}")?;
+    }
+    let names = line.saturating_add(1);
+    let count = image.keys.saturating_add(1);
+    write!(
+        table,
+        "\n{} @2\nnk 44 0 {count} @{names} 0 - @1 - 0 =ROOT",
+        list.as_str()
+    )?;
+    Ok(table)
+}
+
+/// The sizes of a tree's allocated cells, added up, and whether its bins have at most 1.05 times as many bytes.
+fn sizes_told(alloc: Global, tree: &Tree) -> Result<String, Fail> {
+    let mut cells: u64 = 0;
+    for size in &sizes_but(alloc, tree.arena(), 0)? {
+        cells = cells.saturating_add(u64::from(*size));
+    }
+    let bins = u64::from(tree.arena().bins_size());
+    let are_close = bins * 100 <= cells.saturating_mul(105);
+    let how = if are_close { "close" } else { "far" };
+    Ok(format!(in alloc; "{cells} {how}")?)
+}
+
+/// The sizes of what an image loads to, or the fault's number.
+fn loaded(alloc: Global, image: &[u8]) -> Result<String, Fail> {
+    let mut input = image;
+    match load_tree(alloc, &mut input) {
+        Ok(tree) => sizes_told(alloc, &tree),
+        Err(fault) => Ok(format!(in alloc; "{}", fault.number())?),
+    }
+}
+
+/// Makes the changes of each row, one after another, and fails where the image doesn't load to what is wanted.
+fn check(alloc: Global, image: Image, rows: &[Row]) -> Result<(), Fail> {
+    let table = table_of(alloc, image)?;
+    let mut bytes = drafted(alloc, 5, table.as_str())?;
+    for (changes, wanted) in rows {
+        put_changes(alloc, &mut bytes, changes)?;
+        assert_report(loaded(alloc, &bytes), wanted)?;
+    }
+    Ok(())
+}
+
+// A record of 20 bytes and 6 of a name has a cell of 32 bytes, data of 1,100 bytes one of 1,104, of 4,080 bytes one of 4,088; a list of
+// 16,384 values 65,544, of 13,256 values 53,032; each key node 88, their security 48, the list of two subkeys 24, of four 40:
+// 16,384 * 1,136 + 65,544 + 3 * 88 + 48 + 24, and 3 * (13,256 * 4,120 + 53,032) + 5 * 88 + 48 + 40. Values are put in carves of up to
+// 16,777,216 bytes, side by side, so that the bins have little more.
+#[test]
+fn values_of_several_carves_fit(rt: HostRuntime) -> Result<(), Fail> {
+    for (keys, values, size, wanted) in [
+        (1, 16_384, 1_100, "18678104 close"),
+        (3, 13_256, 4_080, "164003784 close"),
+    ] {
+        let image = Image { keys, values, size };
+        check(rt.alloc(), image, &[("0 72656766", wanted)])?;
+    }
+    Ok(())
+}
+
+// A key's list has a cell of 8 bytes, its value's record one of 32 and its data one of 4,056. With a bin's header of 32 bytes that is more
+// than a page, so that new bins have 8,192 bytes for each such key, and the 4,064 that are left have no room for the 4,096 of another. So
+// 32,768 keys have as many bytes as bins may have, and the root's bin is there before them. The record of `k99999` begins at 4,180. Its
+// changes: none, so that the bins alone want room; another signature; its own list of subkeys, which names it; the name of `k19999`; a
+// predefined handle; 16,385 values.
+#[test]
+fn faults_behind_the_place_without_room(rt: HostRuntime) -> Result<(), Fail> {
+    let image = Image {
+        keys: 32_768,
+        values: 1,
+        size: 4_048,
+    };
+    check(
+        rt.alloc(),
+        image,
+        &[
+            ("4180 6e6b", "13"),
+            ("4180 6e6c", "9"),
+            ("4180 6e6b, 4200 01000000, 4208 a8000000", "10"),
+            ("4200 00000000, 4208 ffffffff, 4257 31", "11"),
+            ("4257 39, 4182 6000", "12"),
+            ("4182 2000, 4216 01400000", "13"),
+        ],
+    )
+}

@@ -1,0 +1,29 @@
+//! What the tests share. Whoever owns a hive or a tree lends it once, and does nothing else: a function is the longer to check the more it
+//! does while it owns one.
+use reg_callbacks::Callback;
+use reg_calls::Hive;
+use reg_fixtures::drafted;
+use reg_script::run;
+use reg_tree::Tree;
+use reg_tree_image::load_tree;
+use std::alloc::Global;
+use std::test::Fail;
+
+/// What a hive replies to the lines of a script.
+pub fn replies<C: Callback>(
+    alloc: Global,
+    hive: &mut Hive<C>,
+    lines: &str,
+) -> Result<String, Fail> {
+    let mut input = lines.as_bytes();
+    let mut output = Vec::new(alloc);
+    run(alloc, &mut input, &mut output, hive)?;
+    Ok(String::from_utf8(output)?)
+}
+
+/// The tree of a draft's image, of minor version 3, in which a cell may have data of any size.
+pub fn drafted_tree(alloc: Global, table: &str) -> Result<Tree, Fail> {
+    let image = drafted(alloc, 3, table)?;
+    let mut input = image.as_slice();
+    Ok(load_tree(alloc, &mut input)?)
+}
