@@ -4,7 +4,6 @@
 
 ghost use Rattle.std.specs.Prelude.{◌≡◌, ◌<◌, ◌+◌, ◌*◌, ◌≤◌, ℕ, List, Some, IsSome, max, slice_get, length, if◌then◌else◌};
 ghost use Rattle.std.specs.List.{fold};
-ghost use Rattle.reg_heap.specs.ByteWords.{half, word};
 ghost use Rattle.reg_heap.specs.Paths.{Member};
 ghost use Rattle.reg_heap.specs.Kinds.{Found};
 ghost use Rattle.reg_heap.specs.Members.{index_named};
@@ -17,10 +16,9 @@ ghost use Rattle.reg_shape.specs.Nodes.{members_at};
 ghost use Rattle.reg_values.specs.ValueLists.{AreValues, Tells, OfRead};
 
 use crate::{INLINE, ValuesList};
-use byteorder::{ByteOrder, LittleEndian};
 use reg_arena::Arena;
 use reg_names::same_name;
-use reg_records::{ValueRecord, offset_at, read_vk, vk_name};
+use reg_records::{ValueRecord, offset_at, read_vk, vk_lengths, vk_name};
 
 /// A value, without its bytes.
 #[derive(Clone, Copy, Debug)]
@@ -110,24 +108,6 @@ pub fn at(arena: &Arena, list: ValuesList, index: u32) -> Value<'_>
     }
 }
 
-/// How long the name of a key value is: its second 16-bit number.
-#[tactic(auto, unfolding(reg_heap::specs::ByteWords::half))]
-fn name_length_in(content: &[u8]) -> u16
-    requires { 4 ≤ length content.now }
-    ensures { result ≡ half content.now 2 }
-{
-    LittleEndian::read_u16(&content[2..])
-}
-
-/// The size field of a key value: its second 32-bit number.
-#[tactic(auto, unfolding(reg_heap::specs::ByteWords::word))]
-fn size_field_in(content: &[u8]) -> u32
-    requires { 8 ≤ length content.now }
-    ensures { result ≡ word content.now 4 }
-{
-    LittleEndian::read_u32(&content[4..])
-}
-
 /// The larger of both lengths, and the larger of both sizes.
 fn larger(a: LargestValues, b: LargestValues) -> LargestValues
     ensures name { result.name ≡ max a.name b.name }
@@ -146,10 +126,10 @@ fn lengths_at(arena: &Arena, cell: u32) -> LargestValues
     ensures size { (record_is : KeyValueRecord) → value_record_at (heap_of arena.now) cell ≡ Some record_is →
         result.size ≡ (if is_inline record_is.fields.size then inline_size record_is.fields.size else record_is.fields.size) }
 {
-    let content = arena.content(cell);
+    let lengths = vk_lengths(arena.content(cell));
     LargestValues {
-        name: u32::from(name_length_in(content)),
-        size: size_in(size_field_in(content)),
+        name: u32::from(lengths.name),
+        size: size_in(lengths.size),
     }
 }
 
