@@ -615,7 +615,6 @@ impl Tree {
             reached,
             given,
             moment,
-            None,
         )
     }
 
