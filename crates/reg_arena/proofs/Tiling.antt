@@ -10,3 +10,4 @@ pub mod ArenaFaults
 pub mod CellLayout
 pub mod BinPieces
 pub mod BinParts
+pub mod BinStretches

@@ -1,4 +1,5 @@
 pub mod Cells
+pub mod Stretches
 pub mod Classes
 pub mod Free
 pub mod NewCells

@@ -12,12 +12,14 @@ ghost use Rattle.reg_arena.specs.EachCell.{fresh_of, AreCarvable, CarvesChange, 
 ghost use Rattle.reg_arena.specs.NewBin.{PassesLimit};
 ghost use Rattle.reg_arena.specs.Frees.{Frees};
 ghost use Rattle.reg_arena.specs.Cells.{cells_of, size_in, IsInBin};
+ghost use Rattle.reg_arena.specs.Stretches.{IsStretch};
 
-use crate::bin::passes_limit;
+use crate::bin::{PAGE_SIZE, passes_limit};
 use crate::carve::{carve_bin, carve_found, sum_of};
 use crate::each::{Spare, carve_cells, fresh_within};
 use crate::free::free_cell;
 use crate::free_lists::FreeLists;
+use crate::stretch::{Stretch, StretchedCell};
 use crate::walk::list_cells;
 use crate::words::field_size;
 use crate::{ArenaFault, Cell};
@@ -107,6 +109,39 @@ impl Arena {
         ensures { heap_of self.now cell ≡ Some result.now }
     {
         content_of(self.bins.rest(cell as usize))
+    }
+
+    /// What the allocated cell at the offset `cell` holds, and the stretch of its bin in which it was found. Where it lies in the
+    /// stretch that is given, its bin isn't looked up.
+    pub fn content_by<'a>(&'a self, stretch: Stretch<'a>, cell: u32) -> StretchedCell<'a>
+        requires cell { IsSome (heap_of self.now cell) }
+        requires stretch { IsStretch (heap_of self.now) stretch.from stretch.bytes.now }
+        ensures content { heap_of self.now cell ≡ Some result.content.now }
+        ensures stretch { IsStretch (heap_of self.now) result.stretch.from result.stretch.bytes.now }
+    {
+        let stretch = self.stretch_for(stretch, cell);
+        StretchedCell {
+            content: content_of(&stretch.bytes[(cell - stretch.from) as usize..]),
+            stretch,
+        }
+    }
+
+    // The given stretch where a cell lies in it, or else that from the beginning of the cell's page to the end of its bin.
+    fn stretch_for<'a>(&'a self, stretch: Stretch<'a>, cell: u32) -> Stretch<'a>
+        requires cell { IsSome (heap_of self.now cell) }
+        requires stretch { IsStretch (heap_of self.now) stretch.from stretch.bytes.now }
+        ensures from { result.from ≤ cell }
+        ensures to { cell < result.from + length result.bytes.now }
+        ensures stretch { IsStretch (heap_of self.now) result.from result.bytes.now }
+    {
+        if cell >= stretch.from && ((cell - stretch.from) as usize) < stretch.bytes.len() {
+            return stretch;
+        }
+        let from = cell / PAGE_SIZE * PAGE_SIZE;
+        Stretch {
+            from,
+            bytes: self.bins.rest(from as usize),
+        }
     }
 
     /// Writes `bytes` into the allocated cell at the offset `cell`, from byte `at` of what it holds on. They end within the

@@ -7,7 +7,7 @@
 //! Its one contract: the cells fill the bins and the lists have just the free ones (`IsSound`, of every arena); `carve` and `free`
 //! change which cells there are, exactly as the rules say, and the writers what one cell holds. Crates above need only `cell_at`,
 //! what the allocated cell at an offset holds. It stands on reg_bins, which has the bytes, and on reg_heap. Its types
-//! are [`Arena`], [`Cell`] and [`ArenaFault`].
+//! are [`Arena`], [`Cell`], [`ArenaFault`] and [`Stretch`], by which whoever reads many cells looks a bin up once.
 //!
 //! `carve` takes cells from a free one, or from a bin that `bin` appends, and `cut` cuts them; `each` carves those of one change each by
 //! itself; `free` merges a cell with its free neighbours. `free_lists` finds a cell's list and its neighbours: `classes` says which list a
@@ -31,6 +31,7 @@ mod large;
 pub mod laws;
 mod links;
 mod size;
+mod stretch;
 mod tables;
 mod walk;
 mod words;
@@ -38,6 +39,7 @@ mod words;
 pub use arena::Arena;
 pub use classes::list_of;
 pub use size::cell_size;
+pub use stretch::{Stretch, StretchedCell};
 use thiserror::Error;
 
 /// The most bytes of cells that one carve may be asked for, their size fields too: 16 MiB, this project's own limit.

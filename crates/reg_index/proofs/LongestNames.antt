@@ -1,23 +1,12 @@
 -- The longest name among keys, gone over from the first to the last.
 use Rattle.std.proofs.Common.{◌≡◌, ℕ, zero, suc, ◌+◌, ◌<◌, ◌≤◌, List, [], ◌∷◌, length, drop, get_or, max, refl, sym, ap, ◌∙◌, arith, add-one}
-use Rattle.std.specs.Prelude.{Ok}
 use Rattle.std.specs.List.{fold}
-use Rattle.std.proofs.lemmas.List.{length-drop, length-take-le}
 use Rattle.std.proofs.lemmas.List.Sums.{fold-append}
 use Rattle.std.proofs.Math.Seq.{drop-cons}
-use Rattle.reg_heap.specs.ByteWords.{half}
 use Rattle.reg_heap.specs.Heaps.{Heap}
-use Rattle.reg_records.specs.KeyNodes.{KeyRecord, nk_of}
 use Rattle.reg_records.specs.SubkeyLists.{Entry}
-use Rattle.reg_records.proofs.KeyNodeCodec.{nk-open}
 use Rattle.reg_shape.specs.Nodes.{KeyList}
 use Rattle.reg_index.specs.Subkeys.{entries_in, name_at, no_list, numbered}
-
--- a key's name is as long as its field says
-pub name-long : (content : List ℕ) (r : KeyRecord) → nk_of content ≡ Ok r → length r.name ≡ half content 72
-name-long content r e =
-    let v = nk-open content r e in
-    ap (λ (r : KeyRecord). length r.name) v.same ∙ length-take-le (half content 72) (drop 76 content) (omega (arith, v.enough, length-drop 76 content))
 
 drop-past : {X : Type 0} (xs : List X) (i : ℕ) → length xs ≤ i → drop i xs ≡ []
 drop-past [] zero l = refl

@@ -19,7 +19,7 @@ use crate::order::order;
 use crate::{Place, PlacedKey, SubkeysIndex};
 use byteorder::{ByteOrder, LittleEndian};
 use reg_arena::Arena;
-use reg_records::{ListForm, ListHead, entry_at, nk_name, read_list};
+use reg_records::{ListForm, ListHead, entry_at, nk_name, nk_name_length, read_list};
 use std::cmp::Ordering;
 
 /// The name of the key at an offset.
@@ -389,21 +389,12 @@ pub fn find_key(arena: &Arena, list: SubkeysIndex, name: &[u8]) -> Option<u32>
     }
 }
 
-/// How long the name of a key is, by what its cell holds: the number before the last of the key node's fixed part.
-#[tactic(auto, unfolding(reg_heap::specs::ByteWords::half))]
-fn name_length_in(content: &[u8]) -> u16
-    requires { 74 ≤ length content.now }
-    ensures { result ≡ half content.now 72 }
-{
-    LittleEndian::read_u16(&content[72..])
-}
-
 /// How long the name of the key at an offset is. It reads no more of the key than this number.
 fn name_length(arena: &Arena, key: u32) -> u32
     requires { IsSome (key_at (heap_of arena.now) key) }
     ensures { result ≡ length (name_at (heap_of arena.now) key) }
 {
-    u32::from(name_length_in(arena.content(key)))
+    u32::from(nk_name_length(arena.content(key)))
 }
 
 /// The length of the longest name among the keys of a leaf, by what the leaf's cell holds, or a length that is greater.

@@ -1,6 +1,7 @@
 -- Key nodes, written and read back.
 use Rattle.std.proofs.Common.{◌≡◌, ℕ, ◌+◌, ◌^◌, ◌<◌, ◌≤◌, true, not, List, [], ◌++◌, length, get_or, take, drop, ◌==◌, ◌&&◌, refl, sym, ap, ◌∙◌, arith, length-append}
 use Rattle.std.proofs.lemmas.Bool.{le-ltb, ltb-false, not-false, cond-false}
+use Rattle.std.proofs.lemmas.List.{length-drop, length-take-le}
 use Rattle.std.proofs.Math.Seq.{take-append_seam}
 use Rattle.std.specs.Prelude.{Ok, Some, IsSome}
 use Rattle.byteorder.specs.Numbers.{little_number-reads_back}
@@ -93,6 +94,12 @@ nk-open content r e =
       profile = not-false _ f.0;
       same = same_ok _ _ (sym f.1);
     }
+
+-- a record's name is as long as its field says
+pub nk-name-long : (content : List ℕ) (r : KeyRecord) → nk_of content ≡ Ok r → length r.name ≡ half content 72
+nk-name-long content r e =
+    let v = nk-open content r e in
+    ap (λ (r : KeyRecord). length r.name) v.same ∙ length-take-le (half content 72) (drop 76 content) (omega (arith, v.enough, length-drop 76 content))
 
 -- a part between the signature and the name's length written over
 module _ (at : ℕ) (piece content : List ℕ) (r : KeyRecord) (low : 4 ≤ at) (high : at + length piece ≤ 72) (is : nk_of content ≡ Ok r) where

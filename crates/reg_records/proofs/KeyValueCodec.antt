@@ -1,6 +1,7 @@
 -- Key values, written and read back.
 use Rattle.std.proofs.Common.{◌≡◌, ℕ, ◌+◌, ◌^◌, ◌<◌, ◌≤◌, true, not, List, [], ◌++◌, length, get_or, take, drop, lit≤, ◌==◌, ◌&&◌, refl, sym, ap, ◌∙◌, arith, length-append}
 use Rattle.std.proofs.lemmas.Bool.{le-ltb, ltb-false, not-false, cond-false}
+use Rattle.std.proofs.lemmas.List.{length-drop, length-take-le}
 use Rattle.std.proofs.Math.Seq.{take-append_seam}
 use Rattle.std.specs.Prelude.{Ok, Some, IsSome}
 use Rattle.byteorder.specs.Endian.{little_bytes, little_number}
@@ -62,6 +63,12 @@ vk-open content r e =
       enough = ltb-false _ _ d.0;
       same = same_ok _ _ (sym d.1);
     }
+
+-- a record's name is as long as its field says
+pub vk-name-long : (content : List ℕ) (r : KeyValueRecord) → vk_of content ≡ Ok r → length r.name ≡ half content 2
+vk-name-long content r e =
+    let v = vk-open content r e in
+    ap (λ (r : KeyValueRecord). length r.name) v.same ∙ length-take-le (half content 2) (drop 20 content) (omega (arith, v.enough, length-drop 20 content))
 
 -- a part between the name's length and the name written over
 module _ (at : ℕ) (piece content : List ℕ) (r : KeyValueRecord) (low : 4 ≤ at) (high : at + length piece ≤ 20) (is : vk_of content ≡ Ok r) where

@@ -32,15 +32,17 @@ pub use lists::{
     ListEntry, ListForm, ListHead, entry_at, put_entry, put_head, put_list, read_list,
 };
 pub use nk::{
-    KeyFields, KeyNode, nk_fields, nk_name, put_nk, read_nk, set_largest_subkey_name,
-    set_largest_value_data, set_largest_value_name, set_security, set_subkeys, set_subkeys_list,
-    set_time, set_values,
+    KeyFields, KeyNode, nk_fields, nk_name, nk_name_length, put_nk, read_nk,
+    set_largest_subkey_name, set_largest_value_data, set_largest_value_name, set_security,
+    set_subkeys, set_subkeys_list, set_time, set_values,
 };
 pub use rows::{offset_at, put_offset};
 pub use sk::{
     SecurityFields, SecurityRecord, put_sk, read_sk, set_blink, set_flink, set_security_count,
 };
-pub use vk::{ValueFields, ValueRecord, put_vk, read_vk, set_data, vk_name};
+pub use vk::{
+    ValueFields, ValueLengths, ValueRecord, put_vk, read_vk, set_data, vk_lengths, vk_name,
+};
 
 /// Why the content of a cell is no record: the first that holds, in this order.
 #[derive(Clone, Copy, Debug, PartialEq, Eq, Error)]

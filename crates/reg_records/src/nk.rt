@@ -131,6 +131,14 @@ pub fn nk_name(content: &[u8]) -> &[u8]
     &content[HEAD..HEAD + length]
 }
 
+/// The length of a key node's name, from the start of what a cell holds that is known to read as one: nothing else is looked at.
+pub fn nk_name_length(content: &[u8]) -> u16
+    requires { (record_is : KeyRecord) × (nk_of content.now ≡ Ok record_is) }
+    ensures { (record_is : KeyRecord) → nk_of content.now ≡ Ok record_is → result ≡ length record_is.name }
+{
+    half_at(content, 72)
+}
+
 /// The fixed part as it is written.
 fn head(fields: &KeyFields, name_length: u16) -> [u8; HEAD]
     ensures bytes { result ≡ nk_head fields.now name_length }

@@ -37,6 +37,15 @@ pub struct ValueRecord<'a> {
     pub name: &'a [u8],
 }
 
+/// How long the parts of a key value are.
+#[derive(Clone, Copy, Debug, PartialEq, Eq)]
+pub struct ValueLengths {
+    /// The length of its name in bytes.
+    pub name: u16,
+    /// The size of its data in bytes; with the top bit 0x80000000 the data stands in the record.
+    pub size: u32,
+}
+
 /// Reads a key value from the start of what a cell holds. The spare bytes are not looked at.
 ///
 /// `Short` is for less than 20 bytes, `Signature` where they don't begin with `vk`, and `Length`
@@ -74,6 +83,17 @@ pub fn vk_name(content: &[u8]) -> &[u8]
 {
     let length = usize::from(half_at(content, 2));
     &content[HEAD..HEAD + length]
+}
+
+/// How long the parts of a key value are, from the start of what a cell holds that is known to read as one: nothing else is looked at.
+pub fn vk_lengths(content: &[u8]) -> ValueLengths
+    requires { (record_is : KeyValueRecord) × (vk_of content.now ≡ Ok record_is) }
+    ensures name { (record_is : KeyValueRecord) → vk_of content.now ≡ Ok record_is → result.name ≡ length record_is.name }
+    ensures size { (record_is : KeyValueRecord) → vk_of content.now ≡ Ok record_is → result.size ≡ record_is.fields.size }
+{
+    let name = half_at(content, 2);
+    let size = word_at(content, 4);
+    ValueLengths { name, size }
 }
 
 /// The fixed part as it is written.

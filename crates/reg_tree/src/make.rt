@@ -21,7 +21,7 @@ ghost use Rattle.reg_tree.specs.CellSizes.{BelongsThere, create_sizes, first_cel
 ghost use Rattle.reg_tree.specs.Internal.KeyNodeChanges.{LeavesOthers};
 ghost use Rattle.reg_tree.specs.Internal.TreeInvariant.{IsHere};
 ghost use Rattle.reg_tree.specs.Internal.SpareCells.{MayGrow, Grows, AreReady, HaveSizes, MayGrowAll, GrowsAll, IsClassSize, IsSecuritySize, IsSpared};
-ghost use Rattle.reg_tree.specs.Internal.DescriptorChange.{IsKnown, KeepsFinds, class_of, last_of};
+ghost use Rattle.reg_tree.specs.Internal.DescriptorChange.{KeepsFinds, class_of, last_of};
 ghost use Rattle.reg_tree.specs.Internal.KeyCreation.{IsCreated, IsGrownAll, AreTooMany, LeadsTo};
 ghost use Rattle.reg_tree.specs.Internal.ReachedPlaces.{BelongsAt, BelongsFirst};
 
@@ -449,9 +449,8 @@ fn make_sharing(
 }
 
 /// Makes the keys that were found missing on a path, the last with a descriptor of its own and each other one with its parent's, and
-/// answers the last. It is first made as the others are, and then described. The cell of a security that has the descriptor may be
-/// known. All cells are carved before the first key is made: `Full`, `Memory`. After a fault the arena is as before, and the table finds
-/// what it found.
+/// answers the last. It is first made as the others are, and then described. All cells are carved before the first key is made:
+/// `Full`, `Memory`. After a fault the arena is as before, and the table finds what it found.
 fn make_described(
     alloc: Global,
     arena: &mut Arena,
@@ -459,14 +458,12 @@ fn make_described(
     reached: Reached<'_>,
     descriptor: &[u8],
     moment: u64,
-    known: Option<u32>,
 ) -> Result<Node, ArenaFault>
     requires reached { (from : Node) × (path : List ℕ) × (l : LeadsTo arena.old.bytes from path reached.node reached.missing.now)
         × (l.here.table ≡ securities.old) × (are_too_many (tree_in arena.old.bytes l.here.root) l.here.path (path_of path) ≡ false) }
     requires place { BelongsFirst (heap_of arena.old) reached.node.offset (path_of reached.missing.now) reached.place }
     requires missing { reached.missing.now ≢ [] }
     requires descriptor { (1 ≤ length descriptor.now) × (length descriptor.now ≤ DESCRIPTOR_LIMIT) }
-    requires known { IsKnown securities.old descriptor.now known }
     ensures ok { (from : Node) → (path : List ℕ) → (l : LeadsTo arena.old.bytes from path reached.entry.node reached.entry.missing.now) →
         l.here.table ≡ securities.old → IfOk result (λ made.
         IsCreated arena.old.bytes arena.new.bytes l.here.root securities.new l.here.path from (path_of path) (Some descriptor.now) moment made) }
@@ -489,7 +486,7 @@ fn make_described(
         reached.entry.place (Some descriptor.now))) }
     ensures kept { OnOk result (length arena.old.bytes ≤ length arena.new.bytes) }
 {
-    let Ok(size) = expect(alloc, securities, descriptor, known) else {
+    let Ok(size) = expect(alloc, securities, descriptor, None) else {
         return Err(ArenaFault::Memory);
     };
     let made = match make_keys(alloc, arena, reached, moment, None, size) {
@@ -506,14 +503,14 @@ fn make_described(
         made.security,
         descriptor,
         moment,
-        known,
+        None,
     );
     Ok(made.node)
 }
 
 /// Makes the keys that were found missing on a path, which are some and not too many, and answers the last: with the descriptor that
-/// is given, or else with its parent's, as each other one. The cell of a security that has the one that is given may be known. `Full`,
-/// `Memory`: then the arena is as before, and the table finds what it found.
+/// is given, or else with its parent's, as each other one. `Full`, `Memory`: then the arena is as before, and the table finds what it
+/// found.
 pub fn create_at(
     alloc: Global,
     arena: &mut Arena,
@@ -521,14 +518,12 @@ pub fn create_at(
     reached: Reached<'_>,
     given: Option<&[u8]>,
     moment: u64,
-    known: Option<u32>,
 ) -> Result<Node, ArenaFault>
     requires reached { (from : Node) × (path : List ℕ) × (l : LeadsTo arena.old.bytes from path reached.node reached.missing.now)
         × (l.here.table ≡ securities.old) × (are_too_many (tree_in arena.old.bytes l.here.root) l.here.path (path_of path) ≡ false) }
     requires place { BelongsFirst (heap_of arena.old) reached.node.offset (path_of reached.missing.now) reached.place }
     requires missing { reached.missing.now ≢ [] }
     requires given { IfSome given (λ descriptor. (1 ≤ length descriptor.now) × (length descriptor.now ≤ DESCRIPTOR_LIMIT)) }
-    requires known { IfSome given (λ descriptor. IsKnown securities.old descriptor.now known) }
     ensures ok { (from : Node) → (path : List ℕ) → (l : LeadsTo arena.old.bytes from path reached.entry.node reached.entry.missing.now) →
         l.here.table ≡ securities.old → IfOk result (λ made.
         IsCreated arena.old.bytes arena.new.bytes l.here.root securities.new l.here.path from (path_of path)
@@ -555,7 +550,7 @@ pub fn create_at(
     match given {
         None => make_sharing(alloc, arena, reached, moment),
         Some(descriptor) => {
-            make_described(alloc, arena, securities, reached, descriptor, moment, known)
+            make_described(alloc, arena, securities, reached, descriptor, moment)
         }
     }
 }
@@ -616,7 +611,7 @@ pub fn create(
     if is_limited(arena, reached) {
         return Err(TreeFault::Limit);
     }
-    match create_at(alloc, arena, securities, reached, given, moment, None) {
+    match create_at(alloc, arena, securities, reached, given, moment) {
         Ok(node) => Ok(Created { node, is_new: true }),
         Err(fault) => Err(TreeFault::from(fault)),
     }

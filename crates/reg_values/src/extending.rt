@@ -13,7 +13,7 @@ ghost use Rattle.reg_arena.specs.EachCell.{GrowsFor};
 ghost use Rattle.reg_arena.specs.NewBin.{PassesLimit};
 ghost use Rattle.reg_records.specs.RecordCells.{HasRoom};
 ghost use Rattle.reg_shape.specs.Nodes.{members_at};
-ghost use Rattle.reg_values.specs.ValueLists.{AreValues, Became, KeepsSizes, Makes, OfRead};
+ghost use Rattle.reg_values.specs.ValueLists.{AreValues, Became, KeepsSizes, Makes, OfRead, UnusedAreZero};
 ghost use Rattle.reg_values.specs.NewValues.{all_told, MayFollow, each_value_sizes};
 
 use crate::ValuesList;
@@ -44,6 +44,8 @@ fn extend_sized(
     ensures cells { OnOk result (Makes (heap_of arena.old) (heap_of arena.new) sizes.now) }
     ensures stay { OnOk result (KeepsSizes (heap_of arena.old) (heap_of arena.new)) }
     ensures room { (n : ℕ) → HasRoom (heap_of arena.old) list.offset n → OnOk result (HasRoom (heap_of arena.new) list.offset n) }
+    ensures unused { UnusedAreZero (heap_of arena.old) list.count list.offset →
+        IfOk result (λ after. UnusedAreZero (heap_of arena.new) after.count after.offset) }
     ensures growth { OnOk result (GrowsFor arena.old.bytes arena.new.bytes sizes.now) }
     ensures err { OnErr result (arena.new ≡ arena.old) }
     ensures space { result ≡ Err ArenaFault.Full →
@@ -63,10 +65,10 @@ fn extend_sized(
 }
 
 /// Adds values, in their order, behind those of a list whose cell has room for all of them, and answers the list, which stays in
-/// its cell. Of none the arena is as before. One [`carve`](reg_arena::Arena::carve) takes all cells side by side, so that they
-/// may have at most 16,777,216 bytes together, as [`front_of_one_more_carve`](crate::front_of_one_more_carve) tells. The time that
-/// it takes grows with how much there is to write. The bins grow by at most 4,127 bytes and those of the cells, and only where no
-/// free cell has room for all of them.
+/// its cell. Of none the arena is as before. Where each offset that no value uses was 0, it still is. One
+/// [`carve`](reg_arena::Arena::carve) takes all cells side by side, so that they may have at most 16,777,216 bytes together, as
+/// [`front_of_one_more_carve`](crate::front_of_one_more_carve) tells. The time that it takes grows with how much there is to
+/// write. The bins grow by at most 4,127 bytes and those of the cells, and only where no free cell has room for all of them.
 ///
 /// [`ArenaFault::Full`]: no free cell has room for all cells together, and with a bin more for them there would be more than
 /// 268,435,456 bytes of bins. [`ArenaFault::Memory`]: a growth was refused. After either the arena is as before.
@@ -88,6 +90,8 @@ pub fn extend(
     ensures cells { OnOk result (Makes (heap_of arena.old) (heap_of arena.new) (each_value_sizes (all_told values.now))) }
     ensures stay { OnOk result (KeepsSizes (heap_of arena.old) (heap_of arena.new)) }
     ensures room { (n : ℕ) → HasRoom (heap_of arena.old) list.offset n → OnOk result (HasRoom (heap_of arena.new) list.offset n) }
+    ensures unused { UnusedAreZero (heap_of arena.old) list.count list.offset →
+        IfOk result (λ after. UnusedAreZero (heap_of arena.new) after.count after.offset) }
     ensures growth { OnOk result (GrowsFor arena.old.bytes arena.new.bytes (each_value_sizes (all_told values.now))) }
     ensures err { OnErr result (arena.new ≡ arena.old) }
     ensures space { result ≡ Err ArenaFault.Full →

@@ -2,25 +2,23 @@
 //!
 //! Suhanov, Windows registry file format specification, sections "Key values list" and "Key value".
 
-ghost use Rattle.std.specs.Prelude.{◌≡◌, ◌<◌, ◌+◌, ◌*◌, ◌≤◌, ℕ, List, Some, IsSome, max, slice_get, length, if◌then◌else◌};
+ghost use Rattle.std.specs.Prelude.{◌≡◌, ◌<◌, ◌+◌, ◌*◌, ◌≤◌, ℕ, List, Ok, Some, IsSome, max, slice_get, length, if◌then◌else◌};
 ghost use Rattle.std.specs.List.{fold};
-ghost use Rattle.reg_heap.specs.ByteWords.{half, word};
 ghost use Rattle.reg_heap.specs.Paths.{Member};
 ghost use Rattle.reg_heap.specs.Kinds.{Found};
 ghost use Rattle.reg_heap.specs.Members.{index_named};
 ghost use Rattle.reg_arena.specs.Arena.{heap_of};
 ghost use Rattle.reg_records.specs.RecordCells.{held};
 ghost use Rattle.reg_records.specs.OffsetRows.{offset_in};
-ghost use Rattle.reg_records.specs.KeyValues.{KeyValueRecord, value_record_at};
+ghost use Rattle.reg_records.specs.KeyValues.{KeyValueRecord, value_record_at, vk_of};
 ghost use Rattle.reg_records.specs.BigData.{is_inline, inline_size};
 ghost use Rattle.reg_shape.specs.Nodes.{members_at};
 ghost use Rattle.reg_values.specs.ValueLists.{AreValues, Tells, OfRead};
 
 use crate::{INLINE, ValuesList};
-use byteorder::{ByteOrder, LittleEndian};
-use reg_arena::Arena;
+use reg_arena::{Arena, Stretch};
 use reg_names::same_name;
-use reg_records::{ValueRecord, offset_at, read_vk, vk_name};
+use reg_records::{ValueRecord, offset_at, read_vk, vk_lengths, vk_name};
 
 /// A value, without its bytes.
 #[derive(Clone, Copy, Debug)]
@@ -110,24 +108,6 @@ pub fn at(arena: &Arena, list: ValuesList, index: u32) -> Value<'_>
     }
 }
 
-/// How long the name of a key value is: its second 16-bit number.
-#[tactic(auto, unfolding(reg_heap::specs::ByteWords::half))]
-fn name_length_in(content: &[u8]) -> u16
-    requires { 4 ≤ length content.now }
-    ensures { result ≡ half content.now 2 }
-{
-    LittleEndian::read_u16(&content[2..])
-}
-
-/// The size field of a key value: its second 32-bit number.
-#[tactic(auto, unfolding(reg_heap::specs::ByteWords::word))]
-fn size_field_in(content: &[u8]) -> u32
-    requires { 8 ≤ length content.now }
-    ensures { result ≡ word content.now 4 }
-{
-    LittleEndian::read_u32(&content[4..])
-}
-
 /// The larger of both lengths, and the larger of both sizes.
 fn larger(a: LargestValues, b: LargestValues) -> LargestValues
     ensures name { result.name ≡ max a.name b.name }
@@ -139,21 +119,22 @@ fn larger(a: LargestValues, b: LargestValues) -> LargestValues
     }
 }
 
-/// The length of one value's name and the size of its data, by the record in a cell. It reads no more than these two numbers.
-fn lengths_at(arena: &Arena, cell: u32) -> LargestValues
-    requires { IsSome (value_record_at (heap_of arena.now) cell) }
-    ensures name { (record_is : KeyValueRecord) → value_record_at (heap_of arena.now) cell ≡ Some record_is → result.name ≡ length record_is.name }
-    ensures size { (record_is : KeyValueRecord) → value_record_at (heap_of arena.now) cell ≡ Some record_is →
+/// The length of one value's name and the size of its data, by what its record's cell holds. It reads no more than these two numbers.
+fn lengths_in(content: &[u8]) -> LargestValues
+    requires { (record_is : KeyValueRecord) × (vk_of content.now ≡ Ok record_is) }
+    ensures name { (record_is : KeyValueRecord) → vk_of content.now ≡ Ok record_is → result.name ≡ length record_is.name }
+    ensures size { (record_is : KeyValueRecord) → vk_of content.now ≡ Ok record_is →
         result.size ≡ (if is_inline record_is.fields.size then inline_size record_is.fields.size else record_is.fields.size) }
 {
-    let content = arena.content(cell);
+    let lengths = vk_lengths(content);
     LargestValues {
-        name: u32::from(name_length_in(content)),
-        size: size_in(size_field_in(content)),
+        name: u32::from(lengths.name),
+        size: size_in(lengths.size),
     }
 }
 
-/// What is largest among the values of a list. It goes once over their records, and reads two numbers of each.
+/// What is largest among the values of a list. It goes once over their records, and reads two numbers of each. Most records of a list
+/// stand behind one another in few bins, so a bin is looked up only where it is another than the last record's.
 pub fn largest(arena: &Arena, list: ValuesList) -> LargestValues
     requires { AreValues (heap_of arena.now) list.count list.offset }
     ensures name { OfRead (members_at list.count list.offset) (heap_of arena.now)
@@ -166,8 +147,11 @@ pub fn largest(arena: &Arena, list: ValuesList) -> LargestValues
         return largest;
     }
     let row = arena.content(list.offset);
+    let mut stretch = Stretch::empty();
     for index in 0..list.count {
-        largest = larger(largest, lengths_at(arena, offset_at(row, index)));
+        let cell = arena.content_by(stretch, offset_at(row, index));
+        stretch = cell.stretch;
+        largest = larger(largest, lengths_in(cell.content));
     }
     largest
 }

@@ -15,8 +15,8 @@ ghost use Rattle.reg_arena.specs.Carves.{NoFit};
 ghost use Rattle.reg_arena.specs.EachCell.{GrowsFor};
 ghost use Rattle.reg_arena.specs.NewBin.{PassesLimit};
 ghost use Rattle.reg_records.specs.RecordCells.{HasRoom, held};
-ghost use Rattle.reg_records.specs.OffsetRows.{offsets_at};
-ghost use Rattle.reg_values.specs.ValueLists.{Became, KeepsSizes, Makes};
+ghost use Rattle.reg_records.specs.OffsetRows.{offset_in, offsets_at};
+ghost use Rattle.reg_values.specs.ValueLists.{Became, KeepsSizes, Makes, UnusedAreZero};
 ghost use Rattle.reg_values.specs.NewValues.{all_told, MayFollow, each_value_sizes, all_value_sizes};
 ghost use Rattle.reg_values.specs.Internal.ValueListParts.{Fills, HaveRoom, StandBehind};
 
@@ -102,6 +102,8 @@ pub(crate) fn fill(arena: &mut Arena, list: u32, first: u32, cells: &[u32], valu
     ensures fills { Fills (heap_of arena.old) (heap_of arena.new) (list ∷ cells.now) }
     ensures stand { StandBehind (heap_of arena.new) list first (all_told values.now) cells.now }
     ensures front { offsets_at first 0 (held (heap_of arena.new) list) ≡ offsets_at first 0 (held (heap_of arena.old) list) }
+    ensures behind { (n : ℕ) → first + length values.now ≤ n →
+        offset_in (held (heap_of arena.new) list) n ≡ offset_in (held (heap_of arena.old) list) n }
     ensures long { length arena.new.bytes ≡ length arena.old.bytes }
 {
     let mut from = 0;
@@ -137,6 +139,7 @@ fn make_sized(
     requires fits { total_of sizes.now ≤ CARVE_LIMIT }
     ensures ok { IfOk result (λ after. Became (heap_of arena.old) (heap_of arena.new) [] after.count after.offset (all_told values.now)) }
     ensures room { IfOk result (λ after. HasRoom (heap_of arena.new) after.offset (4 * room)) }
+    ensures unused { IfOk result (λ after. UnusedAreZero (heap_of arena.new) after.count after.offset) }
     ensures cells { OnOk result (Makes (heap_of arena.old) (heap_of arena.new) sizes.now) }
     ensures stay { OnOk result (KeepsSizes (heap_of arena.old) (heap_of arena.new)) }
     ensures growth { OnOk result (GrowsFor arena.old.bytes arena.new.bytes sizes.now) }
@@ -160,9 +163,9 @@ fn make_sized(
 }
 
 /// Makes values, in their order, as all that a key has that had none, and answers their list, whose cell has room for `room`
-/// values, from their number to 16,384; of no values there is none. So many can be had before the list moves. One
-/// [`carve`](reg_arena::Arena::carve) takes all cells side by side, so that they may have at most 16,777,216 bytes together, as
-/// [`front_of_one_carve`] tells. The time that it takes grows with how much there is to write.
+/// values, from their number to 16,384; of no values there is none. So many can be had before the list moves, and each offset that
+/// no value uses yet is 0. One [`carve`](reg_arena::Arena::carve) takes all cells side by side, so that they may have at most
+/// 16,777,216 bytes together, as [`front_of_one_carve`] tells. The time that it takes grows with how much there is to write.
 /// The bins grow by at most 4,127 bytes and those of the cells, and only where no free cell has room for all of them.
 ///
 /// [`ArenaFault::Full`]: no free cell has room for all cells together, and with a bin more for them there would be more than
@@ -179,6 +182,7 @@ pub fn make(
     requires fits { total_of (all_value_sizes room (all_told values.now)) ≤ CARVE_LIMIT }
     ensures ok { IfOk result (λ after. Became (heap_of arena.old) (heap_of arena.new) [] after.count after.offset (all_told values.now)) }
     ensures room { IfOk result (λ after. 0 < after.count → HasRoom (heap_of arena.new) after.offset (4 * room)) }
+    ensures unused { IfOk result (λ after. 0 < after.count → UnusedAreZero (heap_of arena.new) after.count after.offset) }
     ensures cells { OnOk result (Makes (heap_of arena.old) (heap_of arena.new) (all_value_sizes room (all_told values.now))) }
     ensures stay { OnOk result (KeepsSizes (heap_of arena.old) (heap_of arena.new)) }
     ensures growth { OnOk result (GrowsFor arena.old.bytes arena.new.bytes (all_value_sizes room (all_told values.now))) }

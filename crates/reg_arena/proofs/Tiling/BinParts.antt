@@ -137,7 +137,7 @@ end-by start n parts at more l m rest (inr past) =
     rw (le-ltb more (start + n) (omega (arith, past, l)), le-ltb at (start + n) past) (rest (omega (arith, m, here)))
 
 -- where the vector of a byte goes on past another byte, that one lies in it too
-end-same : (start : ℕ) (parts : List ℕ) (at more : ℕ) → at ≤ more → more < end_from start parts at → end_from start parts more ≡ end_from start parts at
+pub end-same : (start : ℕ) (parts : List ℕ) (at more : ℕ) → at ≤ more → more < end_from start parts at → end_from start parts more ≡ end_from start parts at
 end-same start [] at more l m = absurd (omega (arith, m))
 end-same start (n ∷ parts) at more l m = end-by start n parts at more l m (end-same (start + n) parts at more l) (cases_lt at (start + n))
 

@@ -61,6 +61,10 @@ fresh-unused h0 h1 h2 all s l ds a f =
     let same = times-same z in
     kept-unused h1 h2 0 z (kept-apart h1 h2 _ _ f.writes z (omega (arith, one)) (omega (arith, apart, same))) (zeros-unused h1 z (l - 4) here)
 
+-- the first of the cells that were just carved
+pub new-list-unused : (h0 h1 : Heap) (all : List ℕ) (l : ℕ) (ss : List ℕ) → AreNew h0 h1 all (l ∷ ss) → UnusedAreZero h1 0 (get_or all 0 0)
+new-list-unused h0 h1 all l ss a = zeros-unused h1 (get_or all 0 0) (l - 4) (a.zeros 0 (omega arith))
+
 -- the list's old cell was given up
 module _ (h0 h1 h2 h3 : Heap) (count old offset : ℕ) (some : 0 < count) (row : List ℕ) (met : List Found) (e : list_at count old h0 ≡ Some (row, met))
     (once : (z : ℕ) → owned z met + times z (offset ∷ []) ≤ allocated h0 z) (f1 : Fills h0 h1 (offset ∷ [])) (f2 : Fills h1 h2 (offset ∷ [])) (g : GivesUp h2 h3 (old ∷ [])) where

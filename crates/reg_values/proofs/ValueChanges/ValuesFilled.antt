@@ -88,6 +88,7 @@ pub record AreFilled (h0 h : Heap) (list first : ℕ) (cells : List ℕ) (member
   pub met : List Found
   pub values : AreRead h (offsets_at index (4 * first) (held h list)) (take index members) met
   pub front : offsets_at first 0 (held h list) ≡ offsets_at first 0 (held h0 list)
+  pub behind : (n : ℕ) → first + index ≤ n → offset_in (held h list) n ≡ offset_in (held h0 list) n
   pub exact : (z : ℕ) → owned z met + times z (drop from cells) ≡ times z cells
 
 pub none-filled : (h : Heap) (list first : ℕ) (cells : List ℕ) (members : List Member) → HaveRoom h cells (each_value_sizes members) →
@@ -99,6 +100,7 @@ none-filled h list first cells members r = record {
   met = [];
   values = record { reads = refl; written = tt; inner = tt };
   front = refl;
+  behind = λ n l. refl;
   exact = λ z. omega arith;
 }
 
@@ -177,6 +179,11 @@ module _ (h0 h : Heap) (list first : ℕ) (cells : List ℕ) (members : List Mem
           row-before (held h2 list) (held h3 list) first (λ j l. others j (λ e. absurd (omega (arith, l, e))))
           ∙ (row2 first 0 ∙ a.front)
 
+      behind3 : (n : ℕ) → first + (index + 1) ≤ n → offset_in (held h3 list) n ≡ offset_in (held h0 list) n
+      behind3 n l =
+          others n (λ e. absurd (omega (arith, l, e)))
+          ∙ (ap (λ o. offset_in (held (λ _. o) list) n) (fills-same h h2 (cell ∷ data_of) list f apart) ∙ a.behind n (omega (arith, l)))
+
       values3 : AreRead h3 (offsets_at index (4 * first) (held h list) ++ cell ∷ []) (take index members ++ m ∷ []) (a.met ++ v.met)
       values3 =
           let a2 = values-kept h h2 _ _ f.writes _ _ _ (λ z. let t = all-there z in omega (arith, t)) a.values in
@@ -196,6 +203,7 @@ module _ (h0 h : Heap) (list first : ℕ) (cells : List ℕ) (members : List Mem
         values = subst (λ row. AreRead h3 row (take (index + 1) members) (a.met ++ v.met)) (sym row3)
             (subst (λ ms. AreRead h3 (offsets_at index (4 * first) (held h list) ++ cell ∷ []) ms (a.met ++ v.met)) (sym more) values3);
         front = front3;
+        behind = behind3;
         exact = λ z. (let e = a.exact z in let s = split z in let o = v.owns z in omega (arith, e, s, o, owned-append z a.met v.met));
       }
         where

@@ -1,18 +1,7 @@
 -- What is largest among values, gone over from the first to the last.
 use Rattle.std.proofs.Common.{◌≡◌, ℕ, zero, suc, ◌+◌, ◌≤◌, List, [], ◌∷◌, length, drop, max, refl, sym, ap, ◌∙◌, arith, add-one}
-use Rattle.std.specs.Prelude.{Ok}
 use Rattle.std.specs.List.{fold}
-use Rattle.std.proofs.lemmas.List.{length-drop, length-take-le}
-use Rattle.reg_heap.specs.ByteWords.{half}
 use Rattle.reg_heap.specs.Paths.{Member}
-use Rattle.reg_records.specs.KeyValues.{KeyValueRecord, vk_of}
-use Rattle.reg_records.proofs.KeyValueCodec.{vk-open}
-
--- a record's name is as long as its field says
-pub name-long : (content : List ℕ) (r : KeyValueRecord) → vk_of content ≡ Ok r → length r.name ≡ half content 2
-name-long content r e =
-    let v = vk-open content r e in
-    ap (λ (r : KeyValueRecord). length r.name) v.same ∙ length-take-le (half content 2) (drop 20 content) (omega (arith, v.enough, length-drop 20 content))
 
 module _ (f : Member → ℕ) (members : List Member) where
   -- the larger of what was the largest so far and of one value more

@@ -5,7 +5,6 @@ use Rattle.reg_tree.specs.Internal.DescriptorChange.{IsExpected}
 use Rattle.reg_tree.proofs.PathWalk.ReachedSeen.{named}
 use Rattle.reg_tree.proofs.InsertKey.DescribedLast.{security-size, describable, created_described, none_at_end, some_names, room_with, cells_with, growth_with}
 use Rattle.reg_tree.proofs.InsertKey.MadeCells.{stay-keeping}
-use Rattle.reg_tree.proofs.DescribeKey.SecurityShared.{known-expected}
 use Rattle.reg_tree.proofs.make.make_described.Goals as goal
 
 pub make_keys-requires-clause-reached : goal.make_keys-requires-clause-reached
@@ -28,10 +27,6 @@ describe-requires-clause-here c =
     let made = c.in-Ok-make_keys.made in
     let room = c.in-Ok-make_keys.ensures.room in
     describable _ _ _ l.here _ c.args.moment c.in-Ok.size made.class made.security made.node (c.in-Ok-make_keys.ensures.ok _ _ l) room.0 room.1 _ c.args.descriptor.now x
-
-pub describe-requires-clause-known : goal.describe-requires-clause-known
-describe-requires-clause-known c =
-    known-expected c.args.securities.now c.expect.new.securities c.args.descriptor.now c.in-Ok.size c.args.known c.in-Ok.ensures.ok c.requires.known
 
 pub returns-clause-ok : goal.returns-clause-ok
 returns-clause-ok c = λ from path l same.

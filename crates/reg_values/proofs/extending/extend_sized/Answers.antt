@@ -1,4 +1,4 @@
-use Rattle.std.proofs.Common.{ℕ, ◌+◌, ◌≤◌, ◌++◌, List, sym, subst, arith}
+use Rattle.std.proofs.Common.{ℕ, ◌+◌, ◌≤◌, ◌++◌, ◌∙◌, List, sym, subst, arith}
 use Rattle.reg_heap.specs.Heaps.{allocated}
 use Rattle.reg_heap.specs.Kinds.{Found, owned}
 use Rattle.reg_arena.specs.Arena.{heap_of}
@@ -11,7 +11,8 @@ use Rattle.reg_values.proofs.ValueData.FilledCells.{fills-room}
 use Rattle.reg_values.proofs.ValueChanges.KeptSizes.{fills-keeps, new-first}
 use Rattle.reg_values.proofs.ValueChanges.ValuesPlanned.{small-each, told-length, each-ok, some-each}
 use Rattle.reg_values.proofs.ValueChanges.ValuesMade.{exact-grows, grows-as}
-use Rattle.reg_values.proofs.ValueChanges.ValuesExtended.{new-cells, room-there, cells-room, list-beside, extended, extend-makes, told-room}
+use Rattle.reg_values.proofs.ValueChanges.ValuesExtended.{new-cells, there-kept, room-there, cells-room, list-beside, extended, extend-makes, told-room}
+use Rattle.reg_values.proofs.ValueChanges.UnusedOffsets.{kept-unused}
 use Rattle.reg_values.proofs.extending.extend_sized.Goals as goal
 
 pub carve-requires-clause-sizes : goal.carve-requires-clause-sizes
@@ -87,6 +88,15 @@ returns-clause-room c = λ n r.
     let o = c.in_ok-carve.ensures.ok (some-each c.args.values.now c.args.sizes.now c.requires.sizes c.requires.some) in
     let a = new-cells h0 h1 c.args.sizes.now _ c.deref.result.now _ _ o.0 c.requires.sizes c.deref.ensures.value o.1 c.in-Ok.ensures.items o.3.are_new in
     fills-room h1 (heap_of c.fill.new.arena) _ c.args.list.offset n c.fill.ensures.fills (room-there h0 h1 c.deref.result.now _ a c.args.list.offset n r)
+
+pub returns-clause-unused : goal.returns-clause-unused
+returns-clause-unused c = λ unused n l.
+    let h0 = heap_of c.args.arena.now in
+    let h1 = heap_of c.carve.new.self in
+    let o = c.in_ok-carve.ensures.ok (some-each c.args.values.now c.args.sizes.now c.requires.sizes c.requires.some) in
+    let a = new-cells h0 h1 c.args.sizes.now _ c.deref.result.now _ _ o.0 c.requires.sizes c.deref.ensures.value o.1 c.in-Ok.ensures.items o.3.are_new in
+    let kept = there-kept h0 h1 c.deref.result.now _ a c.args.list.offset c.requires.room.exists in
+    c.fill.ensures.behind n (omega (arith, l)) ∙ kept-unused h0 h1 c.args.list.count c.args.list.offset kept unused n (omega (arith, l))
 
 pub returns-clause-growth : goal.returns-clause-growth
 returns-clause-growth c =

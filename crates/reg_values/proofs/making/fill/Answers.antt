@@ -147,3 +147,10 @@ returns-clause-stand c =
     let e = c.loop-index.auto.index-end in
     all-filled h0 (heap_of c.loop-index.arena) c.args.list c.args.first c.args.cells.now (all_told values) c.loop-index.index c.loop-index.from c.loop-index.invariant.filled
     (omega (arith, n, f, e))
+
+pub returns-clause-behind : goal.returns-clause-behind
+returns-clause-behind c = λ n l.
+    let v = told-length c.args.values.now in
+    let f = c.loop-index-test.false in
+    let e = c.loop-index.auto.index-end in
+    c.loop-index.invariant.filled.behind n (omega (arith, l, v, f, e))

@@ -7,6 +7,7 @@ use Rattle.reg_values.proofs.ValueData.NewCellRoom.{room-less}
 use Rattle.reg_values.proofs.ValueChanges.ValuesPlanned.{small-each, told-length, all-ok, all-sizes, some-sizes}
 use Rattle.reg_values.proofs.ValueChanges.KeptSizes.{fills-keeps, new-first}
 use Rattle.reg_values.proofs.ValueChanges.ValuesMade.{some-cells, list-space, list-space2, other-room, list-apart, filled-makes, together, new-cells, exact-grows, grows-as}
+use Rattle.reg_values.proofs.ValueChanges.UnusedOffsets.{new-list-unused}
 use Rattle.reg_values.proofs.making.make_sized.Goals as goal
 
 pub carve-requires-clause-sizes : goal.carve-requires-clause-sizes
@@ -85,6 +86,16 @@ returns-clause-room c =
     let a = new-cells h0 h1 values c.args.room c.args.sizes.now all _ _ o.0 c.requires.sizes c.requires.some c.as_slice-all.ensures.value o.1 c.in-Ok.ensures.items o.3.are_new in
     let h2 = heap_of c.fill.new.arena in
     room-less h2 (get_or all 0 0) _ (4 * c.args.room) (omega arith) (list-space2 h0 h1 all _ _ a h2 c.fill.ensures.fills)
+
+pub returns-clause-unused : goal.returns-clause-unused
+returns-clause-unused c = λ n l.
+    let h0 = heap_of c.args.arena.now in
+    let h1 = heap_of c.carve.new.self in
+    let values = c.args.values.now in
+    let all = c.as_slice-all.result.now in
+    let o = c.in_ok-carve.ensures.ok (some-sizes values c.args.room c.args.sizes.now c.requires.sizes c.requires.some) in
+    let a = new-cells h0 h1 values c.args.room c.args.sizes.now all _ _ o.0 c.requires.sizes c.requires.some c.as_slice-all.ensures.value o.1 c.in-Ok.ensures.items o.3.are_new in
+    c.fill.ensures.behind n (omega (arith, l)) ∙ new-list-unused h0 h1 all _ _ a n (omega arith)
 
 pub returns-clause-cells : goal.returns-clause-cells
 returns-clause-cells c =
