@@ -8,19 +8,14 @@ use reg_test_support::assert_report;
 use std::alloc::Global;
 use std::test::Fail;
 
-/// A question of session 3 for the value `name`.
-fn question(alloc: Global) -> Result<Step, Fail> {
+/// A question for the value `name`.
+fn question(alloc: Global) -> Result<Call, Fail> {
     let name = Bytes::from_slice(alloc, b"name")?.into_vec();
-    let query = Query::QueryValue {
+    Ok(Call::Query(Query::QueryValue {
         handle: 0,
         name: Bytes::from_vec(name),
         room: Some(2),
-    };
-    Ok(Step {
-        session: 0,
-        moment: 9,
-        call: Call::Query(query),
-    })
+    }))
 }
 
 /// The copies of a question and of what is answered to it.
@@ -32,9 +27,15 @@ fn copied(alloc: Global, step: &Step, outcomes: &[Outcome]) -> Result<String, Fa
     Ok(text)
 }
 
-/// What is answered to a step.
-fn run_one(alloc: Global, hive: &mut PlainHive, step: Step) -> Result<Vec<Outcome>, Fail> {
-    Ok(hive.run(vec![in alloc; step]?)?)
+/// What is answered to a call as the one step of a run.
+fn run_one(alloc: Global, hive: &mut PlainHive, call: Call) -> Result<Vec<Outcome>, Fail> {
+    let step = Step {
+        session: 0,
+        moment: 9,
+        call,
+    };
+    let steps = vec![in alloc; step]?;
+    Ok(hive.run(steps)?)
 }
 
 /// The text of a copy of an entry.
@@ -47,8 +48,13 @@ fn copied_entry(alloc: Global, entry: Option<&Entry>) -> Result<String, Fail> {
 
 fn told_in(alloc: Global, hive: &mut PlainHive) -> Result<String, Fail> {
     let _set = replies(alloc, hive, "root 983103\nat 7\nset 0 =name 3 x0809\n")?;
-    let step = question(alloc)?;
-    let outcomes = run_one(alloc, hive, step.try_clone(alloc)?)?;
+    let call = question(alloc)?;
+    let outcomes = run_one(alloc, hive, call.try_clone(alloc)?)?;
+    let step = Step {
+        session: 3,
+        moment: 9,
+        call,
+    };
     let mut text = copied(alloc, &step, &outcomes)?;
     text.push_str(copied_entry(alloc, hive.entry(1))?.as_str())?;
     Ok(text)
@@ -64,7 +70,7 @@ fn copies_of_a_step_an_outcome_and_an_entry(rt: HostRuntime) -> Result<(), Fail>
     assert_report(
         told(rt.alloc()),
         "\
-Step { session: 0, moment: 9, call: Query(QueryValue { handle: 0, name: Bytes { items: [110, 97, 109, 101] }, room: Some(2) }) }
+Step { session: 3, moment: 9, call: Query(QueryValue { handle: 0, name: Bytes { items: [110, 97, 109, 101] }, room: Some(2) }) }
 Answered(Answer { at: 2, body: Value { kind: 3, size: 2, bytes: Some(Bytes { items: [8, 9] }) } })
 Entry { number: 1, session: 0, moment: 7, \
 change: SetValue { handle: 0, name: Bytes { items: [110, 97, 109, 101] }, kind: 3, bytes: Bytes { items: [8, 9] } }, \

@@ -7,7 +7,7 @@ use reg_tree_image::load_tree;
 use std::alloc::{AllocError, Global};
 use std::test::Fail;
 
-/// An image: so many keys below the root, of so many values each, of so many bytes each, and another key.
+/// An image: so many keys below the root, of so many values each, of so many bytes each (a multiple of 16), and another key.
 #[derive(Clone, Copy)]
 struct Image {
     keys: u32,
@@ -33,8 +33,8 @@ fn push_key(table: &mut String, image: Image, number: u32, behind: u32) -> Resul
         let data = line.saturating_sub(1);
         write!(
             table,
-            "\nfill {} x61616161\nvk {size} @{data} 3 1 =v{value:05}",
-            size / 4
+            "\nfill {} x61616161616161616161616161616161\nvk {size} @{data} 3 1 =v{value:05}",
+            size / 16
         )?;
     }
     table.push_str("\nrow")?;
@@ -100,14 +100,14 @@ fn check(alloc: Global, image: Image, rows: &[Row]) -> Result<(), Fail> {
     Ok(())
 }
 
-// A record of 20 bytes and 6 of a name has a cell of 32 bytes, data of 1,100 bytes one of 1,104, of 4,080 bytes one of 4,088; a list of
+// A record of 20 bytes and 6 of a name has a cell of 32 bytes, data of 1,104 bytes one of 1,112, of 4,080 bytes one of 4,088; a list of
 // 16,384 values 65,544, of 13,256 values 53,032; each key node 88, their security 48, the list of two subkeys 24, of four 40:
-// 16,384 * 1,136 + 65,544 + 3 * 88 + 48 + 24, and 3 * (13,256 * 4,120 + 53,032) + 5 * 88 + 48 + 40. Values are put in carves of up to
+// 16,384 * 1,144 + 65,544 + 3 * 88 + 48 + 24, and 3 * (13,256 * 4,120 + 53,032) + 5 * 88 + 48 + 40. Values are put in carves of up to
 // 16,777,216 bytes, side by side, so that the bins have little more.
 #[test]
 fn values_of_several_carves_fit(rt: HostRuntime) -> Result<(), Fail> {
     for (keys, values, size, wanted) in [
-        (1, 16_384, 1_100, "18678104 close"),
+        (1, 16_384, 1_104, "18809176 close"),
         (3, 13_256, 4_080, "164003784 close"),
     ] {
         let image = Image { keys, values, size };

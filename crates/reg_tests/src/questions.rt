@@ -200,14 +200,10 @@ fn parse(row: &str) -> Option<Row<'_>> {
 }
 
 /// Appends a text so many times, with `#` for how many times it came before.
-fn push_repeated(
-    alloc: Global,
-    to: &mut String,
-    count: u32,
-    repeated: &str,
-) -> Result<(), AllocError> {
+fn push_repeated(to: &mut String, count: u32, repeated: &str) -> Result<(), AllocError> {
+    let numbered = repeated.split_once('#');
     for turn in 0..count {
-        match repeated.split_once('#') {
+        match numbered {
             Some((front, rest)) => write!(to, "{front}{turn}{rest}")?,
             None => to.push_str(repeated)?,
         }
@@ -228,7 +224,7 @@ fn lines_of(alloc: Global, text: &str) -> Result<String, AllocError> {
     for piece in text.split('{') {
         match repetition_in(piece) {
             Some((count, repeated, rest)) => {
-                push_repeated(alloc, &mut lines, count, repeated)?;
+                push_repeated(&mut lines, count, repeated)?;
                 lines.push_str(rest)?;
             }
             None => lines.push_str(piece)?,
