@@ -1,10 +1,9 @@
 //! Readers and writers that fail at each place: what is told of them.
-use crate::devices::{NarrowWriter, SlowReader};
 use crate::hives::{Subject, fresh_hive};
 use crate::tools::write_image_by_tool;
 use crate::verdicts::{Tally, judge};
 use anyhow::{Result, bail};
-use reg_fixtures::{PlainHive, Registry};
+use reg_fixtures::{Failure, FakeReader, FakeWriter, PlainHive, Registry, wide};
 use reg_script::ScriptFault;
 use reg_tree_image::write_image;
 use reg_tree_text::{DumpFault, dump};
@@ -26,13 +25,28 @@ impl Device {
     fn places(self, len: usize) -> usize {
         len.checked_div(self.stride).unwrap_or(0)
     }
+
+    /// A writer of so much room.
+    fn writer(self, alloc: Global, room: usize) -> FakeWriter {
+        let failure = if self.fails {
+            Failure::Write
+        } else {
+            Failure::Zero
+        };
+        FakeWriter {
+            taken: Vec::new(alloc),
+            step: self.step,
+            room,
+            failure,
+        }
+    }
 }
 
 /// The verdicts on an image from readers that end or fail behind its fronts.
 pub fn readers(alloc: Global, image: &[u8], device: Device) -> Result<Tally> {
     let mut tally = Tally::NONE;
     for place in 0..device.places(image.len()) {
-        let mut reader = SlowReader {
+        let mut reader = FakeReader {
             rest: image
                 .get(..place.saturating_mul(device.stride))
                 .unwrap_or(image),
@@ -57,7 +71,7 @@ pub enum Work<'a> {
     ToolImage,
 }
 
-fn dump_to<H: Subject>(alloc: Global, hive: &H, writer: &mut NarrowWriter) -> Result<Option<u64>> {
+fn dump_to<H: Subject>(alloc: Global, hive: &H, writer: &mut FakeWriter) -> Result<Option<u64>> {
     match dump(alloc, hive.tree(), writer) {
         Ok(()) => Ok(None),
         Err(DumpFault::Write { written }) => Ok(Some(written)),
@@ -65,7 +79,7 @@ fn dump_to<H: Subject>(alloc: Global, hive: &H, writer: &mut NarrowWriter) -> Re
     }
 }
 
-fn write_dump(alloc: Global, image: &[u8], writer: &mut NarrowWriter) -> Result<Option<u64>> {
+fn write_dump(alloc: Global, image: &[u8], writer: &mut FakeWriter) -> Result<Option<u64>> {
     let mut input = image;
     let hive = PlainHive::loaded(alloc, &mut input)?;
     dump_to(alloc, &hive, writer)
@@ -75,7 +89,7 @@ fn reply_to<H: Subject>(
     alloc: Global,
     hive: &mut H,
     script: &[u8],
-    writer: &mut NarrowWriter,
+    writer: &mut FakeWriter,
 ) -> Result<Option<u64>> {
     match hive.ran(alloc, script, writer) {
         Ok(()) => Ok(None),
@@ -84,14 +98,14 @@ fn reply_to<H: Subject>(
     }
 }
 
-fn write_replies(alloc: Global, script: &[u8], writer: &mut NarrowWriter) -> Result<Option<u64>> {
+fn write_replies(alloc: Global, script: &[u8], writer: &mut FakeWriter) -> Result<Option<u64>> {
     let mut hive: PlainHive = fresh_hive(alloc)?;
     reply_to(alloc, &mut hive, script, writer)
 }
 
 impl<'a> Work<'a> {
     /// Writes it, and tells after how many bytes the fault says that the writer failed.
-    fn write(self, alloc: Global, writer: &mut NarrowWriter) -> Result<Option<u64>> {
+    fn write(self, alloc: Global, writer: &mut FakeWriter) -> Result<Option<u64>> {
         match self {
             Work::Image(image) => Ok(match write_image(image, writer) {
                 Ok(()) => None,
@@ -105,7 +119,7 @@ impl<'a> Work<'a> {
 
     /// All that is written where the writer takes it.
     fn whole(self, alloc: Global) -> Result<Vec<u8>> {
-        let mut writer = NarrowWriter::new(alloc, usize::MAX, usize::MAX, false);
+        let mut writer = wide(alloc);
         match self.write(alloc, &mut writer)? {
             None => Ok(writer.taken),
             Some(_) => bail!("a wide writer failed"),
@@ -114,7 +128,7 @@ impl<'a> Work<'a> {
 
     /// Whether a writer of so much room takes just a front, and the fault tells how long that is.
     fn is_told(self, alloc: Global, whole: &[u8], device: Device, room: usize) -> Result<bool> {
-        let mut writer = NarrowWriter::new(alloc, device.step, room, device.fails);
+        let mut writer = device.writer(alloc, room);
         let told = self.write(alloc, &mut writer)?;
         let wanted = if room < whole.len() {
             Some(room as u64)

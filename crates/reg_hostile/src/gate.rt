@@ -2,10 +2,12 @@
 use crate::failures::{Device, Work, readers};
 use crate::fuzz::fuzz;
 use crate::hives::scripted;
+use crate::notices::run_notices;
 use crate::rows::run_rows;
 use crate::seeds::{RECORDS_END, SCRIPTS, every_record, images};
 use crate::sweeps::{all_bits, fronts, sealed_bits, some_bits};
 use crate::tools::is_told_by_tool;
+use crate::trips::{make_refusals, make_trips};
 use anyhow::Result;
 use reg_fixtures::PlainHive;
 use std::alloc::Global;
@@ -146,5 +148,8 @@ pub fn run(rt: &impl Print, alloc: Global) -> Result<()> {
     let (of_images, of_scripts) = fuzz::<PlainHive>(alloc, 1, SEEDS)?;
     println!(rt; "images of {SEEDS} seeds: {of_images}")?;
     println!(rt; "scripts of {SEEDS} seeds: {of_scripts}")?;
-    run_rows::<PlainHive>(rt, alloc)
+    run_rows::<PlainHive>(rt, alloc)?;
+    run_notices::<PlainHive>(rt, alloc)?;
+    make_trips::<PlainHive>(rt, alloc)?;
+    make_refusals::<PlainHive>(rt, alloc)
 }

@@ -1,9 +1,8 @@
 //! What the tool tells of images.
-use crate::devices::NarrowWriter;
 use crate::hives::{Subject, dumped};
 use anyhow::{Result, bail};
 use reg_command::tool;
-use reg_fixtures::PlainHive;
+use reg_fixtures::{FakeWriter, PlainHive};
 use std::alloc::Global;
 
 /// What the tool writes to its output where it reads an image, and its status.
@@ -48,7 +47,7 @@ fn written_by(errors: &[u8]) -> Result<u64> {
 }
 
 /// Writes the image of a fresh hive by the tool, and tells after how many bytes it says that the writer failed.
-pub fn write_image_by_tool(alloc: Global, writer: &mut NarrowWriter) -> Result<Option<u64>> {
+pub fn write_image_by_tool(alloc: Global, writer: &mut FakeWriter) -> Result<Option<u64>> {
     let words = vec![in alloc;
         "regtool".to_string(alloc)?,
         "run".to_string(alloc)?,
