@@ -19,10 +19,14 @@ fn failure(failing: Failing) -> io::Result<usize> {
 
 /// How many bytes the first line of a text has, with its LF.
 fn first_line(text: &[u8]) -> usize {
-    match text.iter().position(|byte| *byte == b'\n') {
-        Some(feed) => feed.saturating_add(1),
-        None => text.len(),
+    let mut len = 0usize;
+    for byte in text {
+        len = len.saturating_add(1);
+        if *byte == b'\n' {
+            break;
+        }
     }
+    len
 }
 
 /// Gives the input of a step.
@@ -73,7 +77,9 @@ impl Read for Input<'_> {
         }
         let count = buf.len().min(room);
         let given = self.rest.read(&mut buf[..count])?;
-        if buf.get(..given).is_some_and(|piece| piece.ends_with(b"\n")) {
+        if let Some(piece) = buf.get(..given)
+            && piece.ends_with(b"\n")
+        {
             self.await_reply();
         }
         Ok(given)

@@ -21,10 +21,8 @@ const BETWEEN: &str = " | ";
 /// What a command line gives.
 fn outcome_of(rt: &HostRuntime, line: &str, given: &Given, scene: &mut Scene) -> Result<Outcome> {
     let command = read_line(rt.alloc(), line)?;
-    if command
-        .words
-        .first()
-        .is_some_and(|word| word.as_str() == "regtool")
+    if let [name, ..] = command.words.as_slice()
+        && name.as_str() == "regtool"
     {
         let outcome = tool(rt, &command, given)?;
         scene.note(&outcome);

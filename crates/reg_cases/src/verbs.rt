@@ -95,21 +95,14 @@ fn in_form(alloc: Global, text: &str, form: &str) -> Result<Vec<u8>> {
     }
 }
 
-/// Whether words name bytes.
-fn are_bytes(words: &[String]) -> bool {
-    words
-        .first()
-        .is_some_and(|word| word.starts_with('=') || word.starts_with('x'))
-}
-
 /// Makes a file: of the bytes that words name, or of the lines that were given.
 fn put(rt: &HostRuntime, path: &str, words: &[String], given: &Given) -> Result<()> {
     let alloc = rt.alloc();
-    if !are_bytes(words) {
-        let form = match words.first() {
-            Some(form) => form.as_str(),
-            None => "lf",
-        };
+    let form = match words.first() {
+        Some(form) => form.as_str(),
+        None => "lf",
+    };
+    if !form.starts_with('=') && !form.starts_with('x') {
         return write(rt, path, &in_form(alloc, given.input.as_str(), form)?);
     }
     let mut bytes = Vec::new(alloc);

@@ -97,13 +97,9 @@ pub fn image_of<H: Subject>(alloc: Global, hive: &H) -> Result<Vec<u8>> {
     Ok(hive.imaged(alloc)?)
 }
 
-fn image_after<H: Subject>(alloc: Global, hive: &mut H, script: &[u8]) -> Result<Vec<u8>> {
-    let _replies = run_on(alloc, hive, script)?;
-    image_of(alloc, hive)
-}
-
 /// The image of a fresh hive after a script.
-pub fn scripted(alloc: Global, script: &[u8]) -> Result<Vec<u8>> {
-    let mut hive: PlainHive = fresh_hive(alloc)?;
-    image_after(alloc, &mut hive, script)
+pub fn scripted<H: Subject>(alloc: Global, script: &[u8]) -> Result<Vec<u8>> {
+    let mut hive: H = fresh_hive(alloc)?;
+    let _replies = run_on(alloc, &mut hive, script)?;
+    image_of(alloc, &hive)
 }

@@ -1,4 +1,4 @@
-//! Input at random and hostile input for the libraries: images that were changed, readers and writers that fail, scripts and trees at
+//! Input at random and hostile input for the libraries: images that were changed, readers that fail, scripts and trees at
 //! random, and refused memory.
 //!
 //! Without an argument it runs for some seconds and prints counts, which are the same on each run. `reg_hostile fuzz SEED COUNT`
@@ -8,7 +8,6 @@
 #![tactic(auto)]
 
 mod changes;
-mod failures;
 mod fuzz;
 mod gate;
 mod hives;

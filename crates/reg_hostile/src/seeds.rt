@@ -1,5 +1,5 @@
 //! What is changed at random: images and scripts that are good.
-use crate::hives::scripted;
+use crate::hives::{Subject, scripted};
 use anyhow::Result;
 use reg_fixtures::{drafted, put_changes};
 use std::alloc::Global;
@@ -143,11 +143,11 @@ pub fn every_record(alloc: Global) -> Result<Vec<u8>> {
 }
 
 /// The images that are changed at random.
-pub fn images(alloc: Global) -> Result<Vec<Vec<u8>>> {
+pub fn images<H: Subject>(alloc: Global) -> Result<Vec<Vec<u8>>> {
     let mut images = Vec::new(alloc);
     images.push(every_record(alloc)?)?;
     for script in SCRIPTS {
-        images.push(scripted(alloc, script.as_bytes())?)?;
+        images.push(scripted::<H>(alloc, script.as_bytes())?)?;
     }
     Ok(images)
 }

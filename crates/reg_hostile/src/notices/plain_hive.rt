@@ -189,26 +189,41 @@ impl PlainHive {
 
     /// How many watches are pending.
     pub fn pending(&self) -> usize {
-        self.watches.iter().filter(|watch| watch.is_pending).count()
+        let mut count = 0usize;
+        for watch in &self.watches {
+            if watch.is_pending {
+                count = count.saturating_add(1);
+            }
+        }
+        count
     }
 
     /// How many notices a session hasn't taken yet.
     pub fn waiting(&self, session: u8) -> usize {
-        let is_waiting = |notice: &&PlainNotice| notice.session == session && !notice.is_taken;
-        self.notices.iter().filter(is_waiting).count()
+        let mut count = 0usize;
+        for notice in &self.notices {
+            if notice.session == session && !notice.is_taken {
+                count = count.saturating_add(1);
+            }
+        }
+        count
     }
 
     /// How many notices have been sent for a reason.
     pub fn sent(&self, reason: &str) -> usize {
-        self.notices
-            .iter()
-            .filter(|notice| notice.reason == reason)
-            .count()
+        let mut count = 0usize;
+        for notice in &self.notices {
+            if notice.reason == reason {
+                count = count.saturating_add(1);
+            }
+        }
+        count
     }
 
     /// The place of a handle that a call of a session may use, or the status of the refusal. A dead one may just be closed.
     fn look(&self, session: u8, handle: u64, call: Call) -> Result<usize, u32> {
-        for (place, found) in self.handles.iter().enumerate() {
+        for place in 0..self.handles.len() {
+            let found = &self.handles[place];
             if found.number == handle && found.session == session && found.is_open {
                 if found.is_dead && !matches!(call, Call::Close) {
                     return Err(1018);
@@ -221,15 +236,22 @@ impl PlainHive {
 
     /// The place of a key that is there.
     fn place_of(&self, path: &[u8]) -> Option<usize> {
-        self.keys
-            .iter()
-            .position(|key| key.is_there && key.path.as_slice() == path)
+        for place in 0..self.keys.len() {
+            let key = &self.keys[place];
+            if key.is_there && key.path.as_slice() == path {
+                return Some(place);
+            }
+        }
+        None
     }
 
     fn has_subkeys(&self, path: &[u8]) -> bool {
-        self.keys.iter().any(|key| key.is_there
-            && key.path.len() > path.len()
-            && key.path.starts_with(path))
+        for key in &self.keys {
+            if key.is_there && key.path.len() > path.len() && key.path.starts_with(path) {
+                return true;
+            }
+        }
+        false
     }
 
     /// Gives a value of a key, or takes it away, and tells whether it was there.
