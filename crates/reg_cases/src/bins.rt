@@ -14,7 +14,7 @@ const HEADER: usize = 32;
 const ROOT: usize = 36;
 
 /// A cell.
-#[derive(Clone, Copy, Debug)]
+#[derive(Clone, Copy)]
 struct Cell {
     /// Where it begins in the bins.
     offset: usize,

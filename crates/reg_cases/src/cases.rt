@@ -15,8 +15,20 @@ const STEP: &str = "$ ";
 /// The line of a case that root doesn't run, of whom no rights are asked.
 const RIGHTS: &str = "as a user with rights to be asked";
 
+/// The line of a case that root alone runs.
+const ROOT: &str = "as root";
+
+/// Who runs a case.
+#[derive(Clone, Copy)]
+pub enum User {
+    Anyone,
+    /// Whoever is asked for rights.
+    Plain,
+    Root,
+}
+
 /// A command line of a case, and the lines behind it.
-#[derive(Debug, Drop)]
+#[derive(Drop)]
 pub struct Step<'a> {
     /// The number of its line in the file.
     pub number: usize,
@@ -27,14 +39,14 @@ pub struct Step<'a> {
 }
 
 /// Steps in a folder of their own, one after another.
-#[derive(Debug, Drop)]
+#[derive(Drop)]
 pub struct Case<'a> {
     /// The number of its title's line.
     pub number: usize,
     /// The rows that it is run for; once, where there are none.
     pub rows: Vec<&'a str>,
-    /// Whether it says nothing where the system asks no rights.
-    pub wants_rights: bool,
+    /// Who runs it; it says nothing where it is run by somebody else.
+    pub user: User,
     /// The steps.
     pub steps: Vec<Step<'a>>,
 }
@@ -44,7 +56,7 @@ fn begun(alloc: Global, number: usize) -> Case<'static> {
     Case {
         number,
         rows: Vec::new(alloc),
-        wants_rights: false,
+        user: User::Anyone,
         steps: Vec::new(alloc),
     }
 }
@@ -60,7 +72,9 @@ fn add_line<'a>(alloc: Global, case: &mut Case<'a>, number: usize, line: &'a str
             body: Vec::new(alloc),
         })?;
     } else if line == RIGHTS {
-        case.wants_rights = true;
+        case.user = User::Plain;
+    } else if line == ROOT {
+        case.user = User::Root;
     } else if let Some(step) = case.steps.last_mut() {
         step.body.push(line)?;
     } else {

@@ -3,7 +3,7 @@
 use std::alloc::{AllocError, Global};
 
 /// A command line.
-#[derive(Debug, Drop)]
+#[derive(Drop)]
 pub struct CommandLine {
     /// Its words, the command's name first.
     pub words: Vec<String>,
@@ -14,7 +14,7 @@ pub struct CommandLine {
 }
 
 /// What a word is to be.
-#[derive(Clone, Copy, Debug, PartialEq, Eq)]
+#[derive(Clone, Copy)]
 enum Role {
     Word,
     Input,

@@ -20,7 +20,7 @@ const STATUS: &str = "    $ echo $?";
 const BARE: &str = "    ./regtool ";
 
 /// A command line of a page.
-#[derive(Debug, Drop)]
+#[derive(Drop)]
 pub struct Example<'a> {
     /// The words behind the program's name, as they are written.
     pub line: &'a str,

@@ -1,5 +1,6 @@
 //! What a step is given and what is wanted of it, read off its lines.
 
+use crate::conditions::Conditions;
 use crate::repeats::{Range, filled, numbered, repeated_line, written_out};
 use anyhow::{Result, bail};
 use std::alloc::{AllocError, Global};
@@ -11,7 +12,7 @@ const STATUS: &str = "status ";
 const REPLY: &str = " -> ";
 
 /// What a line of a step says.
-#[derive(Clone, Copy, Debug, PartialEq, Eq)]
+#[derive(Clone, Copy)]
 enum Kind {
     /// A line of standard input, and the line of standard output that answers it, if one does.
     Call,
@@ -24,7 +25,7 @@ enum Kind {
 }
 
 /// What a step is given, and what is wanted of it.
-#[derive(Debug, Drop)]
+#[derive(Drop)]
 pub struct Given {
     /// Standard input.
     pub input: String,
@@ -34,6 +35,8 @@ pub struct Given {
     pub errors: String,
     /// The exit status that is wanted.
     pub status: u8,
+    /// What stands between the command and the system.
+    pub conditions: Conditions,
 }
 
 /// The kind of a line, and its text.
@@ -59,12 +62,13 @@ fn push_line(alloc: Global, to: &mut String, line: &str, times: usize) -> Result
 
 impl Given {
     /// Nothing given, and nothing wanted.
-    fn nothing(alloc: Global) -> Given {
+    pub fn nothing(alloc: Global) -> Given {
         Given {
             input: String::new(alloc),
             output: String::new(alloc),
             errors: String::new(alloc),
             status: 0,
+            conditions: Conditions::NONE,
         }
     }
 
@@ -124,7 +128,10 @@ impl Given {
         } else if let Some(status) = line.strip_prefix(STATUS) {
             self.status = status.parse::<u8>()?;
         } else {
-            bail!("a line of no form: {line}");
+            let words: Vec<&str> = line.split(' ').collect(alloc)?;
+            if self.conditions.add(&words).is_none() {
+                bail!("a line of no form: {line}");
+            }
         }
         Ok(())
     }

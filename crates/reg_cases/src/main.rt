@@ -9,8 +9,11 @@
 mod bins;
 mod cases;
 mod command;
+mod conditions;
+mod devices;
 mod example;
 mod given;
+mod host;
 mod outcome;
 mod pages;
 mod repeats;

@@ -1,14 +1,18 @@
 //! What a command gives, and the tool's commands.
 
 use crate::command::CommandLine;
+use crate::devices::{Input, Output};
+use crate::given::Given;
+use crate::host::Host;
 use anyhow::{Context, Result};
 use reg_files::{Device, file_tool};
+use std::cell::Cell;
 use std::fs;
 use std::fs::File;
-use std::io::Read;
+use std::rc::Rc;
 
 /// What a command gave.
-#[derive(Debug, Drop)]
+#[derive(Drop)]
 pub struct Outcome {
     /// Its exit status.
     pub status: u8,
@@ -16,62 +20,71 @@ pub struct Outcome {
     pub output: Vec<u8>,
     /// What it wrote to standard error.
     pub errors: Vec<u8>,
+    /// How often standard input was read.
+    pub reads: usize,
+    /// How often standard output was written.
+    pub writes: usize,
+    /// How many bytes that took.
+    pub taken: usize,
 }
 
-/// What the tool gives whose standard output is a file, which is made anew.
-fn tool_into<R: Read>(
-    rt: &HostRuntime,
-    words: Vec<String>,
-    input: &mut R,
-    path: &str,
-) -> Result<Outcome> {
-    let alloc = rt.alloc();
-    let mut errors = Vec::new(alloc);
+/// A file that takes standard output, made anew.
+fn opened(rt: &HostRuntime, path: &str) -> Result<File> {
     let mut options = File::options();
     options.write(true).create(true).truncate(true);
-    let mut file = options
-        .open(rt, path)
-        .context(format_args!("opening {path}"))?;
-    let mut device = Device::new(&mut file);
-    let status = file_tool(alloc, rt, words, input, &mut device, &mut errors);
+    Ok(
+        options
+            .open(rt, path)
+            .context(format_args!("opening {path}"))?,
+    )
+}
+
+/// Runs the tool by a command line, with the file that it names as standard input, or else what is given.
+pub fn tool(rt: &HostRuntime, command: &CommandLine, given: &Given) -> Result<Outcome> {
+    let alloc = rt.alloc();
+    let conditions = given.conditions;
+    let bytes = match &command.input {
+        Some(path) => fs::read(rt, path.as_str()).context("reading the input")?,
+        None => given.input.as_str().as_bytes().to_vec(alloc)?,
+    };
+    let file = match &command.output {
+        Some(path) => Some(opened(rt, path.as_str())?),
+        None => None,
+    };
+    let passed = Rc::new(alloc, Cell::new(0))?;
+    let mut input = Input {
+        rest: &bytes,
+        habits: conditions.reads,
+        calls: 0,
+        replies: conditions
+            .in_turns
+            .then_some(given.output.as_str().as_bytes()),
+        due: 0,
+        passed: passed.clone()?,
+    };
+    let mut output = Output {
+        file,
+        kept: Vec::new(alloc),
+        taken: 0,
+        habits: conditions.writes,
+        calls: 0,
+        passed,
+    };
+    let host = Host {
+        rt,
+        refused: conditions.refused,
+        clock: conditions.clock,
+    };
+    let mut errors = Vec::new(alloc);
+    let mut device = Device::new(&mut output);
+    let words = command.words.clone()?;
+    let status = file_tool(alloc, &host, words, &mut input, &mut device, &mut errors);
     Ok(Outcome {
         status,
-        output: Vec::new(alloc),
+        reads: input.calls,
+        writes: output.calls,
+        taken: output.taken,
+        output: output.kept,
         errors,
     })
-}
-
-/// What the tool gives whose standard output is kept in mind.
-fn tool_kept<R: Read>(rt: &HostRuntime, words: Vec<String>, input: &mut R) -> Outcome {
-    let alloc = rt.alloc();
-    let (mut output, mut errors) = (Vec::new(alloc), Vec::new(alloc));
-    let mut device = Device::new(&mut output);
-    let status = file_tool(alloc, rt, words, input, &mut device, &mut errors);
-    Outcome {
-        status,
-        output,
-        errors,
-    }
-}
-
-/// Runs the tool by a command line, with the file that it names as standard input, or else a text.
-pub fn tool(rt: &HostRuntime, command: CommandLine, text: &str) -> Result<Outcome> {
-    let alloc = rt.alloc();
-    let CommandLine {
-        words,
-        input,
-        output,
-    } = command;
-    let bytes = match &input {
-        Some(file) => fs::read(rt, file.as_str()).context(format_args!(
-            "reading {}",
-            file.as_str()
-        ))?,
-        None => text.as_bytes().to_vec(alloc)?,
-    };
-    let mut source = bytes.as_slice();
-    match &output {
-        Some(file) => tool_into(rt, words, &mut source, file.as_str()),
-        None => Ok(tool_kept(rt, words, &mut source)),
-    }
 }

@@ -4,6 +4,7 @@
 
 use crate::command::read_line;
 use crate::example::{Example, example_in};
+use crate::given::Given;
 use crate::outcome::{Outcome, tool};
 use crate::shown::are_as_shown;
 use anyhow::{Context, Result};
@@ -22,7 +23,11 @@ fn is_example_as_shown(example: &Example<'_>, status: u8, lines: &[&str]) -> boo
 fn outcome_of(rt: &HostRuntime, example: &Example<'_>) -> Result<Outcome> {
     let alloc = rt.alloc();
     let line = format!(in alloc; "regtool {}", example.line)?;
-    tool(rt, read_line(alloc, line.as_str())?, "")
+    tool(
+        rt,
+        &read_line(alloc, line.as_str())?,
+        &Given::nothing(alloc),
+    )
 }
 
 /// Runs an example, and answers what is wrong with it.

@@ -6,7 +6,7 @@
 use std::alloc::{AllocError, Global};
 
 /// Numbers from one to another, both included.
-#[derive(Clone, Copy, Debug, PartialEq, Eq)]
+#[derive(Clone, Copy)]
 pub struct Range {
     /// The first.
     pub first: u64,

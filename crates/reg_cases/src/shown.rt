@@ -1,11 +1,8 @@
-//! What was written, beside what a page shows or a case wants. A last line of `..` stands for all that follows; elsewhere `..` stands for any
-//! letters on a page, and in a case, as a line of its own, for any line.
+//! What was written, beside what a page shows or a case wants. In a line `..` stands for any letters, so that a line of `..` is any one,
+//! and as the last line it stands for all that follows.
 
 use std::alloc::{AllocError, Global};
 use std::str::Split;
-
-/// Any line of a case; as the last one, all that follows.
-const ANY: &str = "..";
 
 /// How many letters of a line are told.
 const TOLD: usize = 200;
@@ -25,25 +22,22 @@ fn is_as_shown(shown: &str, line: &str) -> bool {
     }
 }
 
-/// Whether so many lines are as shown.
-fn is_front_as_shown(shown: &[&str], printed: &[&str]) -> bool {
-    if printed.len() < shown.len() {
+/// Whether what was printed is as shown; a last line of `..` alone stands for all that follows.
+pub fn are_as_shown(shown: &[&str], printed: &[&str]) -> bool {
+    let front = match shown.split_last() {
+        Some((last, front)) if *last == ".." => front,
+        _ if shown.len() == printed.len() => shown,
+        _ => return false,
+    };
+    if printed.len() < front.len() {
         return false;
     }
-    for at in 0..shown.len() {
-        if !is_as_shown(shown[at], printed[at]) {
+    for at in 0..front.len() {
+        if !is_as_shown(front[at], printed[at]) {
             return false;
         }
     }
     true
-}
-
-/// Whether what was printed is as shown; a last line of `..` alone stands for all that follows.
-pub fn are_as_shown(shown: &[&str], printed: &[&str]) -> bool {
-    match shown.split_last() {
-        Some((last, front)) if *last == ".." => is_front_as_shown(front, printed),
-        _ => shown.len() == printed.len() && is_front_as_shown(shown, printed),
-    }
 }
 
 /// The lines of a text, without the LF of each; a CR before that belongs to its line.
@@ -51,25 +45,7 @@ fn lines_of(text: &str) -> Split<'_, char> {
     text.strip_suffix('\n').unwrap_or(text).split('\n')
 }
 
-/// Whether a line is the one that a case wants: `..` is any line.
-fn is_wanted(want: &str, line: &str) -> bool {
-    want == ANY || want == line
-}
-
-/// Whether so many lines are those that a case wants.
-fn is_front_wanted(wanted: &[&str], lines: &[&str]) -> bool {
-    if lines.len() < wanted.len() {
-        return false;
-    }
-    for at in 0..wanted.len() {
-        if !is_wanted(wanted[at], lines[at]) {
-            return false;
-        }
-    }
-    true
-}
-
-/// Whether a text is the one that a case wants, line by line, its last line ended; a last line of `..` stands for all that follows.
+/// Whether a text is the one that a case wants, line by line, its last line ended.
 fn is_text_wanted(alloc: Global, wanted: &str, text: &str) -> Result<bool, AllocError> {
     if wanted == text {
         return Ok(true);
@@ -79,10 +55,7 @@ fn is_text_wanted(alloc: Global, wanted: &str, text: &str) -> Result<bool, Alloc
     }
     let wanted: Vec<&str> = lines_of(wanted).collect(alloc)?;
     let lines: Vec<&str> = lines_of(text).collect(alloc)?;
-    match wanted.split_last() {
-        Some((last, front)) if *last == ANY => Ok(is_front_wanted(front, &lines)),
-        _ => Ok(wanted.len() == lines.len() && is_front_wanted(&wanted, &lines)),
-    }
+    Ok(are_as_shown(&wanted, &lines))
 }
 
 /// The front of a line, of so many letters as are told, in quotes; or that there is no such line.
@@ -111,19 +84,18 @@ pub fn difference(
     let mut lines = lines_of(text);
     for number in 1..=text.len().saturating_add(wanted.len()).saturating_add(1) {
         let (want, line) = (wants.next(), lines.next());
-        let is_same = match (want, line) {
-            (Some(want), Some(line)) => is_wanted(want, line),
-            _ => false,
-        };
-        if !is_same {
-            let want = told_line(alloc, want)?;
-            let line = told_line(alloc, line)?;
-            return Ok(Some(format!(in alloc;
-                "line {number} of {name}: wanted {}, came {}",
-                want.as_str(),
-                line.as_str()
-            )?));
+        if let (Some(shown), Some(written)) = (want, line)
+            && is_as_shown(shown, written)
+        {
+            continue;
         }
+        let want = told_line(alloc, want)?;
+        let line = told_line(alloc, line)?;
+        return Ok(Some(format!(in alloc;
+            "line {number} of {name}: wanted {}, came {}",
+            want.as_str(),
+            line.as_str()
+        )?));
     }
     Ok(Some(format!(in alloc; "{name}: the last line isn't ended")?))
 }

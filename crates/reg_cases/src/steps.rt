@@ -1,12 +1,12 @@
 //! The steps of a case, run one after another in a folder of their own.
 
-use crate::cases::{Case, Step};
+use crate::cases::{Case, Step, User};
 use crate::command::read_line;
 use crate::given::{Given, given_by};
 use crate::outcome::{Outcome, tool};
 use crate::repeats::{filled, written_out};
 use crate::shown::difference;
-use crate::verbs::perform;
+use crate::verbs::{Scene, perform};
 use anyhow::Result;
 use std::fs::{File, Permissions};
 use std::os::unix::fs::PermissionsExt;
@@ -19,26 +19,23 @@ const FOLDER: &str = "case";
 const BETWEEN: &str = " | ";
 
 /// What a command line gives.
-fn outcome_of(
-    rt: &HostRuntime,
-    line: &str,
-    given: &Given,
-    held: &mut Vec<File>,
-) -> Result<Outcome> {
-    let alloc = rt.alloc();
-    let command = read_line(alloc, line)?;
-    if command
-        .words
-        .first()
-        .is_some_and(|word| word.as_str() == "regtool")
+fn outcome_of(rt: &HostRuntime, line: &str, given: &Given, scene: &mut Scene) -> Result<Outcome> {
+    let command = read_line(rt.alloc(), line)?;
+    if let [name, ..] = command.words.as_slice()
+        && name.as_str() == "regtool"
     {
-        return tool(rt, command, given.input.as_str());
+        let outcome = tool(rt, &command, given)?;
+        scene.note(&outcome);
+        return Ok(outcome);
     }
-    let text = perform(rt, &command.words, given, held)?;
+    let text = perform(rt, &command.words, given, scene)?;
     Ok(Outcome {
         status: 0,
         output: text.into_bytes(),
-        errors: Vec::new(alloc),
+        errors: Vec::new(rt.alloc()),
+        reads: 0,
+        writes: 0,
+        taken: 0,
     })
 }
 
@@ -52,7 +49,10 @@ fn fault_in(rt: &HostRuntime, given: &Given, outcome: &Outcome) -> Result<Option
         return Ok(Some(fault));
     }
     let wanted = given.output.as_str();
-    if let Some(fault) = difference(alloc, "standard output", wanted, output.as_str())? {
+    let is_front = given.conditions.is_front && wanted.starts_with(output.as_str());
+    if !is_front
+        && let Some(fault) = difference(alloc, "standard output", wanted, output.as_str())?
+    {
         return Ok(Some(fault));
     }
     if outcome.status == given.status {
@@ -67,12 +67,12 @@ fn fault_of_step(
     rt: &HostRuntime,
     step: &Step<'_>,
     parts: &[&str],
-    held: &mut Vec<File>,
+    scene: &mut Scene,
 ) -> Result<Option<String>> {
     let alloc = rt.alloc();
     let given = given_by(alloc, &step.body, parts)?;
     let line = written_out(alloc, filled(alloc, step.line, parts)?.as_str())?;
-    let outcome = outcome_of(rt, line.as_str(), &given, held)?;
+    let outcome = outcome_of(rt, line.as_str(), &given, scene)?;
     fault_in(rt, &given, &outcome)
 }
 
@@ -88,14 +88,14 @@ fn told(rt: &HostRuntime, step: &Step<'_>, row: &str, fault: &str) -> Result<Str
 /// Runs the steps of a case up to the first at which something is wrong, and tells that.
 fn fault_of_steps(rt: &HostRuntime, case: &Case<'_>, row: &str) -> Result<Option<String>> {
     let alloc = rt.alloc();
-    let mut held = Vec::new(alloc);
+    let mut scene = Scene::new(alloc);
     let parts: Vec<&str> = if row.is_empty() {
         Vec::new(alloc)
     } else {
         row.split(BETWEEN).collect(alloc)?
     };
     for step in &case.steps {
-        match fault_of_step(rt, step, &parts, &mut held) {
+        match fault_of_step(rt, step, &parts, &mut scene) {
             Ok(None) => {}
             Ok(Some(fault)) => return Ok(Some(told(rt, step, row, fault.as_str())?)),
             Err(error) => {
@@ -149,10 +149,14 @@ fn run_rows(
     Ok((faults, runs))
 }
 
-/// Runs a case, once for each of its rows, or once where it has none: what was wrong, and how often it ran. A case that wants rights to be
-/// asked counts where they aren't, too.
+/// Runs a case, once for each of its rows, or once where it has none: what was wrong, and how often it ran. A case that isn't for whoever
+/// runs it counts, too.
 pub fn run_case(rt: &HostRuntime, case: &Case<'_>) -> Result<(Vec<String>, u32)> {
-    let is_run = !case.wants_rights || are_rights_asked(rt)?;
+    let is_run = match case.user {
+        User::Anyone => true,
+        User::Root => !are_rights_asked(rt)?,
+        User::Plain => are_rights_asked(rt)?,
+    };
     if case.rows.is_empty() {
         return run_rows(rt, case, &[""], is_run);
     }

@@ -12,7 +12,7 @@ const THEMES: &str = "cases";
 const ENDING: &str = ".txt";
 
 /// How many cases there were, and how many of them weren't as wanted.
-#[derive(Clone, Copy, Debug)]
+#[derive(Clone, Copy)]
 pub struct Counts {
     /// How many cases there were.
     pub cases: u32,

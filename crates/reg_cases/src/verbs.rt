@@ -2,18 +2,49 @@
 
 use crate::bins::{cells_told, lists_told, sizes_told};
 use crate::given::Given;
+use crate::outcome::Outcome;
 use anyhow::{Context, Result, bail};
 use reg_fixtures::{drafted, put_changes, put_line};
 use std::alloc::Global;
 use std::fs;
 use std::fs::{File, Permissions};
-use std::os::unix::fs::{PermissionsExt, symlink};
+use std::os::unix::fs::{MetadataExt, PermissionsExt, chown, symlink};
 
 /// The first moment of 2020, in 100 ns units since 1601.
 const FIRST_OF_2020: u64 = 132_223_104_000_000_000;
 
 /// A moment of 2199.
 const IN_2199: u64 = 189_000_000_000_000_000;
+
+/// What a case holds between its steps.
+#[derive(Drop)]
+pub struct Scene {
+    /// The files whose locks it has.
+    held: Vec<File>,
+    /// How often the last command of the tool read and wrote, and how many bytes were taken of it.
+    reads: usize,
+    writes: usize,
+    taken: usize,
+}
+
+impl Scene {
+    /// A case that begins.
+    pub fn new(alloc: Global) -> Scene {
+        Scene {
+            held: Vec::new(alloc),
+            reads: 0,
+            writes: 0,
+            taken: 0,
+        }
+    }
+
+    /// Keeps in mind what the tool gave.
+    pub fn note(&mut self, outcome: &Outcome) {
+        self.reads = outcome.reads;
+        self.writes = outcome.writes;
+        self.taken = outcome.taken;
+    }
+}
 
 /// The bytes of a file.
 fn bytes_of(rt: &HostRuntime, path: &str) -> Result<Vec<u8>> {
@@ -64,21 +95,14 @@ fn in_form(alloc: Global, text: &str, form: &str) -> Result<Vec<u8>> {
     }
 }
 
-/// Whether words name bytes.
-fn are_bytes(words: &[String]) -> bool {
-    words
-        .first()
-        .is_some_and(|word| word.starts_with('=') || word.starts_with('x'))
-}
-
 /// Makes a file: of the bytes that words name, or of the lines that were given.
 fn put(rt: &HostRuntime, path: &str, words: &[String], given: &Given) -> Result<()> {
     let alloc = rt.alloc();
-    if !are_bytes(words) {
-        let form = match words.first() {
-            Some(form) => form.as_str(),
-            None => "lf",
-        };
+    let form = match words.first() {
+        Some(form) => form.as_str(),
+        None => "lf",
+    };
+    if !form.starts_with('=') && !form.starts_with('x') {
         return write(rt, path, &in_form(alloc, given.input.as_str(), form)?);
     }
     let mut bytes = Vec::new(alloc);
@@ -226,11 +250,18 @@ fn kind(rt: &HostRuntime, path: &str) -> Result<String> {
     Ok(format!(in rt.alloc(); "mode {mode:o}\n")?)
 }
 
+/// Whose a file is: the numbers of its owner and its group.
+fn owner(rt: &HostRuntime, path: &str) -> Result<String> {
+    let saved = fs::metadata(rt, path)?;
+    let (user, group) = (saved.uid(), saved.gid());
+    Ok(format!(in rt.alloc(); "owner {user} group {group}\n")?)
+}
+
 /// Takes the lock of a file, as another one that edits it does, until the case ends.
-fn lock(rt: &HostRuntime, path: &str, held: &mut Vec<File>) -> Result<()> {
+fn lock(rt: &HostRuntime, path: &str, scene: &mut Scene) -> Result<()> {
     let file = File::open(rt, path)?;
     file.lock()?;
-    held.push(file)?;
+    scene.held.push(file)?;
     Ok(())
 }
 
@@ -239,7 +270,7 @@ fn change(
     rt: &HostRuntime,
     words: &[String],
     given: &Given,
-    held: &mut Vec<File>,
+    scene: &mut Scene,
 ) -> Result<Option<()>> {
     let [verb, path, rest @ ..] = words else {
         return Ok(None);
@@ -254,14 +285,21 @@ fn change(
         ("copy", [to]) => write(rt, to.as_str(), &bytes_of(rt, path)?)?,
         ("link", [to]) => symlink(rt, to.as_str(), path)?,
         ("permit", [mode]) => permit(rt, path, mode.as_str())?,
-        ("lock", []) => lock(rt, path, held)?,
+        ("own", [user, group]) => {
+            let (user, group) = (
+                user.as_str().parse::<u32>()?,
+                group.as_str().parse::<u32>()?,
+            );
+            chown(rt, path, Some(user), Some(group))?;
+        }
+        ("lock", []) => lock(rt, path, scene)?,
         _ => return Ok(None),
     }
     Ok(Some(()))
 }
 
 /// What is told of files.
-fn told(rt: &HostRuntime, words: &[String]) -> Result<String> {
+fn told(rt: &HostRuntime, words: &[String], scene: &Scene) -> Result<String> {
     let alloc = rt.alloc();
     let (verb, path, rest) = match words {
         [verb] => (verb.as_str(), ".", words.get(1..).unwrap_or(&[])),
@@ -277,7 +315,13 @@ fn told(rt: &HostRuntime, words: &[String]) -> Result<String> {
         ("block", []) => block(rt, path),
         ("moment", []) => century(rt, path),
         ("names", []) => names(rt),
+        ("calls", []) => Ok(format!(in alloc;
+            "{} reads, {} writes, {} bytes\n",
+            scene.reads, scene.writes, scene.taken
+        )?),
+        ("size", []) => Ok(format!(in alloc; "{} bytes\n", fs::metadata(rt, path)?.len())?),
         ("kind", []) => kind(rt, path),
+        ("owner", []) => owner(rt, path),
         _ => bail!("{verb} isn't understood"),
     }
 }
@@ -287,10 +331,10 @@ pub fn perform(
     rt: &HostRuntime,
     words: &[String],
     given: &Given,
-    held: &mut Vec<File>,
+    scene: &mut Scene,
 ) -> Result<String> {
-    match change(rt, words, given, held)? {
+    match change(rt, words, given, scene)? {
         Some(()) => Ok(String::new(rt.alloc())),
-        None => told(rt, words),
+        None => told(rt, words, scene),
     }
 }

@@ -36,12 +36,6 @@ fn script_of_seed(alloc: Global, chance: &mut Chance) -> Result<Vec<u8>> {
     Ok(script)
 }
 
-/// The verdict on a hive after a script.
-fn judge_after<H: Subject>(alloc: Global, hive: &mut H, script: &[u8]) -> Result<Verdict> {
-    let _replies = run_on(alloc, hive, script)?;
-    verdict_on(alloc, hive)
-}
-
 /// The verdict on a script: on what it makes of an image that was changed, if that is loaded, or else of a fresh hive.
 fn judge_script<H: Subject>(alloc: Global, image: &[u8], script: &[u8]) -> Result<Verdict> {
     let mut input = image;
@@ -49,12 +43,13 @@ fn judge_script<H: Subject>(alloc: Global, image: &[u8], script: &[u8]) -> Resul
         Ok(hive) => hive,
         Err(_) => fresh_hive(alloc)?,
     };
-    judge_after(alloc, &mut hive, script)
+    let _replies = run_on(alloc, &mut hive, script)?;
+    verdict_on(alloc, &hive)
 }
 
 /// The verdicts on the images and scripts of so many seeds, beginning with one.
 pub fn fuzz<H: Subject>(alloc: Global, first: u64, count: u64) -> Result<(Tally, Tally)> {
-    let good = images(alloc)?;
+    let good = images::<H>(alloc)?;
     let mut of_images = Tally::NONE;
     let mut of_scripts = Tally::NONE;
     for number in 0..count {

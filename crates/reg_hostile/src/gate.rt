@@ -1,11 +1,12 @@
 //! The run of the gate: it is short, and tells the same each time.
-use crate::failures::{Device, Work, readers};
 use crate::fuzz::fuzz;
 use crate::hives::scripted;
+use crate::notices::run_notices;
 use crate::rows::run_rows;
-use crate::seeds::{RECORDS_END, SCRIPTS, every_record, images};
-use crate::sweeps::{all_bits, fronts, sealed_bits, some_bits};
+use crate::seeds::{RECORDS_END, every_record, images};
+use crate::sweeps::{all_bits, fronts, readers, sealed_bits, some_bits};
 use crate::tools::is_told_by_tool;
+use crate::trips::{make_refusals, make_trips};
 use anyhow::Result;
 use reg_fixtures::PlainHive;
 use std::alloc::Global;
@@ -13,7 +14,7 @@ use std::alloc::Global;
 /// How many bits of the image with every record are turned over beside those of its records.
 const BITS: usize = 10_000;
 
-/// Behind every so many bytes of larger images and texts a device stops.
+/// Behind every so many bytes of a larger image a reader stops.
 const STRIDE: usize = 37;
 
 /// How many seeds are tried.
@@ -21,7 +22,7 @@ const SEEDS: u64 = 20_000;
 
 /// Fronts and bits of the image of a fresh hive.
 fn sweep_fresh(rt: &impl Print, alloc: Global) -> Result<()> {
-    let mut image = scripted(alloc, b"")?;
+    let mut image = scripted::<PlainHive>(alloc, b"")?;
     let len = image.len();
     println!(rt; "fresh hive, fronts: {}", fronts(alloc, &image)?)?;
     println!(rt;
@@ -65,14 +66,9 @@ fn fail_readers(
         ("give one byte a call and fail", 1, true),
         ("give all and fail", usize::MAX, true),
     ] {
-        let device = Device {
-            step,
-            fails,
-            stride,
-        };
         println!(rt;
             "readers of {of} that {what}: {}",
-            readers(alloc, image, device)?
+            readers(alloc, image, stride, step, fails)?
         )?;
     }
     Ok(())
@@ -80,53 +76,16 @@ fn fail_readers(
 
 /// Readers of a fresh hive's image, at each place, and of the image with every record.
 fn fail_all_readers(rt: &impl Print, alloc: Global) -> Result<()> {
-    let fresh = scripted(alloc, b"")?;
+    let fresh = scripted::<PlainHive>(alloc, b"")?;
     fail_readers(rt, alloc, "a fresh hive", &fresh, 1)?;
     let image = every_record(alloc)?;
     fail_readers(rt, alloc, "every record", &image, STRIDE)
 }
 
-/// Writers that end early or fail where they are given a work.
-fn fail_writers(
-    rt: &impl Print,
-    alloc: Global,
-    what: &str,
-    work: Work<'_>,
-    stride: usize,
-) -> Result<()> {
-    for (how, step, fails) in [
-        ("one byte a call and then none", 1, false),
-        ("all and then none", usize::MAX, false),
-        ("one byte a call and fail", 1, true),
-        ("all and fail", usize::MAX, true),
-    ] {
-        let device = Device {
-            step,
-            fails,
-            stride,
-        };
-        let (failed, wrong) = work.failures(alloc, device)?;
-        println!(rt; "writers of {what} that take {how}: {failed} failed, {wrong} told wrongly")?;
-    }
-    Ok(())
-}
-
-/// Has the writers of every work fail: of a fresh hive's image and of replies at each place.
-fn fail_all_writers(rt: &impl Print, alloc: Global) -> Result<()> {
-    let fresh = scripted(alloc, b"")?;
-    fail_writers(rt, alloc, "a fresh hive", Work::Image(&fresh), 1)?;
-    fail_writers(rt, alloc, "a fresh hive by the tool", Work::ToolImage, 1)?;
-    let image = every_record(alloc)?;
-    fail_writers(rt, alloc, "every record", Work::Image(&image), STRIDE)?;
-    fail_writers(rt, alloc, "a dump", Work::Dump(&image), STRIDE)?;
-    let script = SCRIPTS[0].as_bytes();
-    fail_writers(rt, alloc, "replies", Work::Replies(script), 1)
-}
-
 /// Images by the tool.
 fn tool_images(rt: &impl Print, alloc: Global) -> Result<()> {
     let mut told: u32 = 0;
-    let images = images(alloc)?;
+    let images = images::<PlainHive>(alloc)?;
     for image in &images {
         if is_told_by_tool(alloc, image)? {
             told = told.saturating_add(1);
@@ -141,10 +100,12 @@ pub fn run(rt: &impl Print, alloc: Global) -> Result<()> {
     sweep_fresh(rt, alloc)?;
     sweep_records(rt, alloc)?;
     fail_all_readers(rt, alloc)?;
-    fail_all_writers(rt, alloc)?;
     tool_images(rt, alloc)?;
     let (of_images, of_scripts) = fuzz::<PlainHive>(alloc, 1, SEEDS)?;
     println!(rt; "images of {SEEDS} seeds: {of_images}")?;
     println!(rt; "scripts of {SEEDS} seeds: {of_scripts}")?;
-    run_rows::<PlainHive>(rt, alloc)
+    run_rows::<PlainHive>(rt, alloc)?;
+    run_notices::<PlainHive>(rt, alloc)?;
+    make_trips::<PlainHive>(rt, alloc)?;
+    make_refusals::<PlainHive>(rt, alloc)
 }

@@ -3,6 +3,8 @@
 //! Whoever owns a hive hands it on to functions over any [`Subject`], which are checked without all that a hive is made of.
 use anyhow::Result;
 use reg_callbacks::{CallbackFault, Cookie, NoCallback};
+use reg_dotreg_import::{ImportFault, import};
+use reg_dotreg_reader::Numbered;
 use reg_fixtures::{PlainHive, Registry};
 use reg_image::{LoadFault, image, load};
 use reg_script::{FRESH_DESCRIPTOR, ScriptFault, run};
@@ -25,6 +27,9 @@ pub trait Subject: Registry {
 
     /// Its image, with moment 0 and sequence 0.
     fn imaged(&self, alloc: Global) -> Result<Vec<u8>, AllocError>;
+
+    /// Applies entries of a .reg text to it, at moment 7.
+    fn imported(&mut self, alloc: Global, entries: Vec<Numbered>) -> Result<(), ImportFault>;
 
     /// Registers a callback that lets every call go on.
     fn add_callback(&mut self) -> Result<Cookie, CallbackFault<NoCallback>>;
@@ -53,6 +58,10 @@ impl Subject for PlainHive {
             Ok(bytes) => Ok(bytes),
             Err(_) => Err(AllocError),
         }
+    }
+
+    fn imported(&mut self, alloc: Global, entries: Vec<Numbered>) -> Result<(), ImportFault> {
+        import(alloc, self, 7, entries)
     }
 
     fn add_callback(&mut self) -> Result<Cookie, CallbackFault<NoCallback>> {
@@ -88,13 +97,9 @@ pub fn image_of<H: Subject>(alloc: Global, hive: &H) -> Result<Vec<u8>> {
     Ok(hive.imaged(alloc)?)
 }
 
-fn image_after<H: Subject>(alloc: Global, hive: &mut H, script: &[u8]) -> Result<Vec<u8>> {
-    let _replies = run_on(alloc, hive, script)?;
-    image_of(alloc, hive)
-}
-
 /// The image of a fresh hive after a script.
-pub fn scripted(alloc: Global, script: &[u8]) -> Result<Vec<u8>> {
-    let mut hive: PlainHive = fresh_hive(alloc)?;
-    image_after(alloc, &mut hive, script)
+pub fn scripted<H: Subject>(alloc: Global, script: &[u8]) -> Result<Vec<u8>> {
+    let mut hive: H = fresh_hive(alloc)?;
+    let _replies = run_on(alloc, &mut hive, script)?;
+    image_of(alloc, &hive)
 }

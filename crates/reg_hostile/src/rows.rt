@@ -181,24 +181,6 @@ fn is_same(before: &Snapshot, after: &Snapshot) -> bool {
         && after.image.as_slice() == before.image.as_slice()
 }
 
-/// Counts a row that was not answered at once, and tells whether it has to be given again.
-fn count_refusal(
-    counts: &mut Counts,
-    outcome: Outcome,
-    before: &Snapshot,
-    after: &Snapshot,
-) -> Result<bool> {
-    match outcome {
-        Outcome::Told => return Ok(false),
-        Outcome::NoMemory => counts.refused = counts.refused.saturating_add(1),
-        Outcome::Ended => counts.ended = counts.ended.saturating_add(1),
-    }
-    if !is_same(before, after) {
-        bail!("a refusal changed the hive");
-    }
-    Ok(true)
-}
-
 /// Gives a row's line to a hive, and again where memory was wanting.
 fn check_row<H: Subject>(
     alloc: Global,
@@ -214,8 +196,13 @@ fn check_row<H: Subject>(
     if outcome == Outcome::NoMemory && (line.starts_with("close") || line.starts_with("notice")) {
         bail!("a Close or a notice was answered 8");
     }
-    if !count_refusal(counts, outcome, &before, &after)? {
-        return Ok(());
+    match outcome {
+        Outcome::Told => return Ok(()),
+        Outcome::NoMemory => counts.refused = counts.refused.saturating_add(1),
+        Outcome::Ended => counts.ended = counts.ended.saturating_add(1),
+    }
+    if !is_same(&before, &after) {
+        bail!("a refusal changed the hive");
     }
     if ask(alloc, hive, line, wanted)? != Outcome::Told {
         bail!("a row was not answered again");
@@ -223,26 +210,17 @@ fn check_row<H: Subject>(
     Ok(())
 }
 
-/// Gives a script's rows to a hive.
-fn check_script<H: Subject>(
-    alloc: Global,
-    hive: &mut H,
-    script: &str,
-    counts: &mut Counts,
-) -> Result<()> {
-    for row in script.split('\n') {
-        if let Some((line, wanted)) = row.split_once(" -> ") {
-            let line = line_of(alloc, line)?;
-            check_row(alloc, hive, line.as_str(), wanted, counts)?;
-        }
+/// Registers a callback, and again where memory was wanting, which must have left the hive as it was.
+fn register<H: Subject>(alloc: Global, hive: &mut H, counts: &mut Counts) -> Result<Cookie> {
+    let before = take_snapshot(alloc, hive)?;
+    counts.rows = counts.rows.saturating_add(1);
+    match hive.add_callback() {
+        Ok(cookie) => return Ok(cookie),
+        Err(CallbackFault::Memory(_)) => counts.refused = counts.refused.saturating_add(1),
+        Err(_) => bail!("a callback was refused"),
     }
-    Ok(())
-}
-
-/// Registers a callback whose first registration wanted memory, which must have left the hive as it was.
-fn register_again<H: Subject>(alloc: Global, hive: &mut H, before: &Snapshot) -> Result<Cookie> {
     let after = take_snapshot(alloc, hive)?;
-    if !is_same(before, &after) {
+    if !is_same(&before, &after) {
         bail!("a registration that was refused changed the hive");
     }
     match hive.add_callback() {
@@ -251,39 +229,21 @@ fn register_again<H: Subject>(alloc: Global, hive: &mut H, before: &Snapshot) ->
     }
 }
 
-/// Registers a callback, and again where memory was wanting.
-fn register<H: Subject>(alloc: Global, hive: &mut H, counts: &mut Counts) -> Result<Cookie> {
-    let before = take_snapshot(alloc, hive)?;
-    counts.rows = counts.rows.saturating_add(1);
-    match hive.add_callback() {
-        Ok(cookie) => Ok(cookie),
-        Err(CallbackFault::Memory(_)) => {
-            counts.refused = counts.refused.saturating_add(1);
-            register_again(alloc, hive, &before)
+/// Gives a script's rows to a fresh hive with a callback that lets every call go on. It is taken out at last: for that no memory is
+/// wanting.
+fn check_script<H: Subject>(alloc: Global, script: &str, counts: &mut Counts) -> Result<()> {
+    let mut hive: H = fresh_hive(alloc)?;
+    let cookie = register(alloc, &mut hive, counts)?;
+    for row in script.split('\n') {
+        if let Some((line, wanted)) = row.split_once(" -> ") {
+            let line = line_of(alloc, line)?;
+            check_row(alloc, &mut hive, line.as_str(), wanted, counts)?;
         }
-        Err(_) => bail!("a callback was refused"),
     }
-}
-
-/// Gives a script's rows to a hive with a callback, which is taken out at last: for that no memory is wanting.
-fn check_called_back<H: Subject>(
-    alloc: Global,
-    hive: &mut H,
-    script: &str,
-    counts: &mut Counts,
-) -> Result<()> {
-    let cookie = register(alloc, hive, counts)?;
-    check_script(alloc, hive, script, counts)?;
     if !hive.take_callback(cookie) {
         bail!("a callback was not taken out");
     }
     Ok(())
-}
-
-/// Gives a script's rows to a fresh hive with a callback that lets every call go on.
-fn check_fresh<H: Subject>(alloc: Global, script: &str, counts: &mut Counts) -> Result<()> {
-    let mut hive: H = fresh_hive(alloc)?;
-    check_called_back(alloc, &mut hive, script, counts)
 }
 
 /// Gives the rows of all scripts to fresh hives, and prints how they were answered. Where one was answered wrongly, that is the error.
@@ -294,7 +254,7 @@ pub fn run_rows<H: Subject>(rt: &impl Print, alloc: Global) -> Result<()> {
         ended: 0,
     };
     for script in ROWS {
-        check_fresh::<H>(alloc, script, &mut counts)?;
+        check_script::<H>(alloc, script, &mut counts)?;
     }
     println!(rt; "{counts}")?;
     Ok(())

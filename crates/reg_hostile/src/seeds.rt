@@ -1,7 +1,7 @@
 //! What is changed at random: images and scripts that are good.
-use crate::drafts::{Draft, Links, NONE};
-use crate::hives::scripted;
+use crate::hives::{Subject, scripted};
 use anyhow::Result;
+use reg_fixtures::{drafted, put_changes};
 use std::alloc::Global;
 
 /// Scripts that are accepted.
@@ -101,65 +101,53 @@ info 0
 /// Where the records of the image with every record end, and the segments begin.
 pub const RECORDS_END: usize = 4096 + 864;
 
+/// The cells of the image with every record, as a table of reg_fixtures; the last three are the segments.
+const RECORDS: &str = "\
+sk 0 0 0 4 x01000480
+sk 0 0 0 18 x616e6f746865722064657363726970746f72
+nk 32 0 0 - 0 - @1 - 0 =Below
+lf @3
+nk 24 0 1 @4 0 - @2 - 0 x5700690064006500
+fill 1 x436c617373206f662061206b6579
+vk 2147483651 66051 3 1 =Short
+vk 2147483648 - 3 0 x4c006f006e006700
+fill 1 x64617461206f66207477656e7479206279746573
+vk 20 @9 3 0
+row 864 17216 17264
+db 3 @11
+vk 16384 @12 3 1 =Large
+row @7 @8 @10 @13
+nk 32 0 0 - 4 @14 @2 @6 14 =Valued
+nk 32 0 0 - 0 - @1 - 0 =Plain
+lh @16 @15
+li @5
+lf
+ri @17 @18 @19
+nk 44 0 1 @20 0 - @1 - 0 =ROOT
+fill 16344 x01
+fill 40 x02
+fill 4 x03";
+
+/// Its root is the last cell before the segments. Fields that are ignored: key nodes name no parent, and have 0 for their volatile keys,
+/// as the lists have for their hints.
+const CHANGES: &str =
+    "36 08030000, 44 00000000, 4228 ffffffff, 4244 00000000, 4308 00000000, 4332 ffffffff, \
+4348 00000000, 4644 ffffffff, 4660 00000000, 4732 ffffffff, 4748 00000000, 4812 00000000, 4820 00000000, 4892 ffffffff, 4908 00000000";
+
 /// An image with every kind of record in every form that is read: lists of all four forms, a list of none, names of two bytes a
 /// character, classes, marks, data in its value, in a cell and in segments, two securities.
 pub fn every_record(alloc: Global) -> Result<Vec<u8>> {
-    let mut draft = Draft::new(alloc)?;
-    let first = draft.security(&[1, 0, 4, 128])?;
-    let second = draft.security(b"another descriptor")?;
-    let below = draft.key(b"Below", Links::to(first))?;
-    let fast = draft.list(b"lf", &[below])?;
-    let wide = Links {
-        flags: 0x18,
-        ..Links::to(second)
-    };
-    let wide = draft.key(b"W\0i\0d\0e\0", wide.with_list(fast))?;
-    let (valued, segments) = valued_key(&mut draft, second)?;
-    let plain = draft.key(b"Plain", Links::to(first))?;
-    let lists = [
-        draft.list(b"lh", &[plain, valued])?,
-        draft.list(b"li", &[wide])?,
-        draft.list(b"lf", &[])?,
-    ];
-    let index = draft.list(b"ri", &lists)?;
-    let root = Links {
-        flags: 0x2C,
-        ..Links::to(first)
-    };
-    let root = draft.key(b"ROOT", root.with_list(index))?;
-    for (at, bytes) in [(0, [1; 16_344].as_slice()), (4, &[2; 40]), (8, &[3; 4])] {
-        let segment = draft.cell(bytes, &[])?;
-        draft.patch(segments, at, segment);
-    }
-    draft.image(5, root)
-}
-
-/// A key of four values, with a class; and the row of the segments of its large one, three that are still to be named.
-fn valued_key(draft: &mut Draft, security: u32) -> Result<(u32, u32)> {
-    let class = draft.cell(b"Class of a key", &[])?;
-    let short = draft.value(b"Short", 0x8000_0003, 0x0001_0203, 1)?;
-    let wide = draft.value(b"L\0o\0n\0g\0", 0x8000_0000, NONE, 0)?;
-    let data = draft.cell(b"data of twenty bytes", &[])?;
-    let celled = draft.value(&[], 20, data, 0)?;
-    let segments = draft.row(&[NONE; 3])?;
-    let large = draft.big_data(3, segments)?;
-    let large = draft.value(b"Large", 16_384, large, 1)?;
-    let members = draft.row(&[short, wide, celled, large])?;
-    let links = Links {
-        class,
-        class_len: 14,
-        ..Links::to(security)
-    };
-    let key = draft.key(b"Valued", links.with_values(4, members))?;
-    Ok((key, segments))
+    let mut image = drafted(alloc, 5, RECORDS)?;
+    put_changes(alloc, &mut image, CHANGES)?;
+    Ok(image)
 }
 
 /// The images that are changed at random.
-pub fn images(alloc: Global) -> Result<Vec<Vec<u8>>> {
+pub fn images<H: Subject>(alloc: Global) -> Result<Vec<Vec<u8>>> {
     let mut images = Vec::new(alloc);
     images.push(every_record(alloc)?)?;
     for script in SCRIPTS {
-        images.push(scripted(alloc, script.as_bytes())?)?;
+        images.push(scripted::<H>(alloc, script.as_bytes())?)?;
     }
     Ok(images)
 }

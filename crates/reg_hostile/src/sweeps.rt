@@ -1,8 +1,9 @@
-//! Every front of an image, and its bits turned over one by one.
+//! Every front of an image, readers that stop behind it, and its bits turned over one by one.
 ghost use Rattle.std.specs.Prelude.{◌≡◌, length};
 
-use crate::verdicts::{Tally, judge_by_tool};
+use crate::verdicts::{Tally, judge, judge_by_tool};
 use anyhow::Result;
+use reg_fixtures::FakeReader;
 use reg_tree_image::checksum;
 use reg_workload::Chance;
 use std::alloc::Global;
@@ -41,6 +42,27 @@ pub fn fronts(alloc: Global, image: &[u8]) -> Result<Tally> {
         tally.add(judge_by_tool(alloc, &image[..len])?);
     }
     tally.add(judge_by_tool(alloc, image)?);
+    Ok(tally)
+}
+
+/// The verdicts on an image from readers that give so many bytes a call at most, and that end or fail behind every so many bytes.
+pub fn readers(
+    alloc: Global,
+    image: &[u8],
+    stride: usize,
+    step: usize,
+    fails: bool,
+) -> Result<Tally> {
+    let mut tally = Tally::NONE;
+    for place in 0..image.len().checked_div(stride).unwrap_or(0) {
+        let front = place.saturating_mul(stride);
+        let mut reader = FakeReader {
+            rest: image.get(..front).unwrap_or(image),
+            step,
+            fails,
+        };
+        tally.add(judge(alloc, &mut reader)?);
+    }
     Ok(tally)
 }
 
