@@ -8,7 +8,6 @@ out/, where `rt` finds it later.
 import fcntl
 import os
 import shutil
-import signal
 import subprocess
 import sys
 import tempfile
@@ -257,8 +256,6 @@ def build(program, at_once=None, out=sys.stdout):
     """Builds a program and all below it, and prints a line for each crate as it is done. Raises `Failed` where one isn't built."""
     if not shutil.which("rt"):
         raise Untried("rt isn't on the path")
-    for it in (signal.SIGTERM, signal.SIGHUP):
-        signal.signal(it, lambda number, _: sys.exit(128 + number))
     with rooms_of() as rooms:
         work = Build(program, at_once or checks_at_once(), rooms, out)
         work.libraries()

@@ -5,6 +5,7 @@ The statuses of all of them: 0 all is well, 1 something is wrong that the progra
 import argparse
 import os
 import shutil
+import signal
 import subprocess
 import sys
 from glob import glob
@@ -24,6 +25,8 @@ def parser(text):
 
 def end(main, name=os.path.basename(sys.argv[0])):
     """Runs a program's main, and ends with its status. `name` stands before what is told of why nothing was tried."""
+    for it in (signal.SIGTERM, signal.SIGHUP):
+        signal.signal(it, lambda number, _: sys.exit(128 + number))
     try:
         status = main()
     except Untried as why:
