@@ -2,13 +2,13 @@
 //! at two sizes, with watches and with callbacks.
 //!
 //! `reg_bench measure SUBJECT` prints the mean time of a call for each row of a subject, beside the same calls on plain maps or on
-//! another hive; the subjects are `arena`, `maps`, `sizes`, `watches`, `callbacks` and `all`. `reg_bench memory` makes a tree of 180,000 keys
+//! another hive; the subjects are `arena`, `maps`, `sizes`, `watches` and `callbacks`. `reg_bench memory` makes a tree of 180,000 keys
 //! and prints how many bytes its bins have; the system tells the process's memory. Without an argument everything is done with a few
 //! keys, and counts are printed alone, which are the same on every run.
 //!
-//! A row is a [`row::Row`]: a [`step::Step`] on the keys of a [`place::Place`], whose calls a [`stage::Stage`] answers. All of them are
-//! timed by one loop. Whatever works on a hive is generic in a [`reg_fixtures::Registry`], which is checked without all that a hive is
-//! made of.
+//! A row is a [`row::Row`]: a [`step::Step`] on the keys of a [`place::Place`], whose calls a [`stage::Stage`] answers. One loop times
+//! all of them. Whatever works on a hive is generic in a [`reg_fixtures::Registry`], which is checked without all that a hive is made
+//! of.
 #![tactic(auto)]
 
 mod calls;
@@ -29,29 +29,11 @@ use std::alloc::Global;
 use std::env;
 use std::rt::Clock;
 
-/// How many cells are carved while time is taken, and while none is.
-const CELLS: [u32; 2] = [1_000_000, 240];
-
-/// How many keys the tree has whose memory is looked at, and how many while that isn't.
-const KEYS: [u32; 2] = [180_000, 12];
-
 /// What is measured.
 const SUBJECTS: [&str; 5] = ["arena", "maps", "sizes", "watches", "callbacks"];
 
 /// How many callbacks are registered.
 const CALLBACKS: u32 = 64;
-
-fn run_all<H: Registry>(
-    rt: &(impl Print + Clock),
-    alloc: Global,
-    rows: Vec<Row>,
-    takes_time: bool,
-) -> Result<()> {
-    for row in rows.iter() {
-        row.run::<H>(rt, alloc, takes_time)?;
-    }
-    Ok(())
-}
 
 /// Registers callbacks, each at an altitude of its own.
 fn register_all<C: Callback>(hive: &mut Hive<C>, callbacks: Vec<C>) -> Result<()> {
@@ -75,13 +57,7 @@ fn run_with<C: Callback>(
 ) -> Result<()> {
     let mut hive = Hive::new(alloc, b"ROOT", &[1], 0)?;
     register_all(&mut hive, callbacks)?;
-    row.run_on(
-        rt,
-        alloc,
-        &mut Stage::Hive(hive),
-        &mut Stage::hive(alloc)?,
-        takes_time,
-    )
+    row.run(rt, alloc, &mut Stage::Hive(hive), takes_time)
 }
 
 fn run_with_callbacks(rt: &(impl Print + Clock), alloc: Global, takes_time: bool) -> Result<()> {
@@ -102,23 +78,30 @@ fn run_subject<H: Registry>(
     subject: &str,
     takes_time: bool,
 ) -> Result<()> {
-    match subject {
-        "arena" => cells::run(rt, alloc, CELLS[usize::from(!takes_time)], takes_time),
-        "maps" => run_all::<H>(rt, alloc, rows::beside_maps(alloc)?, takes_time),
-        "sizes" => run_all::<H>(rt, alloc, rows::at_two_sizes(alloc)?, takes_time),
-        "watches" => run_all::<H>(rt, alloc, rows::with_watches(alloc)?, takes_time),
-        "callbacks" => run_with_callbacks(rt, alloc, takes_time),
-        _ => bail!("the subjects are: arena, maps, sizes, watches, callbacks, all"),
+    let rows = match subject {
+        "arena" => return cells::run(
+            rt,
+            alloc,
+            if takes_time { 1_000_000 } else { 240 },
+            takes_time,
+        ),
+        "maps" => rows::beside_maps(alloc)?,
+        "sizes" => rows::at_two_sizes(alloc)?,
+        "watches" => rows::with_watches(alloc)?,
+        "callbacks" => return run_with_callbacks(rt, alloc, takes_time),
+        _ => bail!("the subjects are: arena, maps, sizes, watches, callbacks"),
+    };
+    for row in rows.iter() {
+        row.run(rt, alloc, &mut Stage::<H>::hive(alloc)?, takes_time)?;
     }
+    Ok(())
 }
 
-fn run_subjects<H: Registry>(
-    rt: &(impl Print + Clock),
-    alloc: Global,
-    takes_time: bool,
-) -> Result<()> {
+/// Does everything with a few keys.
+fn run_small<H: Registry>(rt: &(impl Print + Clock), alloc: Global) -> Result<()> {
+    cells::fill_tree(rt, alloc, 12)?;
     for subject in SUBJECTS {
-        run_subject::<H>(rt, alloc, subject, takes_time)?;
+        run_subject::<H>(rt, alloc, subject, false)?;
     }
     Ok(())
 }
@@ -128,16 +111,16 @@ fn main(rt: HostRuntime) -> Result<()> {
     let mut words = env::args(&rt)?;
     let _program = words.next();
     let Some(word) = words.next() else {
-        cells::fill_tree(&rt, alloc, KEYS[1])?;
-        return run_subjects::<PlainHive>(&rt, alloc, false);
+        return run_small::<PlainHive>(&rt, alloc);
     };
-    let subject = words.next();
-    match (word.as_str(), subject) {
-        ("memory", None) => cells::fill_tree(&rt, alloc, KEYS[0]),
-        ("measure", Some(all)) if all.as_str() == "all" => run_subjects::<PlainHive>(
-            &rt, alloc, true,
-        ),
-        ("measure", Some(subject)) => run_subject::<PlainHive>(&rt, alloc, subject.as_str(), true),
-        _ => bail!("the words are: measure SUBJECT, memory"),
+    if word.as_str() == "memory" {
+        return cells::fill_tree(&rt, alloc, 180_000);
     }
+    if word.as_str() != "measure" {
+        bail!("the words are: measure SUBJECT, memory");
+    }
+    let Some(subject) = words.next() else {
+        bail!("a subject is missing: measure SUBJECT");
+    };
+    run_subject::<PlainHive>(&rt, alloc, subject.as_str(), true)
 }

@@ -1,38 +1,24 @@
 //! What is there before calls are timed.
 
-use crate::calls::{create, create_described, delete, open, open_root, set, watch};
+use crate::calls::{SIZE, create, descriptor, key_name, mixed_name, open_root, set};
 use crate::stage::Stage;
 use anyhow::Result;
 use reg_fixtures::Registry;
-use reg_model::Change;
+use reg_model::filters::LAST_SET;
+use reg_model::{Bytes, Change};
 use std::alloc::Global;
 
 /// The handle of the root, which is opened first.
 pub const ROOT: u64 = 0;
 
-/// The name of the value of a key that has one.
-pub const VALUE: &str = "Value";
-
-/// How many bytes a value has.
-pub const SIZE: usize = 24;
-
-/// How many keys are below a parent.
+/// How many keys are below a parent, and in a list of subkeys that were made in the order of their names.
 const EACH: u32 = 250;
 
-/// How many handles a key has that is watched by nobody.
-pub const HANDLES: u32 = 2_048;
-
-/// How many sessions watch.
-const SESSIONS: u8 = 64;
-
-/// The most watches that a session has.
-const WATCHES: u32 = 4_096;
-
-/// How large a place is at most while no time is taken.
+/// How large a place is at most, and on how many keys calls are made, while no time is taken.
 pub const SMALL: u32 = 6;
 
-/// The most subkeys that a key has.
-const SUBKEYS: u32 = 60_000;
+/// How many sessions watch.
+const SESSIONS: u32 = 64;
 
 /// What is there, of a size that a [`Place`] says.
 #[derive(Clone, Copy, PartialEq, Eq)]
@@ -41,24 +27,22 @@ pub enum Scene {
     Parents,
     /// So many keys with a value each, below parents. Each key and parent has an open handle.
     Keys,
+    /// So many keys with a value and an open handle each, each below the one before.
+    Chain,
     /// The root has so many subkeys.
     Subkeys,
-    /// The root has so many subkeys, each nearly alone in its list.
-    SparseSubkeys,
+    /// The root has subkeys in so many lists, each of one subkey but for the last three.
+    SparseLists,
     /// The root has so many values.
     Values,
-    /// A chain of so many keys. Each has an open handle, and the last one a value.
-    Chain,
-    /// So many keys with a descriptor each and an open handle.
+    /// So many keys with a descriptor and an open handle each.
     Descriptors,
-    /// A key with a value and 2,048 open handles, and 64 other keys, of which each has so many watches, of a session each.
+    /// 64 keys, of which each has so many watches of a session of its own, and half as many others, with open handles.
     Watched,
     /// The same after the watches ended, since the handles that watched were closed.
     Ended,
     /// A key with so many watches.
-    Firing,
-    /// A key with so many subkeys, of which 4,096 at most are watched.
-    Tree,
+    WatchedKey,
 }
 
 /// A scene of some size.
@@ -68,233 +52,155 @@ pub struct Place {
     pub size: u32,
 }
 
-/// The name of a key. The order of names isn't that of numbers.
-pub fn mixed_name(alloc: Global, key: u32) -> Result<String> {
-    let mixed = key.wrapping_mul(2_654_435_769);
-    Ok(format!(in alloc; "{mixed:08X}-{key}")?)
-}
-
-/// The name of a subkey. The order of names is that of numbers.
-pub fn rising_name(alloc: Global, key: u32) -> Result<String> {
-    Ok(format!(in alloc; "Key{key:08}")?)
-}
-
 impl Place {
     /// The place while no time is taken.
     pub fn small(self) -> Place {
-        Place {
-            size: self.size.min(SMALL),
-            ..self
+        let size = self.size.min(SMALL);
+        Place { size, ..self }
+    }
+
+    /// How many keys or values can be visited.
+    pub fn keys(self) -> u32 {
+        match self.scene {
+            Scene::Watched | Scene::Ended => self.size / 2,
+            _ => self.size,
         }
     }
 
-    /// How many parents there are.
+    /// How many keys are made right below the root first. The handle of each is its number and 1.
     fn parents(self) -> u32 {
-        self.size / EACH + 1
+        match self.scene {
+            Scene::Parents | Scene::Keys => self.size / EACH + 1,
+            Scene::Watched | Scene::Ended => self.keys(),
+            Scene::WatchedKey => 1,
+            _ => 0,
+        }
     }
 
     /// The handle of a key's parent.
     pub fn parent(self, key: u32) -> u64 {
         match self.scene {
             Scene::Parents | Scene::Keys => 1 + u64::from(key / EACH),
+            Scene::Chain => (2 * u64::from(key)).saturating_sub(1),
             _ => ROOT,
         }
     }
 
-    /// The open handle of a key, or of the one that has the values.
+    /// The open handle of a key, or of the one key that has all values; of a chain that of the last key.
     pub fn handle(self, key: u32) -> u64 {
         match self.scene {
             Scene::Keys => 1 + u64::from(self.parents()) + 2 * u64::from(key),
-            Scene::Chain => u64::from(self.size),
+            Scene::Chain => self.parent(self.size),
             Scene::Descriptors | Scene::Watched | Scene::Ended => 1 + u64::from(key),
-            Scene::Firing => 1,
+            Scene::WatchedKey => 1,
             _ => ROOT,
         }
     }
 
-    /// The name of a key.
-    pub fn key_name(self, alloc: Global, key: u32) -> Result<String> {
-        match self.scene {
-            Scene::Subkeys | Scene::SparseSubkeys => rising_name(alloc, key),
-            _ => mixed_name(alloc, key),
-        }
-    }
-
-    /// The name of a value.
-    pub fn value_name(self, alloc: Global, value: u32) -> Result<String> {
-        match self.scene {
-            Scene::Values => Ok(format!(in alloc; "{VALUE}{value}")?),
-            _ => Ok(format!(in alloc; "{VALUE}")?),
-        }
+    /// The number of the value that a key's number stands for.
+    pub fn value(self, key: u32) -> u32 {
+        if self.scene == Scene::Values { key } else { 0 }
     }
 
     /// Opens the root and makes what is there.
     pub fn fill<H: Registry>(self, alloc: Global, stage: &mut Stage<H>) -> Result<()> {
-        stage.change(open_root())?;
-        match self.scene {
-            Scene::Parents => self.fill_parents(alloc, stage),
-            Scene::Keys => self.fill_keys(alloc, stage),
-            Scene::Subkeys => fill_subkeys(alloc, stage, 0, self.size),
-            Scene::SparseSubkeys => self.fill_sparsely(alloc, stage),
-            Scene::Values => self.fill_values(alloc, stage),
-            Scene::Chain => self.fill_chain(alloc, stage),
-            Scene::Descriptors => self.fill_descriptors(alloc, stage),
-            Scene::Watched | Scene::Ended => self.fill_watched(alloc, stage),
-            Scene::Firing => self.fill_firing(alloc, stage),
-            Scene::Tree => self.fill_tree(alloc, stage),
-        }
-    }
-
-    fn fill_parents<H: Registry>(self, alloc: Global, stage: &mut Stage<H>) -> Result<()> {
+        stage.change(0, open_root())?;
         for parent in 0..self.parents() {
             let name = mixed_name(alloc, parent)?;
-            stage.change(create(alloc, ROOT, name.as_str())?)?;
+            stage.change(0, create(alloc, ROOT, name.as_str(), None)?)?;
+        }
+        let rounds = match self.scene {
+            Scene::Watched | Scene::Ended => SESSIONS,
+            _ => self.size,
+        };
+        for key in 0..rounds {
+            self.fill_one(alloc, stage, key)?;
         }
         Ok(())
     }
 
-    fn fill_keys<H: Registry>(self, alloc: Global, stage: &mut Stage<H>) -> Result<()> {
-        self.fill_parents(alloc, stage)?;
-        for key in 0..self.size {
-            let name = mixed_name(alloc, key)?;
-            let handle = stage.change(create(alloc, self.parent(key), name.as_str())?)?;
-            stage.change(set(alloc, handle, VALUE, SIZE)?)?;
-        }
-        Ok(())
-    }
-
-    /// Makes as many subkeys as there may be, in the order of their names, and deletes all but one in a row of as many as a list then
-    /// has, over and over.
-    fn fill_sparsely<H: Registry>(self, alloc: Global, stage: &mut Stage<H>) -> Result<()> {
-        let mut first = 0;
-        let mut left: u32 = 0;
-        for _round in 0..self.size {
-            let wanted = self.size.saturating_sub(left);
-            if wanted == 0 {
-                break;
+    fn fill_one<H: Registry>(self, alloc: Global, stage: &mut Stage<H>, key: u32) -> Result<()> {
+        match self.scene {
+            Scene::Parents => {}
+            Scene::Keys | Scene::Chain => {
+                let handle = make_key(alloc, stage, self.parent(key), key)?;
+                stage.change(0, set(alloc, handle, 0, SIZE)?)?;
             }
-            let more = wanted
-                .saturating_mul(EACH)
-                .min(SUBKEYS.saturating_sub(left));
-            fill_subkeys(alloc, stage, first, more)?;
-            left = left.saturating_add(thin_out(alloc, stage, first, more)?);
-            first = first.saturating_add(more);
-        }
-        Ok(())
-    }
-
-    fn fill_values<H: Registry>(self, alloc: Global, stage: &mut Stage<H>) -> Result<()> {
-        for value in 0..self.size {
-            let name = self.value_name(alloc, value)?;
-            stage.change(set(alloc, ROOT, name.as_str(), SIZE)?)?;
-        }
-        Ok(())
-    }
-
-    fn fill_chain<H: Registry>(self, alloc: Global, stage: &mut Stage<H>) -> Result<()> {
-        let mut above = ROOT;
-        for _depth in 0..self.size {
-            above = stage.change(create(alloc, above, "Below")?)?;
-        }
-        stage.change(set(alloc, above, VALUE, SIZE)?)?;
-        Ok(())
-    }
-
-    fn fill_descriptors<H: Registry>(self, alloc: Global, stage: &mut Stage<H>) -> Result<()> {
-        for key in 0..self.size {
-            let group = key / EACH;
-            let path = format!(in alloc; "Group{group}\\Key{key}")?;
-            stage.change(create_described(alloc, ROOT, path.as_str(), key)?)?;
-        }
-        Ok(())
-    }
-
-    fn fill_watched<H: Registry>(self, alloc: Global, stage: &mut Stage<H>) -> Result<()> {
-        let other = stage.change(create(alloc, ROOT, "Other")?)?;
-        for _handle in 1..HANDLES {
-            stage.change(open(alloc, ROOT, "Other")?)?;
-        }
-        stage.change(set(alloc, other, VALUE, SIZE)?)?;
-        for session in 0..SESSIONS {
-            let handle = self.watch_by(alloc, stage, session)?;
-            if self.scene == Scene::Ended {
-                stage.change_by(session, Change::Close { handle })?;
+            Scene::Subkeys => make_closed(alloc, stage, key)?,
+            Scene::SparseLists => fill_list(alloc, stage, key)?,
+            Scene::Values => {
+                stage.change(0, set(alloc, ROOT, key, SIZE)?)?;
             }
+            Scene::Descriptors => {
+                let path = format!(in alloc; "Group{}\\Key{key}", key / EACH)?;
+                let described = Some(descriptor(alloc, key)?);
+                stage.change(0, create(alloc, ROOT, path.as_str(), described)?)?;
+            }
+            Scene::Watched | Scene::Ended => self.watch_by(
+                alloc,
+                stage,
+                u8::try_from(key).unwrap_or(0),
+            )?,
+            Scene::WatchedKey => watch(stage, 0, 1)?,
         }
         Ok(())
     }
 
-    /// Lets a session watch a key of its own, and answers the handle that does.
-    fn watch_by<H: Registry>(
-        self,
-        alloc: Global,
-        stage: &mut Stage<H>,
-        session: u8,
-    ) -> Result<u64> {
-        let root = stage.entries();
-        stage.change_by(session, open_root())?;
-        let handle = stage.entries();
+    /// Lets a session watch a key of its own. Where the watches are to end, its handle is closed.
+    fn watch_by<H: Registry>(self, alloc: Global, stage: &mut Stage<H>, session: u8) -> Result<()> {
+        let root = stage.change(session, open_root())?;
         let name = format!(in alloc; "Watched{session}")?;
-        stage.change_by(session, create(alloc, root, name.as_str())?)?;
+        let handle = stage.change(session, create(alloc, root, name.as_str(), None)?)?;
         for _watch in 0..self.size {
-            stage.change_by(session, watch(handle))?;
+            watch(stage, session, handle)?;
         }
-        Ok(handle)
-    }
-
-    fn fill_firing<H: Registry>(self, alloc: Global, stage: &mut Stage<H>) -> Result<()> {
-        let handle = stage.change(create(alloc, ROOT, "Watched")?)?;
-        for _watch in 0..self.size {
-            stage.change(watch(handle))?;
-        }
-        Ok(())
-    }
-
-    fn fill_tree<H: Registry>(self, alloc: Global, stage: &mut Stage<H>) -> Result<()> {
-        let tree = stage.change(create(alloc, ROOT, "Tree")?)?;
-        for key in 0..self.size {
-            let name = mixed_name(alloc, key)?;
-            let handle = stage.change(create(alloc, tree, name.as_str())?)?;
-            if key < WATCHES {
-                stage.change(watch(handle))?;
-            } else {
-                stage.change(Change::Close { handle })?;
-            }
+        if self.scene == Scene::Ended {
+            stage.change(session, Change::Close { handle })?;
         }
         Ok(())
     }
 }
 
-/// Makes so many subkeys of the root, from a number on.
-fn fill_subkeys<H: Registry>(
-    alloc: Global,
-    stage: &mut Stage<H>,
-    first: u32,
-    more: u32,
-) -> Result<()> {
-    for key in 0..more {
-        let name = rising_name(alloc, first.saturating_add(key))?;
-        let handle = stage.change(create(alloc, ROOT, name.as_str())?)?;
-        stage.change(Change::Close { handle })?;
-    }
+/// Asks to be told of a value that is set.
+fn watch<H: Registry>(stage: &mut Stage<H>, session: u8, handle: u64) -> Result<()> {
+    let filter = LAST_SET;
+    let subtree = false;
+    stage.change(
+        session,
+        Change::Notify {
+            handle,
+            filter,
+            subtree,
+        },
+    )?;
     Ok(())
 }
 
-/// Deletes all subkeys from a number on but the first one of each row, and answers how many stay.
-fn thin_out<H: Registry>(
-    alloc: Global,
-    stage: &mut Stage<H>,
-    first: u32,
-    count: u32,
-) -> Result<u32> {
-    let mut left: u32 = 0;
-    for key in 0..count {
-        if key % EACH == 0 {
-            left = left.saturating_add(1);
-        } else {
-            let name = rising_name(alloc, first.saturating_add(key))?;
-            stage.change(delete(alloc, ROOT, name.as_str())?)?;
-        }
+/// Makes a key, and answers its handle.
+fn make_key<H: Registry>(alloc: Global, stage: &mut Stage<H>, above: u64, key: u32) -> Result<u64> {
+    let name = key_name(alloc, key)?;
+    stage.change(0, create(alloc, above, name.as_str(), None)?)
+}
+
+/// Makes a subkey of the root.
+fn make_closed<H: Registry>(alloc: Global, stage: &mut Stage<H>, key: u32) -> Result<()> {
+    let handle = make_key(alloc, stage, ROOT, key)?;
+    stage.change(0, Change::Close { handle })?;
+    Ok(())
+}
+
+/// Makes the subkeys of one more list, and deletes those of the third one before but the first. No more subkeys come into that one.
+fn fill_list<H: Registry>(alloc: Global, stage: &mut Stage<H>, list: u32) -> Result<()> {
+    for key in 0..EACH {
+        make_closed(alloc, stage, list.saturating_mul(EACH).saturating_add(key))?;
     }
-    Ok(left)
+    let Some(before) = list.checked_sub(3) else {
+        return Ok(());
+    };
+    for key in 1..EACH {
+        let name = key_name(alloc, before.saturating_mul(EACH).saturating_add(key))?;
+        let path = Bytes::from_slice(alloc, name.as_bytes())?;
+        stage.change(0, Change::DeleteKey { handle: ROOT, path })?;
+    }
+    Ok(())
 }

@@ -11,20 +11,14 @@ use std::alloc::Global;
 use std::rt::Clock;
 use std::time::{Duration, Instant};
 
-/// On how many keys calls are made between two readings of the clock. A hive's session is to have so many more handles.
+/// On how many keys calls are made between two readings of the clock. A session is to have so many more handles than a place has.
 const BATCH: u32 = 100;
 
 /// On how many keys calls are made where nothing else is said.
 const CALLS: u32 = 32_000;
 
-/// What stands beside the hive.
-#[derive(Clone, Copy)]
-pub enum Beside {
-    /// Plain maps with the same keys.
-    Maps,
-    /// Another hive.
-    Hive(Place),
-}
+/// By it the numbers of keys are mixed. As many in a row as there are keys visit each once.
+const PRIME: u64 = 48_271;
 
 /// What is done, and where.
 #[derive(Clone, Copy)]
@@ -32,13 +26,14 @@ pub struct Row {
     what: &'static str,
     step: Step,
     place: Place,
-    beside: Beside,
+    /// The hive that stands beside; `None`: plain maps with the same keys.
+    other: Option<Place>,
     /// Among how many keys of the place those are chosen that are visited.
     among: u32,
     calls: u32,
 }
 
-/// How long the calls took.
+/// How long the calls took on the hive, and on what stands beside.
 #[derive(Clone, Copy)]
 struct Times {
     ours: Duration,
@@ -47,32 +42,22 @@ struct Times {
 
 impl Row {
     /// A row beside plain maps.
-    pub fn maps(what: &'static str, step: Step, scene: Scene, size: u32) -> Row {
+    pub fn new(what: &'static str, step: Step, scene: Scene, size: u32) -> Row {
+        let place = Place { scene, size };
         Row {
             what,
             step,
-            place: Place { scene, size },
-            beside: Beside::Maps,
-            among: size,
-            calls: if step == Step::Make { size } else { CALLS },
+            place,
+            other: None,
+            among: place.keys(),
+            calls: CALLS,
         }
     }
 
-    /// A row beside a hive of another size.
-    pub fn sizes(what: &'static str, step: Step, scene: Scene, size: u32, other: u32) -> Row {
-        Row {
-            beside: Beside::Hive(Place { scene, size: other }),
-            ..Row::maps(what, step, scene, size)
-        }
-    }
-
-    /// The row beside a hive of as many keys of another kind.
-    pub fn beside(self, scene: Scene) -> Row {
-        let size = self.place.size;
-        Row {
-            beside: Beside::Hive(Place { scene, size }),
-            ..self
-        }
+    /// The row beside another hive.
+    pub fn beside(self, scene: Scene, size: u32) -> Row {
+        let other = Some(Place { scene, size });
+        Row { other, ..self }
     }
 
     /// The row that visits the first keys alone.
@@ -80,54 +65,40 @@ impl Row {
         Row { among, ..self }
     }
 
-    /// The row with so many calls.
+    /// The row with calls on so many keys.
     pub fn calls(self, calls: u32) -> Row {
         Row { calls, ..self }
     }
 
     /// The row while no time is taken.
     fn small(self) -> Row {
-        let beside = match self.beside {
-            Beside::Maps => Beside::Maps,
-            Beside::Hive(place) => Beside::Hive(place.small()),
+        let other = match self.other {
+            Some(place) => Some(place.small()),
+            None => None,
         };
         Row {
             place: self.place.small(),
-            beside,
-            among: self.among.min(SMALL),
+            other,
             calls: self.calls.min(SMALL),
             ..self
         }
     }
-}
 
-impl Row {
-    /// Makes the calls on both sides, and prints how long they take; while no time is taken, how many entries there are then.
+    /// Makes the calls on a hive, in which nothing was changed, and on what stands beside. Prints how long they take; while no time is
+    /// taken, how many entries there are then.
     pub fn run<H: Registry>(
         self,
         rt: &(impl Print + Clock),
         alloc: Global,
-        takes_time: bool,
-    ) -> Result<()> {
-        let mut hive = Stage::<H>::hive(alloc)?;
-        let mut beside = match self.beside {
-            Beside::Maps => Stage::maps(alloc)?,
-            Beside::Hive(_) => Stage::hive(alloc)?,
-        };
-        self.run_on(rt, alloc, &mut hive, &mut beside, takes_time)
-    }
-
-    /// The same on a hive that is there.
-    pub fn run_on<H: Registry>(
-        self,
-        rt: &(impl Print + Clock),
-        alloc: Global,
         hive: &mut Stage<H>,
-        beside: &mut Stage<H>,
         takes_time: bool,
     ) -> Result<()> {
         let row = if takes_time { self } else { self.small() };
-        let times = row.time(rt, alloc, hive, beside)?;
+        let mut beside = match self.other {
+            None => Stage::maps(alloc)?,
+            Some(_) => Stage::hive(alloc)?,
+        };
+        let times = row.time(rt, alloc, hive, &mut beside)?;
         if takes_time {
             return row.print(rt, times);
         }
@@ -149,10 +120,7 @@ impl Row {
         hive: &mut Stage<H>,
         beside: &mut Stage<H>,
     ) -> Result<Times> {
-        let other = match self.beside {
-            Beside::Maps => self.place,
-            Beside::Hive(place) => place,
-        };
+        let other = self.other.unwrap_or(self.place);
         self.place.fill(alloc, hive)?;
         other.fill(alloc, beside)?;
         let mut times = Times {
@@ -160,10 +128,10 @@ impl Row {
             beside: Duration::ZERO,
         };
         for batch in 0..self.calls.div_ceil(BATCH) {
-            let ours = self.time_batch(rt, alloc, hive, self.place, batch)?;
-            times.ours = times.ours.saturating_add(ours);
-            let ours = self.time_batch(rt, alloc, beside, other, batch)?;
-            times.beside = times.beside.saturating_add(ours);
+            let time = self.time_batch(rt, alloc, hive, self.place, batch)?;
+            times.ours = times.ours.saturating_add(time);
+            let time = self.time_batch(rt, alloc, beside, other, batch)?;
+            times.beside = times.beside.saturating_add(time);
         }
         Ok(times)
     }
@@ -190,17 +158,14 @@ impl Row {
         Ok(time)
     }
 
-    /// The keys that a batch visits: each once where they are made, and else all of them in an order of chance, over and over.
+    /// The keys that a batch visits: all of them in an order of chance, over and over.
     fn keys(self, alloc: Global, place: Place, batch: u32) -> Result<Vec<u32>> {
         let first = batch.saturating_mul(BATCH);
-        let among = self.among.min(place.size);
+        let among = u64::from(self.among.min(place.keys()));
         let mut keys = Vec::new(alloc);
         for index in first..self.calls.min(first.saturating_add(BATCH)) {
-            if self.step == Step::Make {
-                keys.push(index)?;
-            } else {
-                keys.push(scattered(index, among))?;
-            }
+            let key = (u64::from(index) * PRIME).checked_rem(among).unwrap_or(0);
+            keys.push(u32::try_from(key).unwrap_or(0))?;
         }
         Ok(keys)
     }
@@ -210,25 +175,13 @@ impl Row {
         let ours = PerCall::new(times.ours, calls).nanos();
         let beside = PerCall::new(times.beside, calls).nanos();
         let ratio = Ratio::new(ours, beside);
-        let size = self.place.size;
-        match self.beside {
-            Beside::Maps => println!(rt;
-                "{}, {size}: {ours} ns, plain maps {beside} ns, {ratio} times",
-                self.what
-            )?,
-            Beside::Hive(place) => println!(rt;
-                "{}, {size}: {ours} ns, at {} {beside} ns, {ratio} times",
-                self.what, place.size
-            )?,
+        print!(rt; "{}, {}: {ours} ns, ", self.what, self.place.size)?;
+        match self.other {
+            None => println!(rt; "plain maps {beside} ns, {ratio} times")?,
+            Some(place) => println!(rt; "at {} {beside} ns, {ratio} times", place.size)?,
         }
         Ok(())
     }
-}
-
-/// A number below a bound that depends on an index. As many indexes as the bound give each once.
-fn scattered(index: u32, bound: u32) -> u32 {
-    let mixed = u64::from(index) * 48_271 + 11;
-    (mixed.checked_rem(u64::from(bound)).unwrap_or(0)) as u32
 }
 
 fn time_calls<H: Registry>(

@@ -10,7 +10,7 @@ use std::alloc::Global;
 #[derive(Drop)]
 pub enum Stage<H> {
     Hive(H),
-    /// These answer session 0 alone.
+    /// These know one session alone.
     Maps(PlainMaps),
 }
 
@@ -25,7 +25,7 @@ impl<H: Registry> Stage<H> {
         Ok(Stage::Maps(PlainMaps::new(alloc)?))
     }
 
-    /// How many entries the journal has: the number of the next handle.
+    /// How many entries the journal has.
     pub fn entries(&self) -> u64 {
         match self {
             Stage::Hive(hive) => hive.len() as u64,
@@ -33,22 +33,16 @@ impl<H: Registry> Stage<H> {
         }
     }
 
-    /// Makes a change of a session, below 64, which is accepted.
-    pub fn change_by(&mut self, session: u8, change: Change) -> Result<()> {
+    /// Makes a change of a session, below 64, which is accepted. Answers the number of its entry.
+    pub fn change(&mut self, session: u8, change: Change) -> Result<u64> {
+        let entry = self.entries();
         let reply = match self {
             Stage::Hive(hive) => hive.apply(session % 64, 1, change),
             Stage::Maps(maps) => maps.apply(1, change)?,
         };
         if reply.status != 0 {
-            bail!("a change was refused: {}", reply.status);
+            bail!("a change was refused");
         }
-        Ok(())
-    }
-
-    /// Makes a change of session 0, and answers the number of the handle that it opens, if it does.
-    pub fn change(&mut self, change: Change) -> Result<u64> {
-        let entry = self.entries();
-        self.change_by(0, change)?;
         Ok(entry)
     }
 
@@ -59,8 +53,8 @@ impl<H: Registry> Stage<H> {
             Stage::Maps(maps) => maps.read(query)?,
         };
         match &body {
-            AnswerBody::Refused { status } | AnswerBody::Short { status, .. } => {
-                bail!("a question was refused: {status}")
+            AnswerBody::Refused { .. } | AnswerBody::Short { .. } => {
+                bail!("a question was refused")
             }
             _ => Ok(()),
         }
@@ -70,7 +64,9 @@ impl<H: Registry> Stage<H> {
     pub fn play(&mut self, calls: Vec<Call>) -> Result<()> {
         for call in calls {
             match call {
-                Call::Change(change) => self.change_by(0, change)?,
+                Call::Change(change) => {
+                    self.change(0, change)?;
+                }
                 Call::Query(query) => self.ask(&query)?,
             }
         }
