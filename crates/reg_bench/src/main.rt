@@ -1,83 +1,109 @@
-//! Measures what calls of the libraries cost.
+//! Measures what calls of the libraries cost that the tool can't show: cells, a tree's memory, and calls of a hive beside plain maps,
+//! at two sizes, with watches and with callbacks.
 //!
-//! `reg_bench measure SUBJECT` prints how long the calls of a subject take, most at three sizes of what it works on. Without an
-//! argument each subject but `maps` runs at a small size and prints counts alone, which are the same on every run.
+//! `reg_bench measure SUBJECT` prints the mean time of a call for each row of a subject, beside the same calls on plain maps or on
+//! another hive; the subjects are `arena`, `maps`, `sizes`, `watches` and `callbacks`. `reg_bench memory` makes a tree of 180,000 keys
+//! and prints how many bytes its bins have; the system tells the process's memory. Without an argument everything is done with a few
+//! keys, and counts are printed alone, which are the same on every run.
 //!
-//! Its one contract: the calls of a batch are one operation by some handles, all accepted, and each change of them is an entry more;
-//! so is each change that a hive is given beside plain maps. It stands on reg_workload, which says what is done, and on the crates
-//! that it measures. Its main types are `OpenHive`, a hive with handles, and `Both`, a hive and plain maps with the same keys.
-//!
-//! Whatever works on a hive is generic in a [`reg_fixtures::Registry`], and `main` alone names the type, since a function that names it
-//! is checked together with all that a hive is made of, which takes many times as long.
+//! A row is a [`row::Row`]: a [`step::Step`] on the keys of a [`place::Place`], whose calls a [`stage::Stage`] answers. One loop times
+//! all of them. Whatever works on a hive is generic in a [`reg_fixtures::Registry`], which is checked without all that a hive is made
+//! of.
 #![tactic(auto)]
 
-mod arena;
-mod both;
+mod calls;
 mod cells;
-mod depths;
-mod handles;
-mod hives;
-mod key_script;
-mod keys;
-mod lists;
-mod makes;
-mod maps;
-mod measured;
-mod open_hive;
-mod ratios;
-mod script;
-mod securities;
-mod subkey_calls;
-mod subkeys;
-mod times;
-mod values;
+mod place;
+mod row;
+mod rows;
+mod stage;
+mod step;
 
-use crate::measured::Measured;
+use crate::row::Row;
+use crate::stage::Stage;
 use anyhow::{Result, bail};
-use reg_fixtures::PlainHive;
-use reg_workload::Subject;
+use reg_callbacks::{Callback, NoCallback};
+use reg_calls::Hive;
+use reg_fixtures::{PlainHive, Registry};
 use std::alloc::Global;
 use std::env;
 use std::rt::Clock;
 
-/// Runs each subject but `maps`, which has no counts of its own, at a small size and prints counts.
-fn count_all<H: Measured>(rt: &(impl Print + Clock), alloc: Global) -> Result<()> {
-    arena::count(rt, alloc)?;
-    keys::count(rt, alloc)?;
-    values::count::<H>(rt, alloc)?;
-    handles::count::<H>(rt, alloc)?;
-    makes::count::<H>(rt, alloc)?;
-    script::count::<H>(rt, alloc)?;
-    key_script::count::<H>(rt, alloc)?;
-    ratios::count::<H>(rt, alloc)?;
-    depths::count::<H>(rt, alloc)?;
-    lists::count::<H>(rt, alloc)?;
-    securities::count::<H>(rt, alloc)?;
-    subkeys::count(rt, alloc)?;
-    subkey_calls::count::<H>(rt, alloc)
+/// What is measured.
+const SUBJECTS: [&str; 5] = ["arena", "maps", "sizes", "watches", "callbacks"];
+
+/// How many callbacks are registered.
+const CALLBACKS: u32 = 64;
+
+/// Registers callbacks, each at an altitude of its own.
+fn register_all<C: Callback>(hive: &mut Hive<C>, callbacks: Vec<C>) -> Result<()> {
+    let mut altitude: u32 = 0;
+    for callback in callbacks {
+        if hive.register(callback, altitude).is_err() {
+            bail!("a callback was not registered");
+        }
+        altitude = altitude.saturating_add(1);
+    }
+    Ok(())
 }
 
-/// Prints how long the calls of a subject take.
-fn measure<H: Measured>(rt: &(impl Print + Clock), alloc: Global, subject: Subject) -> Result<()> {
-    match subject {
-        Subject::Arena => arena::measure(rt, alloc),
-        Subject::Handles => handles::measure::<H>(rt, alloc),
-        Subject::Keys => {
-            keys::measure(rt, alloc)?;
-            subkeys::measure(rt, alloc)?;
-            subkey_calls::measure::<H>(rt, alloc)
+/// Does a row on a hive that asks callbacks, beside one that asks none.
+fn run_with<C: Callback>(
+    rt: &(impl Print + Clock),
+    alloc: Global,
+    callbacks: Vec<C>,
+    row: Row,
+    takes_time: bool,
+) -> Result<()> {
+    let mut hive = Hive::new(alloc, b"ROOT", &[1], 0)?;
+    register_all(&mut hive, callbacks)?;
+    row.run(rt, alloc, &mut Stage::Hive(hive), takes_time)
+}
+
+fn run_with_callbacks(rt: &(impl Print + Clock), alloc: Global, takes_time: bool) -> Result<()> {
+    for row in rows::with_callbacks(alloc)?.iter() {
+        let mut callbacks: Vec<Box<dyn Callback + Send>> = Vec::new(alloc);
+        for _callback in 0..CALLBACKS {
+            callbacks.push(Box::new(alloc, NoCallback)?)?;
         }
-        Subject::Lists => lists::measure::<H>(rt, alloc),
-        Subject::Makes => makes::measure::<H>(rt, alloc),
-        Subject::Maps => maps::measure::<H>(rt, alloc),
-        Subject::Ratios => {
-            ratios::measure::<H>(rt, alloc)?;
-            depths::measure::<H>(rt, alloc)
-        }
-        Subject::Script => script::measure::<H>(rt, alloc),
-        Subject::Securities => securities::measure::<H>(rt, alloc),
-        Subject::Values => values::measure::<H>(rt, alloc),
+        run_with(rt, alloc, callbacks, *row, takes_time)?;
     }
+    Ok(())
+}
+
+/// Does the rows of a subject.
+fn run_subject<H: Registry>(
+    rt: &(impl Print + Clock),
+    alloc: Global,
+    subject: &str,
+    takes_time: bool,
+) -> Result<()> {
+    let rows = match subject {
+        "arena" => return cells::run(
+            rt,
+            alloc,
+            if takes_time { 1_000_000 } else { 240 },
+            takes_time,
+        ),
+        "maps" => rows::beside_maps(alloc)?,
+        "sizes" => rows::at_two_sizes(alloc)?,
+        "watches" => rows::with_watches(alloc)?,
+        "callbacks" => return run_with_callbacks(rt, alloc, takes_time),
+        _ => bail!("the subjects are: arena, maps, sizes, watches, callbacks"),
+    };
+    for row in rows.iter() {
+        row.run(rt, alloc, &mut Stage::<H>::hive(alloc)?, takes_time)?;
+    }
+    Ok(())
+}
+
+/// Does everything with a few keys.
+fn run_small<H: Registry>(rt: &(impl Print + Clock), alloc: Global) -> Result<()> {
+    cells::fill_tree(rt, alloc, 12)?;
+    for subject in SUBJECTS {
+        run_subject::<H>(rt, alloc, subject, false)?;
+    }
+    Ok(())
 }
 
 fn main(rt: HostRuntime) -> Result<()> {
@@ -85,16 +111,16 @@ fn main(rt: HostRuntime) -> Result<()> {
     let mut words = env::args(&rt)?;
     let _program = words.next();
     let Some(word) = words.next() else {
-        return count_all::<PlainHive>(&rt, alloc);
+        return run_small::<PlainHive>(&rt, alloc);
     };
-    let Some(name) = words.next() else {
+    if word.as_str() == "memory" {
+        return cells::fill_tree(&rt, alloc, 180_000);
+    }
+    if word.as_str() != "measure" {
+        bail!("the words are: measure SUBJECT, memory");
+    }
+    let Some(subject) = words.next() else {
         bail!("a subject is missing: measure SUBJECT");
     };
-    if word.as_str() != "measure" {
-        bail!("no such word: measure SUBJECT");
-    }
-    let Some(subject) = Subject::named(name.as_bytes()) else {
-        bail!("no such subject");
-    };
-    measure::<PlainHive>(&rt, alloc, subject)
+    run_subject::<PlainHive>(&rt, alloc, subject.as_str(), true)
 }

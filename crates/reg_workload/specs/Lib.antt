@@ -1,10 +1,2 @@
-pub mod KeyChains
 pub mod LiveCells
-pub mod OpenKeys
-pub mod Operations
 pub mod PlainJournals
-pub mod PlannedKeys
-pub mod SecuritySteps
-pub mod Subjects
-pub mod Turns
-pub mod ValueSteps

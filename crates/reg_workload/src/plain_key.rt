@@ -19,7 +19,7 @@ impl PlainValue {
     pub fn told(&self, alloc: Global) -> Result<AnswerBody, AllocError> {
         Ok(AnswerBody::Value {
             kind: self.kind,
-            size: u32::try_from(self.bytes.as_slice().len()).unwrap_or(u32::MAX),
+            size: narrow(self.bytes.as_slice().len()),
             bytes: Some(self.bytes.try_clone(alloc)?),
         })
     }
@@ -84,10 +84,30 @@ impl PlainKey {
         Ok(())
     }
 
-    /// Deletes a value; those behind it move up.
-    pub fn delete(&mut self, name: &[u8]) {
-        if let Some(place) = self.position(name) {
-            self.values.remove(place);
+    /// What the key has, by one walk over its subkeys and one over its values.
+    pub fn info(&self) -> AnswerBody {
+        let mut longest_key = 0;
+        for (name, _place) in self.children.iter() {
+            longest_key = name.len().max(longest_key);
+        }
+        let mut longest_value = 0;
+        let mut largest = 0;
+        for value in self.values.iter() {
+            longest_value = value.name.as_slice().len().max(longest_value);
+            largest = value.bytes.as_slice().len().max(largest);
+        }
+        AnswerBody::Info {
+            subkeys: narrow(self.children.len()),
+            longest_key: narrow(longest_key),
+            values: narrow(self.values.len()),
+            longest_value: narrow(longest_value),
+            largest: narrow(largest),
+            security: 0,
+            time: self.moment,
         }
     }
+}
+
+fn narrow(size: usize) -> u32 {
+    u32::try_from(size).unwrap_or(u32::MAX)
 }

@@ -34,8 +34,8 @@ enum Made {
     },
 }
 
-/// Keys, handles and a journal in a vector and maps, of one session. It answers the changes that [`KeyPlan`](crate::KeyPlan) makes
-/// as a hive does: paths of one name, no value removed, no descriptor, and no mask, limit or room out of range; others are refused by 87.
+/// Keys, handles and a journal in a vector and maps, of one session. It answers as a hive does where
+/// paths have one name, no value is removed, no descriptor is given, and no mask, limit or room is out of range; the rest it refuses by 87.
 #[derive(Drop)]
 pub struct PlainMaps {
     alloc: Global,
@@ -97,43 +97,26 @@ impl PlainMaps {
         Ok(reply)
     }
 
-    /// Makes changes, and tells how many were accepted: each of them is an entry more.
-    pub fn apply_all(&mut self, changes: Vec<Change>) -> Result<usize, AllocError>
-        ensures { IfOk result (λ accepted. length self.new.journal.items ≡ length self.old.journal.items + accepted) }
-    {
-        let mut accepted: usize = 0;
-        for change in changes {
-            if self.apply(1, change)?.status == 0 {
-                accepted += 1;
-            }
+    /// Answers a question for a value, with room for it, or for what a key has. Its one fault is that memory was refused.
+    pub fn read(&self, query: &Query) -> Result<AnswerBody, AllocError> {
+        match query {
+            Query::QueryValue { handle, name, .. } => self.query(*handle, name.as_slice()),
+            Query::QueryInfo { handle } => match self.look(*handle) {
+                Ok((key, _)) => Ok(key.info()),
+                Err(status) => Ok(refused(status)),
+            },
+            _ => Ok(refused(INVALID_PARAMETER)),
         }
-        Ok(accepted)
     }
 
-    /// Answers a question for a value, with room for it. Its one fault is that memory was refused.
-    pub fn read(&self, query: &Query) -> Result<AnswerBody, AllocError> {
-        let Query::QueryValue { handle, name, .. } = query else {
-            return Ok(refused(INVALID_PARAMETER));
-        };
-        let name = name.as_slice();
-        match self.opened(*handle, name, QUERY_VALUE) {
+    fn query(&self, handle: u64, name: &[u8]) -> Result<AnswerBody, AllocError> {
+        match self.opened(handle, name, QUERY_VALUE) {
             Ok((key, _)) => match key.value(name) {
                 Some(value) => value.told(self.alloc),
                 None => Ok(refused(FILE_NOT_FOUND)),
             },
             Err(status) => Ok(refused(status)),
         }
-    }
-
-    /// Asks questions, and tells how many bytes were told together.
-    pub fn read_all(&self, queries: &[Query]) -> Result<u64, AllocError> {
-        let mut told: u64 = 0;
-        for query in queries {
-            if let AnswerBody::Value { size, .. } = self.read(query)? {
-                told = told.saturating_add(u64::from(size));
-            }
-        }
-        Ok(told)
     }
 
     /// Makes a change of keys and handles, but for a handle that it opens. The journal stays.
