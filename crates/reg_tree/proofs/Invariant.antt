@@ -16,3 +16,4 @@ pub mod LengthsAfterGraft
 pub mod LengthsSeen
 pub mod DescribedKeys
 pub mod TreeLimits
+pub mod RoomMade

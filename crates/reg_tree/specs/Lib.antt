@@ -7,6 +7,7 @@ pub mod ValueAnswers
 pub mod Reaching
 pub mod SubkeyWalk
 pub mod BuiltKeys
+pub mod MoreRoom
 pub mod MoreValues
 pub mod ValueBytes
 pub mod Internal

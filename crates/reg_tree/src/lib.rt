@@ -28,6 +28,7 @@ mod names_seen;
 mod node;
 mod prune;
 mod read;
+mod room;
 mod security;
 mod tree;
 mod unmake;

@@ -1,4 +1,4 @@
-ghost use Rattle.std.specs.Prelude.{true, false, ◌≡◌, ◌↔◌, ◌⊎◌, ◌≢◌, ◌≤◌, ◌<◌, ◌+◌, ◌*◌, ◌++◌, ℕ, List, [], ◌∷◌, length, Err, Some, None, OnOk, OnErr, IfOk, IfErr};
+ghost use Rattle.std.specs.Prelude.{true, false, ◌≡◌, ◌↔◌, ◌⊎◌, ◌≢◌, ◌≤◌, ◌<◌, ◌+◌, ◌*◌, ◌%◌, ◌++◌, ℕ, List, [], ◌∷◌, length, Err, Some, None, OnOk, OnErr, IfOk, IfErr};
 ghost use Rattle.std.specs.Prelude.{IsSome, IfSome, MatchOption, max, slice_get, get_or, option_map};
 ghost use Rattle.std.specs.List.{fold};
 ghost use Rattle.std.specs.FinMap.{insert, empty, get};
@@ -22,7 +22,7 @@ use crate::key::new_root;
 use crate::names_seen::NamesSeen;
 use crate::{
     Created, NewKey, NewValue, Node, Reached, Subkey, TreeFault, ValueFound, build, build_values,
-    find, make, prune, read, security, unmake, values,
+    find, make, prune, read, room, security, unmake, values,
 };
 use reg_arena::{Arena, ArenaFault, cell_size};
 use reg_records::put_nk;
@@ -64,6 +64,7 @@ impl Tree {
     ghost use Rattle.reg_tree.specs.Reaching.{IsWalkedTo};
     ghost use Rattle.reg_tree.specs.SubkeyWalk.{IsSubkeyAt, name_length};
     ghost use Rattle.reg_tree.specs.BuiltKeys.{MayBuild, built_key, with_values, class_sizes, TakesCells, BuildsRoot, BuildsKey, LacksKeyRoom};
+    ghost use Rattle.reg_tree.specs.MoreRoom.{MakesRoom};
     ghost use Rattle.reg_tree.specs.MoreValues.{with_more_values, HasListRoom, MayExtend};
     ghost use Rattle.reg_values.specs.NewValues.{all_told, all_value_sizes, each_value_sizes, MayFollow};
 
@@ -820,6 +821,23 @@ impl Tree {
             key,
             known,
         )
+    }
+
+    /// Sees to it that some free cell has a size, which is a multiple of 8, not 0 and at most 16,777,216: only where none has, a bin of
+    /// the least size for it is appended. So cells to come that fit into it take no bins of their own. The keys stay as they are, and
+    /// so does each cell that isn't free. After a fault the tree is as before.
+    ///
+    /// `Full` only where no free cell has the size and one bin more for it would pass the limit of 268,435,456 bytes; `Memory`.
+    pub fn reserve(&mut self, alloc: Global, size: u32) -> Result<(), ArenaFault>
+        requires eights { size % 8 ≡ 0 }
+        requires some { 0 < size }
+        requires small { size ≤ CARVE_LIMIT }
+        ensures room { OnOk result (MakesRoom self.old self.new size) }
+        ensures space { result ≡ Err ArenaFault.Full → LacksRoom self.old.bins (size ∷ []) }
+        ensures err { OnErr result (self.new ≡ self.old) }
+    {
+        self.names.forget();
+        room::reserve(alloc, &mut self.arena, size)
     }
 
     /// Puts values as all that a key has that has none, in their order, and gives the key a time; no other key's changes. Each is
