@@ -1,5 +1,6 @@
 pub mod StackEnds
 pub mod WalkedOn
+pub mod RoomierTrees
 pub mod BuiltChains
 pub mod ChildCounts
 pub mod WalkTurns

@@ -13,11 +13,19 @@ use Rattle.reg_tree.specs.declared.node.Node.{Node}
 use Rattle.reg_tree.specs.TreeKeys.{Keys, IsAt}
 use Rattle.reg_tree.specs.CellSizes.{LacksRoom}
 use Rattle.reg_tree.specs.MoreValues.{with_more_values}
+use Rattle.reg_tree.specs.MoreRoom.{MakesRoom}
 use Rattle.reg_tree.specs.BuiltKeys.{AreWhole, TakesCells, with_values, BuildsRoot, BuildsKey, LacksKeyRoom}
+use Rattle.reg_tree_image.specs.declared.room.TheConstants.{MOST_ROOM}
 use Rattle.reg_tree_image.specs.WalkSteps.{Seen}
 use Rattle.reg_tree_image.specs.LoadingWalk.{root_path}
 use Rattle.reg_tree_image.specs.Images.{nothing}
 use Rattle.reg_tree_image.specs.WalkedKeys.{Comes}
+
+-- ---- room for what comes
+
+-- nothing changed; or room was made for so many bytes, 524,288 at most, and all is whole
+abbrev pub IsRoomier : Keys → Keys → Type 0
+IsRoomier old new = (new ≡ old) ⊎ ((size : ℕ) × (size ≤ MOST_ROOM) × MakesRoom old new size × AreWhole new)
 
 -- ---- all values of a key
 
@@ -120,14 +128,17 @@ pub record CrowdsValues (bare : Keys) (path : Path) (time : ℕ) (members : List
 abbrev pub bare_of : Rec → Rec
 bare_of key = record key { values = [] }
 
--- the root was built, and got its values
+-- the root was built, maybe room was made, and it got its values
 abbrev pub BuildsFirst : Keys → Rec → Type 0
-BuildsFirst new key = (bare : Keys) × BuildsRoot bare (bare_of key) × AreWhole bare × PutsValues [] key.time key.values bare new
+BuildsFirst new key =
+    (bare : Keys) × BuildsRoot bare (bare_of key) × AreWhole bare
+    × (roomy : Keys) × IsRoomier bare roomy × PutsValues [] key.time key.values roomy new
 
--- a key was built right below the one at a path, and got its values
+-- maybe room was made, and a key was built right below the one at a path, and got its values
 abbrev pub BuildsOne : Keys → Keys → Path → Rec → Type 0
 BuildsOne old new above key =
-    (bare : Keys) × BuildsKey old bare above (bare_of key) × AreWhole bare × PutsValues (child_path above key.name) key.time key.values bare new
+    (roomy : Keys) × IsRoomier old roomy
+    × (bare : Keys) × BuildsKey roomy bare above (bare_of key) × AreWhole bare × PutsValues (child_path above key.name) key.time key.values bare new
 
 -- keys were built one after the other, each at its path
 abbrev pub BuildsEach : List (Path × Rec) → Keys → Keys → Type 0
@@ -144,14 +155,20 @@ BuildsAll (e ∷ told) keys = (first : Keys) × (e.0 ≡ []) × BuildsFirst firs
 
 -- for the values of the root
 abbrev pub CrowdsRoot : Rec → Type 0
-CrowdsRoot key = (bare : Keys) × BuildsRoot bare (bare_of key) × AreWhole bare × CrowdsValues bare [] key.time key.values
+CrowdsRoot key =
+    (bare : Keys) × BuildsRoot bare (bare_of key) × AreWhole bare
+    × (roomy : Keys) × IsRoomier bare roomy × CrowdsValues roomy [] key.time key.values
 
 -- for a key right below the one at a path; or, once it is there, for its values
-abbrev pub CrowdsBelow : Keys → Path → Rec → Type 0
-CrowdsBelow keys above key =
+abbrev pub CrowdsHere : Keys → Path → Rec → Type 0
+CrowdsHere keys above key =
     LacksKeyRoom keys above (bare_of key)
     ⊎ ((bare : Keys) × BuildsKey keys bare above (bare_of key) × AreWhole bare
     × CrowdsValues bare (child_path above key.name) key.time key.values)
+
+-- the same, where maybe room was made before
+abbrev pub CrowdsBelow : Keys → Path → Rec → Type 0
+CrowdsBelow keys above key = (roomy : Keys) × IsRoomier keys roomy × CrowdsHere roomy above key
 
 -- for a key at a path, once these were built
 abbrev pub CrowdsNext : List (Path × Rec) → Path → Rec → Type 0

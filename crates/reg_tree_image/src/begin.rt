@@ -32,6 +32,7 @@ use crate::first_keys::{FirstKeys, build_sharing};
 use crate::frames::KeyFrame;
 use crate::key_parts::enter_key;
 use crate::keys::{NamedKey, named_key};
+use crate::room::Room;
 use crate::subkeys::subkeys_from;
 use crate::table::{CellState, CellTable};
 use reg_names::PATH_LIMIT;
@@ -80,6 +81,7 @@ pub fn begin_root<'a>(
     minor: u32,
     table: &mut CellTable,
     offset: u32,
+    room: &mut Room,
 ) -> Result<BegunRoot<'a>, LoadFault>
     requires { IsTable (cell_at bins.now) nothing.found [] table.old.states.items }
     ensures begins { MatchResult result
@@ -90,7 +92,7 @@ pub fn begin_root<'a>(
 {
     let named = named_key(alloc, bins, table, offset)?;
     let parts = enter_key(alloc, bins, table, minor, offset, &named.node.fields)?;
-    let tree = build_root(alloc, &named, &parts)?;
+    let tree = build_root(alloc, &named, &parts, room)?;
     let fields = named.node.fields;
     let subkeys = subkeys_from(bins, table, fields.subkeys, fields.subkeys_list)?;
     let key = KeyFrame {
@@ -114,6 +116,7 @@ pub fn begin_key<'a>(
     above: Node,
     offset: u32,
     firsts: &mut FirstKeys,
+    room: &mut Room,
 ) -> Result<KeyFrame<'a>, LoadFault>
     requires above { IsThere tree.old above }
     requires few { (p : Path) × IsAt tree.old p above × (length (children_of tree.old.tree p) < SUBKEYS_LIMIT) }
@@ -132,7 +135,9 @@ pub fn begin_key<'a>(
     let reached = reach_below(tree, above, &named)?;
     let met = table.state(named.node.fields.security) == CellState::NamedSecurity;
     let parts = enter_key(alloc, bins, table, minor, offset, &named.node.fields)?;
-    let node = build_sharing(alloc, tree, above, reached, &named, &parts, met, firsts)?;
+    let node = build_sharing(
+        alloc, tree, above, reached, &named, &parts, met, firsts, room,
+    )?;
     let fields = named.node.fields;
     let subkeys = subkeys_from(bins, table, fields.subkeys, fields.subkeys_list)?;
     Ok(KeyFrame {

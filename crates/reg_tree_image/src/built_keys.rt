@@ -26,6 +26,7 @@ ghost use Rattle.reg_tree_image.specs.Internal.BegunKeys.{IsBare, IsBegun, IsLac
 use crate::LoadFault;
 use crate::key_parts::KeyParts;
 use crate::keys::NamedKey;
+use crate::room::{Room, key_bytes, make_key_room, make_root_room, values_bytes};
 use crate::values::ReadValue;
 use reg_arena::ArenaFault;
 use reg_tree::{NewKey, NewValue, Node, Reached, Tree};
@@ -209,6 +210,7 @@ pub fn build_root(
     alloc: Global,
     named: &NamedKey<'_>,
     parts: &KeyParts<'_>,
+    room: &mut Room,
 ) -> Result<Tree, LoadFault>
     requires named { IsFitName named.now }
     requires parts { AreFitParts parts.now }
@@ -219,16 +221,12 @@ pub fn build_root(
     let Ok(mut tree) = Tree::build(alloc, new_key(named, parts)) else {
         return Err(LoadFault::Memory);
     };
+    // The call of `arena` is also for its clauses `whole` and `sound`.
+    room.begin(key_bytes(named, parts, false), tree.arena());
+    let values = parts.values.as_slice();
+    make_root_room(alloc, &mut tree, room, values);
     let root = tree.root();
-    // Only for its clauses `whole` and `sound`.
-    let _ = tree.arena();
-    put_values(
-        alloc,
-        &mut tree,
-        root,
-        parts.values.as_slice(),
-        named.node.fields.time,
-    )?;
+    put_values(alloc, &mut tree, root, values, named.node.fields.time)?;
     Ok(tree)
 }
 
@@ -242,6 +240,7 @@ pub fn build_below(
     named: &NamedKey<'_>,
     parts: &KeyParts<'_>,
     like: Option<Node>,
+    room: &mut Room,
 ) -> Result<Node, LoadFault>
     requires above { IsThere tree.old above }
     requires reached { IsWalkedTo tree.old above (cow_slice_items named.now.name) reached }
@@ -259,12 +258,15 @@ pub fn build_below(
     ensures builds { (p : Path) → IsAt tree.old p above → OnOk result (BuildsOne tree.old tree.new p (told_as named.now parts.now)) }
     ensures err { (p : Path) → IsAt tree.old p above → IfErr result (IsLack (CrowdsBelow tree.old p (told_as named.now parts.now))) }
 {
+    let values = parts.values.as_slice();
+    let own = key_bytes(named, parts, like.is_some());
+    make_key_room(alloc, tree, room, above, own, values_bytes(values));
     let time = named.node.fields.time;
     match tree.build_key(alloc, above, reached, new_key(named, parts), like) {
         Ok(node) => {
             // Only for its clauses `whole` and `sound`.
             let _ = tree.arena();
-            put_values(alloc, tree, node, parts.values.as_slice(), time)?;
+            put_values(alloc, tree, node, values, time)?;
             Ok(node)
         }
         Err(fault) => Err(lack(fault)),

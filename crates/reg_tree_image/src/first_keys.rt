@@ -20,6 +20,7 @@ use crate::LoadFault;
 use crate::built_keys::build_below;
 use crate::key_parts::KeyParts;
 use crate::keys::NamedKey;
+use crate::room::Room;
 use reg_tree::{Node, Reached, Tree};
 use std::alloc::Global;
 use std::collections::BTreeMap;
@@ -76,6 +77,7 @@ pub fn build_sharing(
     parts: &KeyParts<'_>,
     met: bool,
     firsts: &mut FirstKeys,
+    room: &mut Room,
 ) -> Result<Node, LoadFault>
     requires above { IsThere tree.old above }
     requires reached { IsWalkedTo tree.old above (cow_slice_items named.now.name) reached }
@@ -97,7 +99,7 @@ pub fn build_sharing(
 {
     let security = named.node.fields.security;
     let like = firsts.find(security, met);
-    let node = build_below(alloc, tree, above, reached, named, parts, like)?;
+    let node = build_below(alloc, tree, above, reached, named, parts, like, room)?;
     if like.is_some() {
         return Ok(node);
     }

@@ -40,6 +40,7 @@ mod loading;
 mod met_names;
 mod names;
 mod rebuilding;
+mod room;
 mod rows;
 mod scan;
 mod security;

@@ -61,7 +61,7 @@ fn note_cell(bins: &[u8], table: &mut CellTable, at: usize)
     if word_at(bins, at) < 0x8000_0000 {
         return;
     }
-    table.allocate(at as u32);
+    table.allocate(at as u32, size_at(bins, at));
 }
 
 /// Notes the allocated cells of a bin, from behind its header to its end. Where a size is bad the answer is no.
@@ -103,7 +103,10 @@ pub fn scan(alloc: Global, bins: &[u8]) -> Result<CellTable, LoadFault>
     {
         return Err(LoadFault::Memory);
     }
-    let mut table = CellTable { states };
+    let mut table = CellTable {
+        states,
+        allocated: 0,
+    };
     let mut at = 0;
     while at < bins.len() {
         let size = word_at(bins, at + 8) as usize;

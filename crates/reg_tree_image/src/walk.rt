@@ -19,6 +19,7 @@ use crate::begin::{BegunRoot, begin_key, begin_root};
 use crate::first_keys::FirstKeys;
 use crate::frames::KeyFrame;
 use crate::lists::leaf_from;
+use crate::room::Room;
 use crate::table::CellTable;
 use reg_heap::limits::SUBKEYS_LIMIT;
 use reg_tree::Tree;
@@ -46,6 +47,7 @@ fn step<'a>(
     keys: &mut Vec<KeyFrame<'a>>,
     lowest: KeyFrame<'a>,
     firsts: &mut FirstKeys,
+    room: &mut Room,
 ) -> Result<(), LoadFault>
     requires node { IsThere tree.old lowest.node }
     requires walks { (root : ℕ) × (whole : Result (Unit {0} × Seen) LoadFault)
@@ -67,7 +69,9 @@ fn step<'a>(
             return Err(LoadFault::Limit);
         }
         key.count += 1;
-        let below = begin_key(alloc, bins, minor, table, tree, key.node, offset, firsts)?;
+        let below = begin_key(
+            alloc, bins, minor, table, tree, key.node, offset, firsts, room,
+        )?;
         push(keys, key)?;
         return push(keys, below);
     }
@@ -87,6 +91,7 @@ fn walk_below<'a>(
     table: &mut CellTable,
     tree: &mut Tree,
     root: KeyFrame<'a>,
+    room: &mut Room,
 ) -> Result<(), LoadFault>
     requires begun { IsBegun (cell_at bins.now) minor (suc PATH_LIMIT) [] root_path root.offset nothing
         table.old.states.items tree.old root }
@@ -101,7 +106,17 @@ fn walk_below<'a>(
     let mut firsts = FirstKeys::new(alloc);
     push(&mut keys, root)?;
     while let Some(key) = keys.pop() {
-        step(alloc, bins, minor, table, tree, &mut keys, key, &mut firsts)?;
+        step(
+            alloc,
+            bins,
+            minor,
+            table,
+            tree,
+            &mut keys,
+            key,
+            &mut firsts,
+            room,
+        )?;
     }
     Ok(())
 }
@@ -124,7 +139,8 @@ pub fn walk(
     ensures err { IfErr result (λ fault. FailsAs (IsRootCrowded (cell_at bins.now) minor root) fault
         (key_from (cell_at bins.now) minor (suc PATH_LIMIT) [] root_path root nothing)) }
 {
-    let BegunRoot { mut tree, key } = begin_root(alloc, bins, minor, table, root)?;
-    walk_below(alloc, bins, minor, table, &mut tree, key)?;
+    let mut room = Room::new(table.allocated);
+    let BegunRoot { mut tree, key } = begin_root(alloc, bins, minor, table, root, &mut room)?;
+    walk_below(alloc, bins, minor, table, &mut tree, key, &mut room)?;
     Ok(tree)
 }

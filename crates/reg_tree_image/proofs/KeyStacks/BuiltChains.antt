@@ -1,5 +1,5 @@
 -- Keys and values that were built one behind the other.
-use Rattle.std.proofs.Common.{◌≡◌, ◌⊎◌, ℕ, List, [], ◌∷◌, ◌++◌, inl, inr}
+use Rattle.std.proofs.Common.{◌≡◌, ℕ, List, [], ◌∷◌, ◌++◌, inl, inr}
 use Rattle.std.proofs.Common.{refl, sym, ap, ◌∙◌, subst}
 use Rattle.std.specs.FinMap.{insert}
 use Rattle.reg_heap.specs.Paths.{Path, Rec, Tree, Member}
@@ -12,7 +12,7 @@ use Rattle.reg_tree_image.specs.declared.LoadFault.{LoadFault}
 use Rattle.reg_tree_image.specs.declared.LoadFault.TheVariants.{Limit, Memory}
 use Rattle.reg_tree.specs.BuiltKeys.{AreWhole, BuildsRoot, BuildsKey, LacksKeyRoom}
 use Rattle.reg_tree_image.specs.CrowdedBins.{IsGroup, PutsMore, PutsGroups, PutsValues, CrowdsValues}
-use Rattle.reg_tree_image.specs.CrowdedBins.{BuildsFirst, BuildsOne, BuildsEach, BuildsAll, bare_of, CrowdsRoot, CrowdsBelow, CrowdsNext}
+use Rattle.reg_tree_image.specs.CrowdedBins.{BuildsFirst, BuildsOne, BuildsEach, BuildsAll, bare_of, IsRoomier, CrowdsRoot, CrowdsBelow, CrowdsNext}
 use Rattle.reg_tree_image.specs.Internal.BegunKeys.{IsLack, lack_of}
 
 -- ---- values
@@ -77,33 +77,41 @@ module _ (made key : Rec) (given : List Member) (same : made ≡ bare_of key) (v
         at,
       )
 
-  pub builds-one : (old mid new : Keys) (above : Path) → BuildsKey old mid above made → AreWhole mid →
+  pub builds-one : (old roomy mid new : Keys) (above : Path) → IsRoomier old roomy → BuildsKey roomy mid above made → AreWhole mid →
       PutsValues (child_path above made.name) key.time given mid new → BuildsOne old new above key
-  builds-one old mid new above b w p = (
+  builds-one old roomy mid new above r b w p = (
+    roomy,
+    r,
     mid,
-    subst (λ r. BuildsKey old mid above r) same b,
+    subst (λ r. BuildsKey roomy mid above r) same b,
     w,
     subst (λ path. PutsValues path key.time key.values mid new) (its-path above)
         (subst (λ ms. PutsValues (child_path above made.name) key.time ms mid new) values p),
   )
 
-  pub crowds-below : (old mid : Keys) (above : Path) → BuildsKey old mid above made → AreWhole mid →
+  pub crowds-below : (old roomy mid : Keys) (above : Path) → IsRoomier old roomy → BuildsKey roomy mid above made → AreWhole mid →
       CrowdsValues mid (child_path above made.name) key.time given → CrowdsBelow old above key
-  crowds-below old mid above b w c =
-      inr (
-        mid,
-        subst (λ r. BuildsKey old mid above r) same b,
-        w,
-        subst (λ path. CrowdsValues mid path key.time key.values) (its-path above)
-            (subst (λ ms. CrowdsValues mid (child_path above made.name) key.time ms) values c),
-      )
+  crowds-below old roomy mid above r b w c = (
+    roomy,
+    r,
+    inr (
+      mid,
+      subst (λ r. BuildsKey roomy mid above r) same b,
+      w,
+      subst (λ path. CrowdsValues mid path key.time key.values) (its-path above)
+          (subst (λ ms. CrowdsValues mid (child_path above made.name) key.time ms) values c),
+    ),
+  )
 
-  pub crowds-key : (old : Keys) (above : Path) → LacksKeyRoom old above made → CrowdsBelow old above key
-  crowds-key old above l = inl (subst (λ r. LacksKeyRoom old above r) same l)
+  pub crowds-key : (old roomy : Keys) (above : Path) → IsRoomier old roomy → LacksKeyRoom roomy above made → CrowdsBelow old above key
+  crowds-key old roomy above r l = (roomy, r, inl (subst (λ r. LacksKeyRoom roomy above r) same l))
 
-  pub builds-first : (mid new : Keys) → BuildsRoot mid made → AreWhole mid → PutsValues [] key.time given mid new → BuildsFirst new key
-  builds-first mid new b w p =
-      (mid, subst (λ r. BuildsRoot mid r) same b, w, subst (λ ms. PutsValues [] key.time ms mid new) values p)
+  pub builds-first : (mid roomy new : Keys) → BuildsRoot mid made → AreWhole mid → IsRoomier mid roomy → PutsValues [] key.time given roomy new →
+      BuildsFirst new key
+  builds-first mid roomy new b w r p =
+      (mid, subst (λ r. BuildsRoot mid r) same b, w, roomy, r, subst (λ ms. PutsValues [] key.time ms roomy new) values p)
 
-  pub crowds-root : (mid : Keys) → BuildsRoot mid made → AreWhole mid → CrowdsValues mid [] key.time given → CrowdsRoot key
-  crowds-root mid b w c = (mid, subst (λ r. BuildsRoot mid r) same b, w, subst (λ ms. CrowdsValues mid [] key.time ms) values c)
+  pub crowds-root : (mid roomy : Keys) → BuildsRoot mid made → AreWhole mid → IsRoomier mid roomy → CrowdsValues roomy [] key.time given →
+      CrowdsRoot key
+  crowds-root mid roomy b w r c =
+      (mid, subst (λ r. BuildsRoot mid r) same b, w, roomy, r, subst (λ ms. CrowdsValues roomy [] key.time ms) values c)

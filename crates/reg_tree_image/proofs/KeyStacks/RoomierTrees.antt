@@ -1,0 +1,66 @@
+-- A tree for which room was made: its keys are where they were.
+use Rattle.std.proofs.Common.{◌≡◌, ℕ, List, Option, None, Some, inl, inr, sym, ap, ◌∙◌, subst}
+use Rattle.std.specs.Prelude.{IfSome}
+use Rattle.std.specs.FinMap.{get}
+use Rattle.reg_heap.specs.Heaps.{Heap}
+use Rattle.reg_heap.specs.Paths.{Path, Tree}
+use Rattle.reg_heap.specs.Edits.{descriptor_of}
+use Rattle.reg_arena.specs.Arena.{heap_of}
+use Rattle.reg_shape.specs.PathLookup.{key_offset_at}
+use Rattle.reg_tree.specs.declared.node.Node.{Node}
+use Rattle.reg_tree.specs.declared.node.Reached.{Reached}
+use Rattle.reg_tree.specs.Internal.PathWalks.{Reaches}
+use Rattle.reg_tree.specs.Internal.ReachedPlaces.{IsPlace}
+use Rattle.reg_tree.specs.Reaching.{IsWalkedTo}
+use Rattle.reg_tree.specs.TreeKeys.{Keys, IsAt, IsThere, KeepsNodes}
+use Rattle.reg_tree_image.specs.CrowdedBins.{IsRoomier}
+
+-- the same keys in the same cells
+pub record SameKeys (old new : Keys) : Type 0 where
+  pub cells : heap_of new.bins ≡ heap_of old.bins
+  pub root : new.root ≡ old.root
+  pub tree : new.tree ≡ old.tree
+
+pub same-keys : (old new : Keys) → IsRoomier old new → SameKeys old new
+same-keys old new (inl e) = record { cells = ap (λ (k : Keys). heap_of k.bins) e; root = ap (λ (k : Keys). k.root) e; tree = ap (λ (k : Keys). k.tree) e }
+same-keys old new (inr (size, small, m, whole)) = record { cells = m.cells; root = m.root; tree = m.tree }
+
+module _ (old new : Keys) (roomier : IsRoomier old new) where
+  same : SameKeys old new
+  same = same-keys old new roomier
+
+  pub at-still : KeepsNodes old new
+  at-still path node at = record {
+    offset =
+        ap (λ (heap : Heap). key_offset_at heap new.root path) same.cells
+        ∙ (ap (λ root. key_offset_at (heap_of old.bins) root path) same.root ∙ at.offset);
+    depth = at.depth;
+  }
+
+  pub at-before : KeepsNodes new old
+  at-before path node at = record {
+    offset =
+        ap (λ (heap : Heap). key_offset_at heap old.root path) (sym same.cells)
+        ∙ (ap (λ root. key_offset_at (heap_of new.bins) root path) (sym same.root) ∙ at.offset);
+    depth = at.depth;
+  }
+
+  pub there-still : (node : Node) → IsThere old node → IsThere new node
+  there-still node there = (there.0, at-still there.0 node there.1)
+
+  pub walked-still : (from : Node) (path : List ℕ) (reached : Reached) → IsWalkedTo old from path reached → IsWalkedTo new from path reached
+  walked-still from path reached w = record {
+    valid = w.valid;
+    reaches = subst (λ (heap : Heap). Reaches heap from path reached.node reached.missing.now) (sym same.cells) w.reaches;
+    place = subst (λ (heap : Heap). IsPlace heap path reached.node.offset reached.missing.now reached.place) (sym same.cells) w.place;
+  }
+
+  -- what holds of a tree that has a key where it was
+  pub of-tree : (P : Tree → Type 0) → P old.tree → P new.tree
+  of-tree P h = subst P (sym same.tree) h
+
+  pub like-still : (descriptor : List ℕ) (like : Option Node) →
+      IfSome like (λ node. (q : Path) × IsAt old q node × (descriptor_of (get old.tree q) ≡ descriptor)) →
+      IfSome like (λ node. (q : Path) × IsAt new q node × (descriptor_of (get new.tree q) ≡ descriptor))
+  like-still descriptor None h = tt
+  like-still descriptor (Some node) (q, at, d) = (q, at-still q node at, of-tree (λ tree. descriptor_of (get tree q) ≡ descriptor) d)

@@ -1,0 +1,179 @@
+//! Room for the cells of keys that are built anew: it is made for many keys at once, so that little of the bins stays free.
+//!
+//! A bin for each key would be a number of whole pages, of which nearly a half may stay free. Room for many has one rest alone.
+
+ghost use Rattle.std.specs.Prelude.{◌≡◌, ◌≤◌, ◌<◌, ◌%◌, IfSome};
+ghost use Rattle.reg_tree.specs.TreeKeys.{IsThere};
+ghost use Rattle.reg_tree_image.specs.CrowdedBins.{IsRoomier};
+
+use crate::free_cells::free_bytes;
+use crate::key_parts::KeyParts;
+use crate::keys::NamedKey;
+use crate::values::ReadValue;
+use reg_arena::Arena;
+use reg_tree::{Node, Tree};
+use std::alloc::Global;
+
+/// For how many bytes of cells room is made at once, at most.
+pub const MOST_ROOM: u32 = 524_288;
+
+/// Cells of so many bytes have a bin of their own: less than a tenth of it stays free.
+const OWN_BIN: u32 = 40_960;
+
+/// The most bytes that are counted of one text.
+const MOST_COUNTED: usize = 16_777_216;
+
+/// How many bytes of cells are to be built, and for how many of them there is room. Both are estimates: what is built by them is the
+/// same tree whatever they say.
+#[derive(Drop)]
+pub struct Room {
+    /// The bytes of the cells that are still to come.
+    left: u32,
+    /// For how many of them a free cell is kept.
+    kept: u32,
+    /// The size of the bins when room was made last.
+    bins: u32,
+}
+
+impl Room {
+    /// No room yet, for cells of so many bytes.
+    pub fn new(left: u32) -> Room {
+        Room {
+            left,
+            kept: 0,
+            bins: 0,
+        }
+    }
+
+    /// Notes the bins of one root, whose cells have so many bytes.
+    pub fn begin(&mut self, size: u32, arena: &Arena) {
+        self.left = self.left.saturating_sub(size);
+        self.kept = free_bytes(arena);
+        self.bins = arena.bins_size();
+    }
+
+    /// Looks at the size of the bins. Where they grew, the cells that came didn't fit in what was kept: that is used up.
+    fn look(&mut self, bins: u32) {
+        if self.bins < bins {
+            self.kept = 0;
+        }
+    }
+
+    /// Notes that cells of a size come, beside which a list of a size may move, and answers the size that room is to be made for, if what
+    /// is kept is too little.
+    fn take(&mut self, size: u32, list: u32) -> Option<u32>
+        ensures { IfSome result (λ size. (size % 8 ≡ 0) × (0 < size) × (size ≤ MOST_ROOM)) }
+    {
+        let all = size.saturating_add(list);
+        let left = self.left;
+        self.left = left.saturating_sub(size);
+        if all <= self.kept {
+            self.kept = self.kept.saturating_sub(size);
+            return None;
+        }
+        if size >= OWN_BIN {
+            return room_size(size);
+        }
+        let wanted = all.max(left.min(MOST_ROOM));
+        self.kept = wanted.saturating_sub(size);
+        room_size(wanted)
+    }
+}
+
+/// A size as that of a cell for which room is made, if it isn't too large.
+fn room_size(size: u32) -> Option<u32>
+    ensures { IfSome result (λ size. (size % 8 ≡ 0) × (0 < size) × (size ≤ MOST_ROOM)) }
+{
+    if size == 0 || size > MOST_ROOM {
+        return None;
+    }
+    Some((size + 7) / 8 * 8)
+}
+
+/// How many bytes the cell of so many has, at most.
+fn cell_bytes(count: usize) -> u32
+    ensures { result ≤ 16777240 }
+{
+    (count.min(MOST_COUNTED) as u32 + 11) / 8 * 8
+}
+
+/// How many bytes the cells of a key have without its values: its key node, its entry in a list, its class, and its security unless it
+/// shares one.
+pub fn key_bytes(named: &NamedKey<'_>, parts: &KeyParts<'_>, shares: bool) -> u32 {
+    let node = cell_bytes(76 + named.name.as_slice().len().min(MOST_COUNTED)) + 8;
+    let class = if parts.class.is_empty() {
+        0
+    } else {
+        cell_bytes(parts.class.len())
+    };
+    let security = if shares {
+        0
+    } else {
+        cell_bytes(20 + parts.descriptor.len().min(MOST_COUNTED))
+    };
+    node + class + security
+}
+
+/// How many bytes the cells of a value have. Data of more than 16,344 bytes has a cell for each so many, and a list of these.
+fn value_bytes(value: &ReadValue<'_>) -> u32 {
+    let name = cell_bytes(20 + value.name.as_slice().len().min(MOST_COUNTED));
+    let count = value.bytes.as_slice().len();
+    if count <= 4 {
+        return name;
+    }
+    let data = cell_bytes(count);
+    if count <= 16_344 {
+        return name + data;
+    }
+    name + data + 24 + data / 16_344 * 16
+}
+
+/// How many bytes the cells of all values of a key have.
+pub fn values_bytes(values: &[ReadValue<'_>]) -> u32 {
+    if values.is_empty() {
+        return 0;
+    }
+    let mut all = cell_bytes(values.len().min(MOST_COUNTED / 4) * 4);
+    for value in values {
+        all = all.saturating_add(value_bytes(value));
+    }
+    all
+}
+
+/// Makes room for cells of a size that come, beside which a list may move. Where it can't be had, the tree stays as it is: what comes tells
+/// what it lacks.
+fn make_room(alloc: Global, tree: &mut Tree, room: &mut Room, size: u32, list: u32)
+    ensures { IsRoomier tree.old tree.new }
+{
+    room.look(tree.arena().bins_size());
+    let Some(wanted) = room.take(size, list) else {
+        return;
+    };
+    if tree.reserve(alloc, wanted).is_ok() {
+        room.bins = tree.arena().bins_size();
+    }
+}
+
+/// Makes room for the values of a root that was built.
+pub fn make_root_room(alloc: Global, tree: &mut Tree, room: &mut Room, values: &[ReadValue<'_>])
+    ensures { IsRoomier tree.old tree.new }
+{
+    make_room(alloc, tree, room, values_bytes(values), 0)
+}
+
+/// Makes room for a key that is built below another one, with its values. The other one's list of subkeys, of at most 500 of them, may
+/// move.
+pub fn make_key_room(
+    alloc: Global,
+    tree: &mut Tree,
+    room: &mut Room,
+    above: Node,
+    own: u32,
+    values: u32,
+)
+    requires { IsThere tree.old above }
+    ensures { IsRoomier tree.old tree.new }
+{
+    let list = 8 * tree.subkeys(above).min(500) + 16;
+    make_room(alloc, tree, room, own.saturating_add(values), list)
+}
