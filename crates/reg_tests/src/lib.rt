@@ -20,6 +20,8 @@ mod questions;
 #[cfg(test)]
 mod random_keys;
 #[cfg(test)]
+mod rows;
+#[cfg(test)]
 mod support;
 #[cfg(test)]
 mod trees;
