@@ -22,22 +22,25 @@ fn is_as_shown(shown: &str, line: &str) -> bool {
     }
 }
 
-/// Whether what was printed is as shown; a last line of `..` alone stands for all that follows.
-pub fn are_as_shown(shown: &[&str], printed: &[&str]) -> bool {
-    let front = match shown.split_last() {
-        Some((last, front)) if *last == ".." => front,
-        _ if shown.len() == printed.len() => shown,
-        _ => return false,
-    };
-    if printed.len() < front.len() {
+/// Whether so many lines are as shown.
+fn is_front_as_shown(shown: &[&str], printed: &[&str]) -> bool {
+    if printed.len() < shown.len() {
         return false;
     }
-    for at in 0..front.len() {
-        if !is_as_shown(front[at], printed[at]) {
+    for at in 0..shown.len() {
+        if !is_as_shown(shown[at], printed[at]) {
             return false;
         }
     }
     true
+}
+
+/// Whether what was printed is as shown; a last line of `..` alone stands for all that follows.
+pub fn are_as_shown(shown: &[&str], printed: &[&str]) -> bool {
+    match shown.split_last() {
+        Some((last, front)) if *last == ".." => is_front_as_shown(front, printed),
+        _ => shown.len() == printed.len() && is_front_as_shown(shown, printed),
+    }
 }
 
 /// The lines of a text, without the LF of each; a CR before that belongs to its line.
