@@ -15,10 +15,19 @@ const SIZE: usize = 1_000;
 /// millisecond; while no time is taken, how many cells stay in how many bytes.
 pub fn run(rt: &(impl Print + Clock), alloc: Global, count: u32, takes_time: bool) -> Result<()> {
     let mut cells = LiveCells::new(alloc);
+    run_on(rt, &mut cells, count, takes_time)
+}
+
+fn run_on(
+    rt: &(impl Print + Clock),
+    cells: &mut LiveCells,
+    count: u32,
+    takes_time: bool,
+) -> Result<()> {
     let mut carving = Duration::ZERO;
     let mut long: u32 = 0;
     for _cell in 0..count {
-        let time = time_carve(rt, &mut cells)?;
+        let time = time_carve(rt, cells)?;
         carving = carving.saturating_add(time);
         if time > Duration::from_millis(1) {
             long = long.saturating_add(1);
