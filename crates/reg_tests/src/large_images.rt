@@ -116,16 +116,16 @@ fn values_of_several_carves_fit(rt: HostRuntime) -> Result<(), Fail> {
     Ok(())
 }
 
-// A key's list has a cell of 8 bytes, its value's record one of 32 and its data one of 4,056. With a bin's header of 32 bytes that is more
-// than a page, so that new bins have 8,192 bytes for each such key, and the 4,064 that are left have no room for the 4,096 of another. So
-// 32,768 keys have as many bytes as bins may have, and the root's bin is there before them. The record of `k99999` begins at 4,180. Its
-// changes: none, so that the bins alone want room; another signature; its own list of subkeys, which names it; the name of `k19999`; a
-// predefined handle; 16,385 values.
+// A key's list of 11 values has a cell of 48 bytes, each value's record one of 32 and its data one of 4,056, its key node one of 88. With a
+// bin's header of 32 bytes these 45,136 are more than eleven pages, so that new bins have 49,152 bytes for each such key, and what is left
+// has no room for the values of another. So 5,461 keys have 268,419,072 bytes, with the root's bin 268,423,168, and one more has no room.
+// The record of `k99999` begins at 4,180. Its changes: none, so that the bins alone want room; another signature; its own list of subkeys,
+// which names it; the name of `k04999`; a predefined handle; 16,385 values.
 #[test]
 fn faults_behind_the_place_without_room(rt: HostRuntime) -> Result<(), Fail> {
     let image = Image {
-        keys: 32_768,
-        values: 1,
+        keys: 5_462,
+        values: 11,
         size: 4_048,
     };
     check(
@@ -135,8 +135,8 @@ fn faults_behind_the_place_without_room(rt: HostRuntime) -> Result<(), Fail> {
             ("4180 6e6b", "13"),
             ("4180 6e6c", "9"),
             ("4180 6e6b, 4200 01000000, 4208 a8000000", "10"),
-            ("4200 00000000, 4208 ffffffff, 4257 31", "11"),
-            ("4257 39, 4182 6000", "12"),
+            ("4200 00000000, 4208 ffffffff, 4257 3034", "11"),
+            ("4257 3939, 4182 6000", "12"),
             ("4182 2000, 4216 01400000", "13"),
         ],
     )
