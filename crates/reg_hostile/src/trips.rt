@@ -15,7 +15,7 @@ use reg_script::FRESH_DESCRIPTOR;
 use reg_tables::{export_csv, export_json};
 use reg_text::write_escaped;
 use reg_tree_text::count;
-use std::alloc::Global;
+use std::alloc::{AllocError, Global};
 
 /// How many trees are tried of each sort.
 const TREES: u64 = 1_000;
@@ -119,18 +119,29 @@ fn name_in(line: &str) -> &str {
     word.strip_prefix("=").unwrap_or(word)
 }
 
+/// Whether a line of a dump has a line break in a name.
+fn has_break(line: &str) -> bool {
+    line.contains("%0D") || line.contains("%0A")
+}
+
+/// A root's name and the path of a key, joined.
+fn joined(alloc: Global, root: &str, path: &str) -> Result<String, AllocError> {
+    let joint = if path.is_empty() { "" } else { "\\" };
+    format!(in alloc; "{root}{joint}{path}")
+}
+
 /// The root's name and the path of the first key of a dump that can't be written, escaped and joined; nothing where each can be.
-fn first_unwritable(alloc: Global, dump: &str) -> Result<String> {
-    let (mut root, mut path) = ("", "");
+fn first_unwritable(alloc: Global, dump: &str) -> Result<String, AllocError> {
+    let mut root = String::new(alloc);
+    let mut path = String::new(alloc);
     for line in dump.lines() {
         if line.starts_with("root ") {
-            root = name_in(line);
+            root = name_in(line).to_string(alloc)?;
         } else if line.starts_with("key ") {
-            path = name_in(line);
+            path = name_in(line).to_string(alloc)?;
         }
-        if line.contains("%0D") || line.contains("%0A") {
-            let joint = if path.is_empty() { "" } else { "\\" };
-            return Ok(format!(in alloc; "{root}{joint}{path}")?);
+        if has_break(line) {
+            return joined(alloc, root.as_str(), path.as_str());
         }
     }
     Ok(String::new(alloc))
