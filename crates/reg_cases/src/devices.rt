@@ -1,5 +1,7 @@
 //! The standard input and output of a command, which stop or fail as its step says.
 
+ghost use Rattle.std.specs.Prelude.{◌≡◌, IfOk};
+
 use crate::conditions::{Failing, Habits};
 use std::cell::Cell;
 use std::fs::File;
@@ -8,7 +10,9 @@ use std::io::{ErrorKind, Read, Write};
 use std::rc::Rc;
 
 /// What a call answers that fails so.
-fn failure(failing: Failing) -> io::Result<usize> {
+fn failure(failing: Failing) -> io::Result<usize>
+    ensures { IfOk result (λ count. count ≡ 0) }
+{
     match failing {
         Failing::Nothing => Ok(0),
         Failing::Broken | Failing::Closed | Failing::Flush => Err(ErrorKind::BrokenPipe.into()),
