@@ -1,12 +1,15 @@
-//! The rules' own rows of functions that no call shows alone: cells that come and go in an arena, the limit of its bins, and the checksum of
-//! a base block.
-ghost use Rattle.std.specs.Prelude.{◌≡◌, true, IsSome, IfOk};
+//! The rules' own rows of functions that no call shows alone: cells that come and go in an arena, the limit of its bins, the checksum of a
+//! base block, and the cells that a value takes.
+ghost use Rattle.std.specs.Prelude.{◌≡◌, ◌≤◌, true, IsSome, IfOk};
 ghost use Rattle.reg_arena.specs.Arena.{heap_of};
 
 use reg_arena::{Arena, ArenaFault};
 use reg_fixtures::is_among;
+use reg_names::check_value_name;
 use reg_test_support::assert_report;
 use reg_tree_image::checksum;
+use reg_values::laws::no_values_are_no_list;
+use reg_values::{ValuesList, plan_set};
 use std::alloc::Global;
 use std::test::Fail;
 
@@ -115,4 +118,34 @@ fn cells_of_an_arena(rt: HostRuntime) -> Result<(), Fail> {
 fn checksum_of_zeros(rt: HostRuntime) -> Result<(), Fail> {
     let sum = checksum(&[0u8; 4096]);
     assert_report(Ok(format!(in rt.alloc(); "{sum}")?), "1")
+}
+
+/// The sizes of the cells that a key's first value takes, with so many bytes of data.
+fn planned_in(alloc: Global, arena: &Arena, name: &[u8], size: u32) -> Result<String, Fail>
+    requires { size ≤ 1048576 }
+{
+    check_value_name(name)?;
+    no_values_are_no_list();
+    let list = ValuesList {
+        count: 0,
+        offset: 0xFFFF_FFFF,
+    };
+    let sizes = plan_set(alloc, arena, list, name, size)?;
+    Ok(format!(in alloc; "{sizes:?}")?)
+}
+
+/// The sizes of the cells that a first value of a name of four characters takes in a new arena.
+fn planned(alloc: Global, size: u32) -> Result<String, Fail>
+    requires { size ≤ 1048576 }
+{
+    let arena = Arena::new(alloc);
+    planned_in(alloc, &arena, b"Mode", size)
+}
+
+// A record of 24 bytes and a list of 4, each with its size field and rounded up to eights; small data stands in the record. Large data takes
+// a big data record of 8 bytes, its list of two offsets, and segments of 16,344 and 3,656 bytes.
+#[test]
+fn cells_of_a_first_value(rt: HostRuntime) -> Result<(), Fail> {
+    assert_report(planned(rt.alloc(), 4), "[32, 8]")?;
+    assert_report(planned(rt.alloc(), 20_000), "[32, 8, 16, 16, 16352, 3664]")
 }
