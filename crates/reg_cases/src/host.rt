@@ -124,7 +124,7 @@ impl Files for Host<'_> {
         let (mut to_read, mut to_write) = (usize::MAX, usize::MAX);
         match self.refused {
             Refused::Create => pass(how.asks_create_new())?,
-            Refused::Folder => pass(fs::metadata(self.rt, path)?.is_dir())?,
+            Refused::Folder => pass(fs::metadata(self.rt, path).is_ok_and(|found| found.is_dir()))?,
             Refused::Read(past) => to_read = past,
             Refused::Write(past) => to_write = past,
             _ => {}
