@@ -117,6 +117,8 @@ impl Arena {
         requires cell { IsSome (heap_of self.now cell) }
         requires stretch { IsStretch (heap_of self.now) stretch.from stretch.bytes.now }
         ensures content { heap_of self.now cell ≡ Some result.content.now }
+        ensures from { result.stretch.from ≤ cell }
+        ensures to { cell < result.stretch.from + length result.stretch.bytes.now }
         ensures stretch { IsStretch (heap_of self.now) result.stretch.from result.stretch.bytes.now }
     {
         let stretch = self.stretch_for(stretch, cell);
