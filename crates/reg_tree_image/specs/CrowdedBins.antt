@@ -1,6 +1,6 @@
 -- The bins that are built of the keys that were told, and when they have no room for the next (Suhanov, Windows registry file format
 -- specification, "Hive bin", "Cell").
-use Rattle.std.specs.Prelude.{◌≡◌, ◌<◌, ◌≤◌, ◌+◌, ◌⊎◌, ℕ, suc, Some, List, [], ◌∷◌, ◌++◌, length, ⊤}
+use Rattle.std.specs.Prelude.{◌≡◌, ◌<◌, ◌≤◌, ◌+◌, ◌⊎◌, Bool, true, ℕ, suc, Some, List, [], ◌∷◌, ◌++◌, length, ⊤}
 use Rattle.reg_names.specs.declared.TheConstants.{PATH_LIMIT}
 use Rattle.reg_heap.specs.Paths.{Path, Rec, Member}
 use Rattle.reg_heap.specs.Edits.{child_path, edited}
@@ -23,9 +23,9 @@ use Rattle.reg_tree_image.specs.WalkedKeys.{Comes}
 
 -- ---- room for what comes
 
--- nothing changed; or room was made for so many bytes, 524,288 at most, and all is whole
-abbrev pub IsRoomier : Keys → Keys → Type 0
-IsRoomier old new = (new ≡ old) ⊎ ((size : ℕ) × (size ≤ MOST_ROOM) × MakesRoom old new size × AreWhole new)
+-- nothing changed; or, where room is made ahead, it was made for so many bytes, 524,288 at most, and all is whole
+abbrev pub IsRoomier : Bool → Keys → Keys → Type 0
+IsRoomier ahead old new = (new ≡ old) ⊎ ((ahead ≡ true) × (size : ℕ) × (size ≤ MOST_ROOM) × MakesRoom old new size × AreWhole new)
 
 -- ---- all values of a key
 
@@ -129,35 +129,35 @@ abbrev pub bare_of : Rec → Rec
 bare_of key = record key { values = [] }
 
 -- the root was built, maybe room was made, and it got its values
-abbrev pub BuildsFirst : Keys → Rec → Type 0
-BuildsFirst new key =
+abbrev pub BuildsFirst : Bool → Keys → Rec → Type 0
+BuildsFirst ahead new key =
     (bare : Keys) × BuildsRoot bare (bare_of key) × AreWhole bare
-    × (roomy : Keys) × IsRoomier bare roomy × PutsValues [] key.time key.values roomy new
+    × (roomy : Keys) × IsRoomier ahead bare roomy × PutsValues [] key.time key.values roomy new
 
 -- maybe room was made, and a key was built right below the one at a path, and got its values
-abbrev pub BuildsOne : Keys → Keys → Path → Rec → Type 0
-BuildsOne old new above key =
-    (roomy : Keys) × IsRoomier old roomy
+abbrev pub BuildsOne : Bool → Keys → Keys → Path → Rec → Type 0
+BuildsOne ahead old new above key =
+    (roomy : Keys) × IsRoomier ahead old roomy
     × (bare : Keys) × BuildsKey roomy bare above (bare_of key) × AreWhole bare × PutsValues (child_path above key.name) key.time key.values bare new
 
 -- keys were built one after the other, each at its path
-abbrev pub BuildsEach : List (Path × Rec) → Keys → Keys → Type 0
-BuildsEach [] old new = new ≡ old
-BuildsEach (e ∷ told) old new =
-    (above : Path) × (next : Keys) × (e.0 ≡ child_path above e.1.name) × BuildsOne old next above e.1 × BuildsEach told next new
+abbrev pub BuildsEach : Bool → List (Path × Rec) → Keys → Keys → Type 0
+BuildsEach ahead [] old new = new ≡ old
+BuildsEach ahead (e ∷ told) old new =
+    (above : Path) × (next : Keys) × (e.0 ≡ child_path above e.1.name) × BuildsOne ahead old next above e.1 × BuildsEach ahead told next new
 
 -- just these keys were built, the first of them as the root
-abbrev pub BuildsAll : List (Path × Rec) → Keys → Type 0
-BuildsAll [] keys = ⊥
-BuildsAll (e ∷ told) keys = (first : Keys) × (e.0 ≡ []) × BuildsFirst first e.1 × BuildsEach told first keys
+abbrev pub BuildsAll : Bool → List (Path × Rec) → Keys → Type 0
+BuildsAll ahead [] keys = ⊥
+BuildsAll ahead (e ∷ told) keys = (first : Keys) × (e.0 ≡ []) × BuildsFirst ahead first e.1 × BuildsEach ahead told first keys
 
 -- ---- no room for the next
 
 -- for the values of the root
-abbrev pub CrowdsRoot : Rec → Type 0
-CrowdsRoot key =
+abbrev pub CrowdsRoot : Bool → Rec → Type 0
+CrowdsRoot ahead key =
     (bare : Keys) × BuildsRoot bare (bare_of key) × AreWhole bare
-    × (roomy : Keys) × IsRoomier bare roomy × CrowdsValues roomy [] key.time key.values
+    × (roomy : Keys) × IsRoomier ahead bare roomy × CrowdsValues roomy [] key.time key.values
 
 -- for a key right below the one at a path; or, once it is there, for its values
 abbrev pub CrowdsHere : Keys → Path → Rec → Type 0
@@ -167,30 +167,30 @@ CrowdsHere keys above key =
     × CrowdsValues bare (child_path above key.name) key.time key.values)
 
 -- the same, where maybe room was made before
-abbrev pub CrowdsBelow : Keys → Path → Rec → Type 0
-CrowdsBelow keys above key = (roomy : Keys) × IsRoomier keys roomy × CrowdsHere roomy above key
+abbrev pub CrowdsBelow : Bool → Keys → Path → Rec → Type 0
+CrowdsBelow ahead keys above key = (roomy : Keys) × IsRoomier ahead keys roomy × CrowdsHere roomy above key
 
 -- for a key at a path, once these were built
-abbrev pub CrowdsNext : List (Path × Rec) → Path → Rec → Type 0
-CrowdsNext [] path key = (path ≡ []) × CrowdsRoot key
-CrowdsNext (e ∷ told) path key =
-    (keys : Keys) × (above : Path) × BuildsAll (e ∷ told) keys × (path ≡ child_path above key.name) × CrowdsBelow keys above key
+abbrev pub CrowdsNext : Bool → List (Path × Rec) → Path → Rec → Type 0
+CrowdsNext ahead [] path key = (path ≡ []) × CrowdsRoot ahead key
+CrowdsNext ahead (e ∷ told) path key =
+    (keys : Keys) × (above : Path) × BuildsAll ahead (e ∷ told) keys × (path ≡ child_path above key.name) × CrowdsBelow ahead keys above key
 
 -- once all keys that were told but the last were built, there is no room for that one
-pub record IsCrowded (seen : Seen) : Type 0 where
+pub record IsCrowded (ahead : Bool) (seen : Seen) : Type 0 where
   pub told : List (Path × Rec)
   pub path : Path
   pub key : Rec
   pub told_are : seen.told ≡ told ++ (path, key) ∷ []
-  pub crowds : CrowdsNext told path key
+  pub crowds : CrowdsNext ahead told path key
 
 -- the headers and the cells of some bins are good; and the walk of the keys in them, from a root on, meets no fault until it has told one
 -- for which the new bins have no room
-pub record AreCrowded (bins : List ℕ) (minor root : ℕ) : Type 0 where
+pub record AreCrowded (ahead : Bool) (bins : List ℕ) (minor root : ℕ) : Type 0 where
   pub places : List BinPlace
   pub cells : List Cell
   pub places_are : bins_of bins ≡ Some places
   pub cells_are : cells_of_bins bins places ≡ Some cells
   pub after : Seen
   pub comes : Comes (content_in bins cells) minor after (suc PATH_LIMIT) [] root_path root nothing
-  pub crowded : IsCrowded after
+  pub crowded : IsCrowded ahead after

@@ -1,5 +1,5 @@
 -- What comes of loading a tree from a reader.
-use Rattle.std.specs.Prelude.{◌≡◌, ℕ, ◌+◌, ◌<◌, ◌≤◌, ◌⊎◌, nat_lt, if◌then◌else◌, Option, Some, None, Result, Ok, Err, IsOk, List, length, take, drop}
+use Rattle.std.specs.Prelude.{◌≡◌, false, ℕ, ◌+◌, ◌<◌, ◌≤◌, ◌⊎◌, nat_lt, if◌then◌else◌, Option, Some, None, Result, Ok, Err, IsOk, List, length, take, drop}
 use Rattle.std.specs.Io.KnownBytes.{Consumes, IsAtEnd}
 use Rattle.reg_text.specs.Failures.{Stays, Fails}
 use Rattle.reg_heap.specs.ByteWords.{word}
@@ -63,7 +63,7 @@ pub record ReadsNumbered (unread left : Option (List ℕ)) (tree : Tree) (sequen
 abbrev pub IsImageCrowded : List ℕ → Type 0
 IsImageCrowded bytes =
     (block : BaseBlock) × (block_walk bytes nothing ≡ Ok (block, nothing))
-    × AreCrowded (take block.size (drop 4096 bytes)) block.minor block.root
+    × AreCrowded false (take block.size (drop 4096 bytes)) block.minor block.root
 
 -- why loading ended, where so much of an image was read and this is left. A read failed before all was read that was asked for; or the
 -- reader came to its end before that. Otherwise all that was asked for was read, and no more, and it meets that fault; or it meets none, and

@@ -32,12 +32,11 @@ use crate::first_keys::{FirstKeys, build_sharing};
 use crate::frames::KeyFrame;
 use crate::key_parts::enter_key;
 use crate::keys::{NamedKey, named_key};
-use crate::room::Room;
+use crate::room::{Building, Room};
 use crate::subkeys::subkeys_from;
 use crate::table::{CellState, CellTable};
 use reg_names::PATH_LIMIT;
 use reg_tree::{Node, Reached, Tree};
-use std::alloc::Global;
 
 /// A tree of the root alone, and the root on the present path.
 #[derive(Drop)]
@@ -76,7 +75,7 @@ fn reach_below<'n>(
 
 /// Names the root and reads its record, class, security and values, of which a tree is built; then the list of its subkeys.
 pub fn begin_root<'a>(
-    alloc: Global,
+    building: Building,
     bins: &'a [u8],
     minor: u32,
     table: &mut CellTable,
@@ -85,14 +84,21 @@ pub fn begin_root<'a>(
 ) -> Result<BegunRoot<'a>, LoadFault>
     requires { IsTable (cell_at bins.now) nothing.found [] table.old.states.items }
     ensures begins { MatchResult result
-        (λ root. IsBegun (cell_at bins.now) minor (suc PATH_LIMIT) [] root_path offset nothing table.new.states.items root.tree root.key)
-        (λ fault. FailsAs (IsRootCrowded (cell_at bins.now) minor offset) fault
+        (λ root. IsBegun building.ahead (cell_at bins.now) minor (suc PATH_LIMIT) [] root_path offset nothing table.new.states.items root.tree root.key)
+        (λ fault. FailsAs (IsRootCrowded building.ahead (cell_at bins.now) minor offset) fault
         (key_from (cell_at bins.now) minor (suc PATH_LIMIT) [] root_path offset nothing)) }
     ensures fewer { OnOk result (unnamed table.new.states.items < unnamed table.old.states.items) }
 {
-    let named = named_key(alloc, bins, table, offset)?;
-    let parts = enter_key(alloc, bins, table, minor, offset, &named.node.fields)?;
-    let tree = build_root(alloc, &named, &parts, room)?;
+    let named = named_key(building.alloc, bins, table, offset)?;
+    let parts = enter_key(
+        building.alloc,
+        bins,
+        table,
+        minor,
+        offset,
+        &named.node.fields,
+    )?;
+    let tree = build_root(building, &named, &parts, room)?;
     let fields = named.node.fields;
     let subkeys = subkeys_from(bins, table, fields.subkeys, fields.subkeys_list)?;
     let key = KeyFrame {
@@ -108,7 +114,7 @@ pub fn begin_root<'a>(
 /// Names a key below another one and reads its record, class, security and values, of which it is built in the tree; then the list of
 /// its subkeys. The tree has the keys that were told so far, and the first of them with each security are known.
 pub fn begin_key<'a>(
-    alloc: Global,
+    building: Building,
     bins: &'a [u8],
     minor: u32,
     table: &mut CellTable,
@@ -123,20 +129,27 @@ pub fn begin_key<'a>(
     requires read { IsReadAt (cell_at bins.now) table.old.states.items tree.old above }
     requires firsts { AreFirst (cell_at bins.now) tree.old firsts.old }
     ensures begins { (levels : ℕ) → (path : List ℕ) → (at : Path) → (seen : Seen) → IsTable (cell_at bins.now) seen.found path table.old.states.items →
-        tree.old.tree ≡ tree_told seen → BuildsAll seen.told tree.old → IsAt tree.old at above → levels + above.depth ≡ PATH_LIMIT →
-        Begins (cell_at bins.now) minor levels path (child_path at) offset seen table.new.states.items tree.new result }
+        tree.old.tree ≡ tree_told seen → BuildsAll building.ahead seen.told tree.old → IsAt tree.old at above → levels + above.depth ≡ PATH_LIMIT →
+        Begins building.ahead (cell_at bins.now) minor levels path (child_path at) offset seen table.new.states.items tree.new result }
     ensures nodes { OnOk result (KeepsNodes tree.old tree.new) }
     ensures firsts { OnOk result (AreFirst (cell_at bins.now) tree.new firsts.new) }
     ensures fewer { OnOk result (unnamed table.new.states.items < unnamed table.old.states.items) }
 {
     // Only for its clauses `tree` and `one_path`: what isn't there has nothing below it, and the node is that of one key.
     let _ = tree.root();
-    let named = named_key(alloc, bins, table, offset)?;
+    let named = named_key(building.alloc, bins, table, offset)?;
     let reached = reach_below(tree, above, &named)?;
     let met = table.state(named.node.fields.security) == CellState::NamedSecurity;
-    let parts = enter_key(alloc, bins, table, minor, offset, &named.node.fields)?;
+    let parts = enter_key(
+        building.alloc,
+        bins,
+        table,
+        minor,
+        offset,
+        &named.node.fields,
+    )?;
     let node = build_sharing(
-        alloc, tree, above, reached, &named, &parts, met, firsts, room,
+        building, tree, above, reached, &named, &parts, met, firsts, room,
     )?;
     let fields = named.node.fields;
     let subkeys = subkeys_from(bins, table, fields.subkeys, fields.subkeys_list)?;

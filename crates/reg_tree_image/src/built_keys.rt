@@ -26,7 +26,7 @@ ghost use Rattle.reg_tree_image.specs.Internal.BegunKeys.{IsBare, IsBegun, IsLac
 use crate::LoadFault;
 use crate::key_parts::KeyParts;
 use crate::keys::NamedKey;
-use crate::room::{Room, key_bytes, make_key_room, make_root_room, values_bytes};
+use crate::room::{Building, Room, key_bytes, make_key_room, make_root_room, values_bytes};
 use crate::values::ReadValue;
 use reg_arena::ArenaFault;
 use reg_tree::{NewKey, NewValue, Node, Reached, Tree};
@@ -207,7 +207,7 @@ fn put_values(
 
 /// Builds a tree of a root that was read.
 pub fn build_root(
-    alloc: Global,
+    building: Building,
     named: &NamedKey<'_>,
     parts: &KeyParts<'_>,
     room: &mut Room,
@@ -215,25 +215,31 @@ pub fn build_root(
     requires named { IsFitName named.now }
     requires parts { AreFitParts parts.now }
     ensures ok { IfOk result (λ tree. tree.tree ≡ insert empty [] (told_as named.now parts.now)) }
-    ensures builds { IfOk result (λ tree. BuildsFirst tree (told_as named.now parts.now)) }
-    ensures err { IfErr result (IsLack (CrowdsRoot (told_as named.now parts.now))) }
+    ensures builds { IfOk result (λ tree. BuildsFirst building.ahead tree (told_as named.now parts.now)) }
+    ensures err { IfErr result (IsLack (CrowdsRoot building.ahead (told_as named.now parts.now))) }
 {
-    let Ok(mut tree) = Tree::build(alloc, new_key(named, parts)) else {
+    let Ok(mut tree) = Tree::build(building.alloc, new_key(named, parts)) else {
         return Err(LoadFault::Memory);
     };
     // The call of `arena` is also for its clauses `whole` and `sound`.
     room.begin(key_bytes(named, parts, false), tree.arena());
     let values = parts.values.as_slice();
-    make_root_room(alloc, &mut tree, room, values);
+    make_root_room(building, &mut tree, room, values);
     let root = tree.root();
-    put_values(alloc, &mut tree, root, values, named.node.fields.time)?;
+    put_values(
+        building.alloc,
+        &mut tree,
+        root,
+        values,
+        named.node.fields.time,
+    )?;
     Ok(tree)
 }
 
 /// Builds a key that was read below another one, which has none of its name, as was found from there on, and fewer than 60,000 subkeys. A
 /// key that is there and has the same descriptor may be told, whose security it shares.
 pub fn build_below(
-    alloc: Global,
+    building: Building,
     tree: &mut Tree,
     above: Node,
     reached: Reached<'_>,
@@ -255,18 +261,24 @@ pub fn build_below(
         (tree.new.tree ≡ insert tree.old.tree (child_path p (cow_slice_items named.now.name)) (told_as named.now parts.now))
         × IsAt tree.new (child_path p (cow_slice_items named.now.name)) node) }
     ensures nodes { OnOk result (KeepsNodes tree.old tree.new) }
-    ensures builds { (p : Path) → IsAt tree.old p above → OnOk result (BuildsOne tree.old tree.new p (told_as named.now parts.now)) }
-    ensures err { (p : Path) → IsAt tree.old p above → IfErr result (IsLack (CrowdsBelow tree.old p (told_as named.now parts.now))) }
+    ensures builds { (p : Path) → IsAt tree.old p above → OnOk result (BuildsOne building.ahead tree.old tree.new p (told_as named.now parts.now)) }
+    ensures err { (p : Path) → IsAt tree.old p above → IfErr result (IsLack (CrowdsBelow building.ahead tree.old p (told_as named.now parts.now))) }
 {
     let values = parts.values.as_slice();
     let own = key_bytes(named, parts, like.is_some());
-    make_key_room(alloc, tree, room, above, own, values_bytes(values));
+    make_key_room(building, tree, room, above, own, values_bytes(values));
     let time = named.node.fields.time;
-    match tree.build_key(alloc, above, reached, new_key(named, parts), like) {
+    match tree.build_key(
+        building.alloc,
+        above,
+        reached,
+        new_key(named, parts),
+        like,
+    ) {
         Ok(node) => {
             // Only for its clauses `whole` and `sound`.
             let _ = tree.arena();
-            put_values(alloc, tree, node, values, time)?;
+            put_values(building.alloc, tree, node, values, time)?;
             Ok(node)
         }
         Err(fault) => Err(lack(fault)),

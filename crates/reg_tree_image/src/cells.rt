@@ -37,7 +37,7 @@ pub fn size_at(bins: &[u8], at: usize) -> u32
 }
 
 /// What the allocated cell at an offset holds.
-fn content(bins: &[u8], offset: u32) -> &[u8]
+pub fn content(bins: &[u8], offset: u32) -> &[u8]
     ensures { (held : List ℕ) → cell_at bins.now offset ≡ Some held → result.now ≡ held }
 {
     let at = offset as usize;

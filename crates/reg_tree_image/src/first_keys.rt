@@ -20,7 +20,7 @@ use crate::LoadFault;
 use crate::built_keys::build_below;
 use crate::key_parts::KeyParts;
 use crate::keys::NamedKey;
-use crate::room::Room;
+use crate::room::{Building, Room};
 use reg_tree::{Node, Reached, Tree};
 use std::alloc::Global;
 use std::collections::BTreeMap;
@@ -69,7 +69,7 @@ impl FirstKeys {
 /// Builds a key that was read below another one, as `build_below` does. The first key that was built with its security shares that with
 /// it, so that the descriptor isn't looked for again; where none was, it is the first. It is told whether the security was met before.
 pub fn build_sharing(
-    alloc: Global,
+    building: Building,
     tree: &mut Tree,
     above: Node,
     reached: Reached<'_>,
@@ -92,14 +92,16 @@ pub fn build_sharing(
         (tree.new.tree ≡ insert tree.old.tree (child_path p (cow_slice_items named.now.name)) (told_as named.now parts.now))
         × IsAt tree.new (child_path p (cow_slice_items named.now.name)) node) }
     ensures nodes { OnOk result (KeepsNodes tree.old tree.new) }
-    ensures builds { (p : Path) → IsAt tree.old p above → OnOk result (BuildsOne tree.old tree.new p (told_as named.now parts.now)) }
-    ensures err { (p : Path) → IsAt tree.old p above → IfErr result (IsLack (CrowdsBelow tree.old p (told_as named.now parts.now))) }
+    ensures builds { (p : Path) → IsAt tree.old p above → OnOk result (BuildsOne building.ahead tree.old tree.new p (told_as named.now parts.now)) }
+    ensures err { (p : Path) → IsAt tree.old p above → IfErr result (IsLack (CrowdsBelow building.ahead tree.old p (told_as named.now parts.now))) }
     ensures firsts { (heap : Heap) → AreFirst heap tree.old firsts.old →
         descriptor_at heap named.now.node.fields.security ≡ Some parts.now.descriptor.now → OnOk result (AreFirst heap tree.new firsts.new) }
 {
     let security = named.node.fields.security;
     let like = firsts.find(security, met);
-    let node = build_below(alloc, tree, above, reached, named, parts, like, room)?;
+    let node = build_below(
+        building, tree, above, reached, named, parts, like, room,
+    )?;
     if like.is_some() {
         return Ok(node);
     }

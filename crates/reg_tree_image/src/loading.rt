@@ -2,7 +2,7 @@
 //!
 //! Suhanov, Windows registry file format specification, section "Format of primary files".
 
-ghost use Rattle.std.specs.Prelude.{◌≡◌, ◌≤◌, ◌%◌, Ok, IsOk, OnOk, IfOk, IfErr, MatchResult, length};
+ghost use Rattle.std.specs.Prelude.{◌≡◌, ◌≤◌, ◌%◌, false, Ok, IsOk, OnOk, IfOk, IfErr, MatchResult, length};
 ghost use Rattle.reg_heap.specs.declared.limits.TheConstants.{BINS_LIMIT};
 ghost use Rattle.reg_text.specs.Failures.{Stays};
 ghost use Rattle.reg_tree_image.specs.Images.{nothing, tree_in, bins_walk};
@@ -16,6 +16,7 @@ use crate::block::{BaseBlock, read_block};
 use crate::cells::word_at;
 use crate::checking::check_keys;
 use crate::input::{fill, read_bytes};
+use crate::room::Building;
 use crate::scan::scan;
 use crate::walk::walk;
 use reg_text::Source;
@@ -56,16 +57,41 @@ impl LoadFault {
     }
 }
 
-/// The tree of the keys in foreign bins, built anew: `Limit` also where the new bins have no room for a key that is met before any fault.
+/// The tree of the keys in foreign bins, built anew in the one way or the other: `Limit` also where the new bins have no room for a key
+/// that is met before any fault.
+fn build_by(building: Building, bins: &[u8], block: BaseBlock) -> Result<Tree, LoadFault>
+    requires pages { length bins.now % 4096 ≡ 0 }
+    requires small { length bins.now ≤ BINS_LIMIT }
+    ensures ok { IfOk result (λ tree. tree_in (bins_walk bins.now block.minor block.root nothing) ≡ Ok tree.tree) }
+    ensures err { IfErr result (λ fault. FailsAs (AreCrowded building.ahead bins.now block.minor block.root) fault
+        (bins_walk bins.now block.minor block.root nothing)) }
+{
+    let mut table = scan(building.alloc, bins)?;
+    walk(building, bins, block.minor, &mut table, block.root)
+}
+
+/// The tree of the keys in foreign bins, built anew. Room is made ahead, so that little of the bins stays free; where that takes too
+/// much, the tree is built once more, of just the cells that its keys take: `Limit` also where these bins have no room for a key that
+/// is met before any fault.
 pub fn build_keys(alloc: Global, bins: &[u8], block: BaseBlock) -> Result<Tree, LoadFault>
     requires pages { length bins.now % 4096 ≡ 0 }
     requires small { length bins.now ≤ BINS_LIMIT }
     ensures ok { IfOk result (λ tree. tree_in (bins_walk bins.now block.minor block.root nothing) ≡ Ok tree.tree) }
-    ensures err { IfErr result (λ fault. FailsAs (AreCrowded bins.now block.minor block.root) fault
+    ensures err { IfErr result (λ fault. FailsAs (AreCrowded false bins.now block.minor block.root) fault
         (bins_walk bins.now block.minor block.root nothing)) }
 {
-    let mut table = scan(alloc, bins)?;
-    walk(alloc, bins, block.minor, &mut table, block.root)
+    let built = build_by(Building { alloc, ahead: true }, bins, block);
+    if let Err(LoadFault::Limit) = built {
+        return build_by(
+            Building {
+                alloc,
+                ahead: false,
+            },
+            bins,
+            block,
+        );
+    }
+    built
 }
 
 /// Makes the tests of the keys in foreign bins, and builds none: the first that fails is the fault.
@@ -86,7 +112,7 @@ fn build_tree(alloc: Global, bins: &[u8], block: BaseBlock) -> Result<Tree, Load
     requires small { length bins.now ≤ BINS_LIMIT }
     ensures ok { IfOk result (λ tree. tree_in (bins_walk bins.now block.minor block.root nothing) ≡ Ok tree.tree) }
     ensures err { IfErr result (λ fault. FailsAs (IsOk (bins_walk bins.now block.minor block.root nothing)
-        × AreCrowded bins.now block.minor block.root) fault (bins_walk bins.now block.minor block.root nothing)) }
+        × AreCrowded false bins.now block.minor block.root) fault (bins_walk bins.now block.minor block.root nothing)) }
 {
     let built = build_keys(alloc, bins, block);
     if let Err(LoadFault::Limit) = built {

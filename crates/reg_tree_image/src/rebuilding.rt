@@ -1,6 +1,6 @@
 //! A tree built anew, in bins that hold just its keys.
 
-ghost use Rattle.std.specs.Prelude.{◌≡◌, ◌⊎◌, IfOk, IfErr};
+ghost use Rattle.std.specs.Prelude.{◌≡◌, ◌⊎◌, false, IfOk, IfErr};
 ghost use Rattle.reg_tree_image.specs.CrowdedBins.{AreCrowded};
 
 use crate::LoadFault;
@@ -27,7 +27,7 @@ fn copy_bins(alloc: Global, arena: &Arena) -> Result<Vec<u8>, AllocError>
 pub fn rebuild(alloc: Global, tree: &Tree) -> Result<Tree, LoadFault>
     ensures ok { IfOk result (λ new. new.tree ≡ tree.now.tree) }
     ensures err { IfErr result (λ fault. (fault ≡ LoadFault.Memory)
-        ⊎ ((fault ≡ LoadFault.Limit) × AreCrowded tree.now.bins.bytes 5 tree.now.root)) }
+        ⊎ ((fault ≡ LoadFault.Limit) × AreCrowded false tree.now.bins.bytes 5 tree.now.root)) }
 {
     let arena = tree.arena();
     let Ok(bins) = copy_bins(alloc, arena) else {

@@ -11,6 +11,8 @@ use crate::key_parts::KeyParts;
 use crate::keys::NamedKey;
 use crate::values::ReadValue;
 use reg_arena::Arena;
+use reg_heap::limits::{SUBKEYS_LIMIT, VALUES_LIMIT};
+use reg_records::{KeyNode, ValueRecord, read_nk, read_sk, read_vk};
 use reg_tree::{Node, Tree};
 use std::alloc::Global;
 
@@ -22,6 +24,18 @@ const OWN_BIN: u32 = 40_960;
 
 /// The most bytes that are counted of one text.
 const MOST_COUNTED: usize = 16_777_216;
+
+/// The bit of a value's size that says that its data stands in the record.
+const INLINE: u32 = 0x8000_0000;
+
+/// How a tree is built.
+#[derive(Clone, Copy)]
+pub struct Building {
+    /// What its memory comes from.
+    pub alloc: Global,
+    /// Whether room is made ahead. Where it isn't, each key takes just its cells.
+    pub ahead: bool,
+}
 
 /// How many bytes of cells are to be built, and for how many of them there is room. Both are estimates: what is built by them is the
 /// same tree whatever they say.
@@ -97,74 +111,113 @@ fn cell_bytes(count: usize) -> u32
     (count.min(MOST_COUNTED) as u32 + 11) / 8 * 8
 }
 
+/// How many bytes the cell has that is taken for so many, if there are some.
+fn cell_bytes_if_some(count: usize) -> u32
+    ensures { result ≤ 16777240 }
+{
+    if count == 0 { 0 } else { cell_bytes(count) }
+}
+
 /// How many bytes the cells of a key have without its values: its key node, its entry in a list, its class, and its security unless it
 /// shares one.
 pub fn key_bytes(named: &NamedKey<'_>, parts: &KeyParts<'_>, shares: bool) -> u32 {
     let node = cell_bytes(76 + named.name.as_slice().len().min(MOST_COUNTED)) + 8;
-    let class = if parts.class.is_empty() {
-        0
-    } else {
-        cell_bytes(parts.class.len())
-    };
     let security = if shares {
         0
     } else {
         cell_bytes(20 + parts.descriptor.len().min(MOST_COUNTED))
     };
-    node + class + security
+    node + cell_bytes_if_some(parts.class.len()) + security
 }
 
-/// How many bytes the cells of a value have. Data of more than 16,344 bytes has a cell for each so many, and a list of these.
-fn value_bytes(value: &ReadValue<'_>) -> u32 {
-    let name = cell_bytes(20 + value.name.as_slice().len().min(MOST_COUNTED));
-    let count = value.bytes.as_slice().len();
-    if count <= 4 {
-        return name;
+/// How many bytes the cells of a value have, of a name and data of so many. Data of up to four bytes stands in the record; such of more
+/// than 16,344 bytes has a cell for each so many, and a list of these.
+fn value_bytes(name: usize, size: usize) -> u32
+    ensures { result ≤ 50331720 }
+{
+    let record = cell_bytes(20 + name.min(MOST_COUNTED));
+    if size <= 4 {
+        return record;
     }
-    let data = cell_bytes(count);
-    if count <= 16_344 {
-        return name + data;
+    let data = cell_bytes(size);
+    if size <= 16_344 {
+        return record + data;
     }
-    name + data + 24 + data / 16_344 * 16
+    record + data + 24 + data / 16_344 * 16
 }
 
 /// How many bytes the cells of all values of a key have.
 pub fn values_bytes(values: &[ReadValue<'_>]) -> u32 {
-    if values.is_empty() {
-        return 0;
-    }
-    let mut all = cell_bytes(values.len().min(MOST_COUNTED / 4) * 4);
+    let mut all = cell_bytes_if_some(values.len().min(MOST_COUNTED / 4) * 4);
     for value in values {
-        all = all.saturating_add(value_bytes(value));
+        all = all.saturating_add(value_bytes(
+            value.name.as_slice().len(),
+            value.bytes.as_slice().len(),
+        ));
     }
     all
 }
 
+/// How many bytes the cells have that are built of a key node: its own, those of its lists of subkeys and of values, and its class's.
+fn built_of_key(node: &KeyNode<'_>) -> u32 {
+    let subkeys = 8 * node.fields.subkeys.min(SUBKEYS_LIMIT) as usize;
+    let values = 4 * node.fields.values.min(VALUES_LIMIT) as usize;
+    cell_bytes(76 + node.name.len().min(MOST_COUNTED))
+        + cell_bytes_if_some(subkeys)
+        + cell_bytes_if_some(values)
+        + cell_bytes_if_some(usize::from(node.fields.class_length))
+}
+
+/// The same of a value's record: its own, and those of its data.
+fn built_of_value(value: &ValueRecord<'_>) -> u32 {
+    let size = value.fields.size;
+    let outside = if size < INLINE { size as usize } else { 0 };
+    value_bytes(value.name.len(), outside)
+}
+
+/// About how many bytes the cells have that are built of what a cell holds. What is no record of a key, a value or a security is a part of
+/// one.
+pub fn bytes_built_of(content: &[u8]) -> u32 {
+    if let Ok(node) = read_nk(content) {
+        return built_of_key(&node);
+    }
+    if let Ok(value) = read_vk(content) {
+        return built_of_value(&value);
+    }
+    match read_sk(content) {
+        Ok(security) => cell_bytes(20 + security.descriptor.len().min(MOST_COUNTED)),
+        Err(_) => 0,
+    }
+}
+
 /// Makes room for cells of a size that come, beside which a list may move. Where it can't be had, the tree stays as it is: what comes tells
 /// what it lacks.
-fn make_room(alloc: Global, tree: &mut Tree, room: &mut Room, size: u32, list: u32)
-    ensures { IsRoomier tree.old tree.new }
+fn make_room(building: Building, tree: &mut Tree, room: &mut Room, size: u32, list: u32)
+    ensures { IsRoomier building.ahead tree.old tree.new }
 {
+    if !building.ahead {
+        return;
+    }
     room.look(tree.arena().bins_size());
     let Some(wanted) = room.take(size, list) else {
         return;
     };
-    if tree.reserve(alloc, wanted).is_ok() {
+    if tree.reserve(building.alloc, wanted).is_ok() {
         room.bins = tree.arena().bins_size();
     }
 }
 
 /// Makes room for the values of a root that was built.
-pub fn make_root_room(alloc: Global, tree: &mut Tree, room: &mut Room, values: &[ReadValue<'_>])
-    ensures { IsRoomier tree.old tree.new }
+pub fn make_root_room(building: Building, tree: &mut Tree, room: &mut Room, values: &[ReadValue<'_>])
+    ensures { IsRoomier building.ahead tree.old tree.new }
 {
-    make_room(alloc, tree, room, values_bytes(values), 0)
+    make_room(building, tree, room, values_bytes(values), 0)
 }
 
 /// Makes room for a key that is built below another one, with its values. The other one's list of subkeys, of at most 500 of them, may
 /// move.
 pub fn make_key_room(
-    alloc: Global,
+    building: Building,
     tree: &mut Tree,
     room: &mut Room,
     above: Node,
@@ -172,8 +225,8 @@ pub fn make_key_room(
     values: u32,
 )
     requires { IsThere tree.old above }
-    ensures { IsRoomier tree.old tree.new }
+    ensures { IsRoomier building.ahead tree.old tree.new }
 {
     let list = 8 * tree.subkeys(above).min(500) + 16;
-    make_room(alloc, tree, room, own.saturating_add(values), list)
+    make_room(building, tree, room, own.saturating_add(values), list)
 }

@@ -9,7 +9,8 @@ ghost use Rattle.reg_arena.specs.Cells.{bins_of, cells_from};
 ghost use Rattle.reg_tree_image.specs.Internal.CellScans.{is_header_in, is_size_in, cell_there, Marks, Scans};
 
 use crate::LoadFault;
-use crate::cells::{size_at, word_at};
+use crate::cells::{content, size_at, word_at};
+use crate::room::bytes_built_of;
 use crate::table::{CellState, CellTable};
 use std::alloc::Global;
 
@@ -61,7 +62,8 @@ fn note_cell(bins: &[u8], table: &mut CellTable, at: usize)
     if word_at(bins, at) < 0x8000_0000 {
         return;
     }
-    table.allocate(at as u32, size_at(bins, at));
+    let to_build = bytes_built_of(content(bins, at as u32));
+    table.allocate(at as u32, to_build);
 }
 
 /// Notes the allocated cells of a bin, from behind its header to its end. Where a size is bad the answer is no.
@@ -105,7 +107,7 @@ pub fn scan(alloc: Global, bins: &[u8]) -> Result<CellTable, LoadFault>
     }
     let mut table = CellTable {
         states,
-        allocated: 0,
+        to_build: 0,
     };
     let mut at = 0;
     while at < bins.len() {

@@ -19,11 +19,10 @@ use crate::begin::{BegunRoot, begin_key, begin_root};
 use crate::first_keys::FirstKeys;
 use crate::frames::KeyFrame;
 use crate::lists::leaf_from;
-use crate::room::Room;
+use crate::room::{Building, Room};
 use crate::table::CellTable;
 use reg_heap::limits::SUBKEYS_LIMIT;
 use reg_tree::Tree;
-use std::alloc::Global;
 
 /// Puts a key at the end of the path.
 fn push<'a>(keys: &mut Vec<KeyFrame<'a>>, key: KeyFrame<'a>) -> Result<(), LoadFault>
@@ -39,7 +38,7 @@ fn push<'a>(keys: &mut Vec<KeyFrame<'a>>, key: KeyFrame<'a>) -> Result<(), LoadF
 /// Goes on from the lowest key of the path, which was taken from the others: begins its next subkey, reads its next list of keys, or
 /// leaves it.
 fn step<'a>(
-    alloc: Global,
+    building: Building,
     bins: &'a [u8],
     minor: u32,
     table: &mut CellTable,
@@ -51,14 +50,14 @@ fn step<'a>(
 ) -> Result<(), LoadFault>
     requires node { IsThere tree.old lowest.node }
     requires walks { (root : ℕ) × (whole : Result (Unit {0} × Seen) LoadFault)
-        × IsWalking (cell_at bins.now) minor root whole (lowest ∷ reverse keys.old.items) table.old.states.items tree.old }
+        × IsWalking building.ahead (cell_at bins.now) minor root whole (lowest ∷ reverse keys.old.items) table.old.states.items tree.old }
     requires firsts { AreFirst (cell_at bins.now) tree.old firsts.old }
     ensures ok { (root : ℕ) → (whole : Result (Unit {0} × Seen) LoadFault) →
-        IsWalking (cell_at bins.now) minor root whole (lowest.entry ∷ reverse keys.old.items) table.old.states.items tree.old →
-        OnOk result (IsWalking (cell_at bins.now) minor root whole (reverse keys.new.items) table.new.states.items tree.new) }
+        IsWalking building.ahead (cell_at bins.now) minor root whole (lowest.entry ∷ reverse keys.old.items) table.old.states.items tree.old →
+        OnOk result (IsWalking building.ahead (cell_at bins.now) minor root whole (reverse keys.new.items) table.new.states.items tree.new) }
     ensures err { (root : ℕ) → (whole : Result (Unit {0} × Seen) LoadFault) →
-        IsWalking (cell_at bins.now) minor root whole (lowest.entry ∷ reverse keys.old.items) table.old.states.items tree.old →
-        IfErr result (λ fault. FailsAs (IsRootCrowded (cell_at bins.now) minor root) fault whole) }
+        IsWalking building.ahead (cell_at bins.now) minor root whole (lowest.entry ∷ reverse keys.old.items) table.old.states.items tree.old →
+        IfErr result (λ fault. FailsAs (IsRootCrowded building.ahead (cell_at bins.now) minor root) fault whole) }
     ensures firsts { OnOk result (AreFirst (cell_at bins.now) tree.new firsts.new) }
     ensures less { OnOk result
         (2 * unnamed table.new.states.items + length keys.new.items ≤ 2 * unnamed table.old.states.items + length keys.old.items) }
@@ -70,7 +69,7 @@ fn step<'a>(
         }
         key.count += 1;
         let below = begin_key(
-            alloc, bins, minor, table, tree, key.node, offset, firsts, room,
+            building, bins, minor, table, tree, key.node, offset, firsts, room,
         )?;
         push(keys, key)?;
         return push(keys, below);
@@ -85,7 +84,7 @@ fn step<'a>(
 
 /// Walks all keys below the root, which was begun, and builds them in its tree.
 fn walk_below<'a>(
-    alloc: Global,
+    building: Building,
     bins: &'a [u8],
     minor: u32,
     table: &mut CellTable,
@@ -93,21 +92,21 @@ fn walk_below<'a>(
     root: KeyFrame<'a>,
     room: &mut Room,
 ) -> Result<(), LoadFault>
-    requires begun { IsBegun (cell_at bins.now) minor (suc PATH_LIMIT) [] root_path root.offset nothing
+    requires begun { IsBegun building.ahead (cell_at bins.now) minor (suc PATH_LIMIT) [] root_path root.offset nothing
         table.old.states.items tree.old root }
     ensures ok { OnOk result ((seen : Seen)
         × (key_from (cell_at bins.now) minor (suc PATH_LIMIT) [] root_path root.entry.offset nothing ≡ Ok (tt, seen))
         × (tree.new.tree ≡ tree_told seen)) }
     ensures err { IfErr result
-        (λ fault. FailsAs (IsRootCrowded (cell_at bins.now) minor root.entry.offset) fault
+        (λ fault. FailsAs (IsRootCrowded building.ahead (cell_at bins.now) minor root.entry.offset) fault
         (key_from (cell_at bins.now) minor (suc PATH_LIMIT) [] root_path root.entry.offset nothing)) }
 {
-    let mut keys = Vec::new(alloc);
-    let mut firsts = FirstKeys::new(alloc);
+    let mut keys = Vec::new(building.alloc);
+    let mut firsts = FirstKeys::new(building.alloc);
     push(&mut keys, root)?;
     while let Some(key) = keys.pop() {
         step(
-            alloc,
+            building,
             bins,
             minor,
             table,
@@ -126,7 +125,7 @@ fn walk_below<'a>(
 /// Its faults are the walk's, the first that is met; `Limit` also where the new bins have no room for the key that was told last;
 /// `Memory` at any place.
 pub fn walk(
-    alloc: Global,
+    building: Building,
     bins: &[u8],
     minor: u32,
     table: &mut CellTable,
@@ -136,11 +135,11 @@ pub fn walk(
     ensures ok { IfOk result (λ tree. (seen : Seen)
         × (key_from (cell_at bins.now) minor (suc PATH_LIMIT) [] root_path root nothing ≡ Ok (tt, seen))
         × (tree.tree ≡ tree_told seen)) }
-    ensures err { IfErr result (λ fault. FailsAs (IsRootCrowded (cell_at bins.now) minor root) fault
+    ensures err { IfErr result (λ fault. FailsAs (IsRootCrowded building.ahead (cell_at bins.now) minor root) fault
         (key_from (cell_at bins.now) minor (suc PATH_LIMIT) [] root_path root nothing)) }
 {
-    let mut room = Room::new(table.allocated);
-    let BegunRoot { mut tree, key } = begin_root(alloc, bins, minor, table, root, &mut room)?;
-    walk_below(alloc, bins, minor, table, &mut tree, key, &mut room)?;
+    let mut room = Room::new(table.to_build);
+    let BegunRoot { mut tree, key } = begin_root(building, bins, minor, table, root, &mut room)?;
+    walk_below(building, bins, minor, table, &mut tree, key, &mut room)?;
     Ok(tree)
 }

@@ -1,5 +1,5 @@
 -- The keys of a tree's bins, walked and built anew: the walk meets no fault, and tells the tree.
-use Rattle.std.proofs.Common.{◌≡◌, ℕ, ◌⊎◌, Some, is_ok, Result, Ok, Err, IfOk, IfErr, List, length, inl, inr, refl, sym, ap, ◌∙◌, subst}
+use Rattle.std.proofs.Common.{◌≡◌, false, ℕ, ◌⊎◌, Some, is_ok, Result, Ok, Err, IfOk, IfErr, List, length, inl, inr, refl, sym, ap, ◌∙◌, subst}
 use Rattle.std.proofs.lemmas.Bool.{false≢true}
 use Rattle.std.proofs.lemmas.Option.{same_Some}
 use Rattle.reg_heap.specs.Paths.{Tree}
@@ -56,10 +56,10 @@ module _ (keys : Keys) (whole : IsWholeTree keys.bins.bytes keys.root keys.tree)
   rebuilt tree_of (Ok new) built = same_ok _ _ (sym built ∙ told)
   rebuilt tree_of (Err fault) built = tt
 
-  pub not-rebuilt : {T : Type 0} (r : Result T LoadFault) → IfErr r (λ fault. FailsAs (AreCrowded read 5 root) fault walk) →
-      IfErr r (λ fault. (fault ≡ Memory) ⊎ ((fault ≡ Limit) × AreCrowded keys.bins.bytes 5 keys.root))
+  pub not-rebuilt : {T : Type 0} (r : Result T LoadFault) → IfErr r (λ fault. FailsAs (AreCrowded false read 5 root) fault walk) →
+      IfErr r (λ fault. (fault ≡ Memory) ⊎ ((fault ≡ Limit) × AreCrowded false keys.bins.bytes 5 keys.root))
   not-rebuilt (Ok new) f = tt
   not-rebuilt (Err fault) f =
-      subst (λ bins. (fault ≡ Memory) ⊎ ((fault ≡ Limit) × AreCrowded bins 5 keys.root)) same
-      (subst (λ n. (fault ≡ Memory) ⊎ ((fault ≡ Limit) × AreCrowded read 5 n)) same_root
-      (only-wants (AreCrowded read 5 root) fault walk keys.tree told f))
+      subst (λ bins. (fault ≡ Memory) ⊎ ((fault ≡ Limit) × AreCrowded false bins 5 keys.root)) same
+      (subst (λ n. (fault ≡ Memory) ⊎ ((fault ≡ Limit) × AreCrowded false read 5 n)) same_root
+      (only-wants (AreCrowded false read 5 root) fault walk keys.tree told f))

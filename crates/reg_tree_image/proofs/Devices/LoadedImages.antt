@@ -169,7 +169,7 @@ module _ (head : List ℕ) (long : length head ≡ 4096) where
     refused-before-bins fault left m k = absurd k
 
     pub refused-at-bins : (fault : LoadFault) (left : _) → block.size ≤ 268435456 → length more ≡ block.size →
-        FailsAs (IsOk (bins_walk more block.minor block.root nothing) × AreCrowded more block.minor block.root) fault
+        FailsAs (IsOk (bins_walk more block.minor block.root nothing) × AreCrowded false more block.minor block.root) fault
         (bins_walk more block.minor block.root nothing) →
         (length (head ++ more) ≤ 268439552) × IsRefused fault (head ++ more) left
     refused-at-bins fault left m k w =
@@ -180,7 +180,7 @@ module _ (head : List ℕ) (long : length head ≡ 4096) where
         is f w = fault-is (head ++ more) f (whole-walked k ∙ w)
 
         by : (f : LoadFault) → length (head ++ more) ≡ asked_for (head ++ more) →
-            FailsAs (IsOk (bins_walk more block.minor block.root nothing) × AreCrowded more block.minor block.root) f
+            FailsAs (IsOk (bins_walk more block.minor block.root nothing) × AreCrowded false more block.minor block.root) f
             (bins_walk more block.minor block.root nothing) → IsRefused f (head ++ more) left
         by Read a w = absurd (bins-meet more block.minor block.root nothing Read w)
         by Short a w = absurd (bins-meet more block.minor block.root nothing Short w)
@@ -190,7 +190,7 @@ module _ (head : List ℕ) (long : length head ≡ 4096) where
           a,
           inr (
             none-is (head ++ more) (subst (λ (r : Result (Unit {0} × Seen) LoadFault). IsOk r) (sym (whole-walked k)) c.0),
-            (block, block-is, subst (λ bytes. AreCrowded bytes block.minor block.root) (sym (its-bins k)) c.1),
+            (block, block-is, subst (λ bytes. AreCrowded false bytes block.minor block.root) (sym (its-bins k)) c.1),
           ),
         )
         by f a w = (a, is f w)

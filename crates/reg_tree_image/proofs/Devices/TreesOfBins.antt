@@ -1,5 +1,5 @@
 -- The tree of foreign bins: scanned, and then walked.
-use Rattle.std.proofs.Common.{◌≡◌, ℕ, suc, Result, Ok, Err, IsOk, OnOk, IfOk, IfErr, List, [], inl, inr, refl, sym, ap, ◌∙◌, subst}
+use Rattle.std.proofs.Common.{◌≡◌, Bool, ℕ, suc, Result, Ok, Err, IsOk, OnOk, IfOk, IfErr, List, [], inl, inr, refl, sym, ap, ◌∙◌, subst}
 use Rattle.reg_names.specs.declared.TheConstants.{PATH_LIMIT}
 use Rattle.reg_heap.specs.Paths.{Tree}
 use Rattle.reg_heap.specs.Heaps.{Heap}
@@ -64,7 +64,7 @@ module _ (bins : List ℕ) (minor root : ℕ) where
     tree-built tree_of (Ok tree) w = ap tree_in (bins-walked ∙ w.1) ∙ ap Ok (sym w.2)
     tree-built tree_of (Err fault) w = tt
 
-    crowds : IsRootCrowded (cell_at bins) minor root → AreCrowded bins minor root
+    crowds : {ahead : Bool} → IsRootCrowded ahead (cell_at bins) minor root → AreCrowded ahead bins minor root
     crowds c = record {
       places = s.places;
       cells = s.cells;
@@ -75,19 +75,19 @@ module _ (bins : List ℕ) (minor root : ℕ) where
       crowded = c.2;
     }
 
-    fails : (fault : LoadFault) (whole : Result (Unit {0} × Seen) LoadFault) → FailsAs (IsRootCrowded (cell_at bins) minor root) fault whole →
-        FailsAs (AreCrowded bins minor root) fault whole
-    fails Memory whole w = tt
-    fails Limit whole (inl e) = inl e
-    fails Limit whole (inr c) = inr (crowds c)
-    fails fault whole w = w
+    fails : (ahead : Bool) (fault : LoadFault) (whole : Result (Unit {0} × Seen) LoadFault) → FailsAs (IsRootCrowded ahead (cell_at bins) minor root) fault whole →
+        FailsAs (AreCrowded ahead bins minor root) fault whole
+    fails ahead Memory whole w = tt
+    fails ahead Limit whole (inl e) = inl e
+    fails ahead Limit whole (inr c) = inr (crowds c)
+    fails ahead fault whole w = w
 
-    pub tree-fails : {T : Type 0} (r : Result T LoadFault) →
-        IfErr r (λ fault. FailsAs (IsRootCrowded (cell_at bins) minor root) fault (keys-walked (cell_at bins))) →
-        IfErr r (λ fault. FailsAs (AreCrowded bins minor root) fault (bins_walk bins minor root nothing))
-    tree-fails (Ok tree) w = tt
-    tree-fails (Err fault) w =
-        subst (λ whole. FailsAs (AreCrowded bins minor root) fault whole) (sym bins-walked) (fails fault _ w)
+    pub tree-fails : {T : Type 0} (ahead : Bool) (r : Result T LoadFault) →
+        IfErr r (λ fault. FailsAs (IsRootCrowded ahead (cell_at bins) minor root) fault (keys-walked (cell_at bins))) →
+        IfErr r (λ fault. FailsAs (AreCrowded ahead bins minor root) fault (bins_walk bins minor root nothing))
+    tree-fails ahead (Ok tree) w = tt
+    tree-fails ahead (Err fault) w =
+        subst (λ whole. FailsAs (AreCrowded ahead bins minor root) fault whole) (sym bins-walked) (fails ahead fault _ w)
 
 -- ---- the keys tested, and none built
 

@@ -1,5 +1,5 @@
 -- Keys and values that were built one behind the other.
-use Rattle.std.proofs.Common.{◌≡◌, ℕ, List, [], ◌∷◌, ◌++◌, inl, inr}
+use Rattle.std.proofs.Common.{◌≡◌, Bool, ℕ, List, [], ◌∷◌, ◌++◌, inl, inr}
 use Rattle.std.proofs.Common.{refl, sym, ap, ◌∙◌, subst}
 use Rattle.std.specs.FinMap.{insert}
 use Rattle.reg_heap.specs.Paths.{Path, Rec, Tree, Member}
@@ -41,22 +41,22 @@ lack-as here crowded fault f l = absurd l
 
 -- ---- keys
 
-each-more : (told : List (Path × Rec)) (old mid new : Keys) (path above : Path) (key : Rec) → BuildsEach told old mid →
-    path ≡ child_path above key.name → BuildsOne mid new above key → BuildsEach (told ++ (path, key) ∷ []) old new
-each-more [] old mid new path above key b p o = (above, new, p, subst (λ k. BuildsOne k new above key) b o, refl)
-each-more (e ∷ told) old mid new path above key b p o =
+each-more : {ahead : Bool} (told : List (Path × Rec)) (old mid new : Keys) (path above : Path) (key : Rec) → BuildsEach ahead told old mid →
+    path ≡ child_path above key.name → BuildsOne ahead mid new above key → BuildsEach ahead (told ++ (path, key) ∷ []) old new
+each-more {ahead = ahead} [] old mid new path above key b p o = (above, new, p, subst (λ k. BuildsOne ahead k new above key) b o, refl)
+each-more {ahead = ahead} (e ∷ told) old mid new path above key b p o =
     (b.0, b.1, b.2, b.3, each-more told b.1 mid new path above key b.4 p o)
 
-pub all-more : (told : List (Path × Rec)) (mid new : Keys) (path above : Path) (key : Rec) → BuildsAll told mid →
-    path ≡ child_path above key.name → BuildsOne mid new above key → BuildsAll (told ++ (path, key) ∷ []) new
+pub all-more : {ahead : Bool} (told : List (Path × Rec)) (mid new : Keys) (path above : Path) (key : Rec) → BuildsAll ahead told mid →
+    path ≡ child_path above key.name → BuildsOne ahead mid new above key → BuildsAll ahead (told ++ (path, key) ∷ []) new
 all-more [] mid new path above key b p o = absurd b
 all-more (e ∷ told) mid new path above key b p o = (b.0, b.1, b.2, each-more told b.0 mid new path above key b.3 p o)
 
-pub all-first : (new : Keys) (path : Path) (key : Rec) → path ≡ [] → BuildsFirst new key → BuildsAll ((path, key) ∷ []) new
+pub all-first : {ahead : Bool} (new : Keys) (path : Path) (key : Rec) → path ≡ [] → BuildsFirst ahead new key → BuildsAll ahead ((path, key) ∷ []) new
 all-first new path key p b = (new, p, b, refl)
 
-pub crowds-next : (told : List (Path × Rec)) (keys : Keys) (path above : Path) (key : Rec) → BuildsAll told keys →
-    path ≡ child_path above key.name → CrowdsBelow keys above key → CrowdsNext told path key
+pub crowds-next : {ahead : Bool} (told : List (Path × Rec)) (keys : Keys) (path above : Path) (key : Rec) → BuildsAll ahead told keys →
+    path ≡ child_path above key.name → CrowdsBelow ahead keys above key → CrowdsNext ahead told path key
 crowds-next [] keys path above key b p c = absurd b
 crowds-next (e ∷ told) keys path above key b p c = (keys, above, b, p, c)
 
@@ -77,8 +77,8 @@ module _ (made key : Rec) (given : List Member) (same : made ≡ bare_of key) (v
         at,
       )
 
-  pub builds-one : (old roomy mid new : Keys) (above : Path) → IsRoomier old roomy → BuildsKey roomy mid above made → AreWhole mid →
-      PutsValues (child_path above made.name) key.time given mid new → BuildsOne old new above key
+  pub builds-one : {ahead : Bool} (old roomy mid new : Keys) (above : Path) → IsRoomier ahead old roomy → BuildsKey roomy mid above made → AreWhole mid →
+      PutsValues (child_path above made.name) key.time given mid new → BuildsOne ahead old new above key
   builds-one old roomy mid new above r b w p = (
     roomy,
     r,
@@ -89,8 +89,8 @@ module _ (made key : Rec) (given : List Member) (same : made ≡ bare_of key) (v
         (subst (λ ms. PutsValues (child_path above made.name) key.time ms mid new) values p),
   )
 
-  pub crowds-below : (old roomy mid : Keys) (above : Path) → IsRoomier old roomy → BuildsKey roomy mid above made → AreWhole mid →
-      CrowdsValues mid (child_path above made.name) key.time given → CrowdsBelow old above key
+  pub crowds-below : {ahead : Bool} (old roomy mid : Keys) (above : Path) → IsRoomier ahead old roomy → BuildsKey roomy mid above made → AreWhole mid →
+      CrowdsValues mid (child_path above made.name) key.time given → CrowdsBelow ahead old above key
   crowds-below old roomy mid above r b w c = (
     roomy,
     r,
@@ -103,15 +103,15 @@ module _ (made key : Rec) (given : List Member) (same : made ≡ bare_of key) (v
     ),
   )
 
-  pub crowds-key : (old roomy : Keys) (above : Path) → IsRoomier old roomy → LacksKeyRoom roomy above made → CrowdsBelow old above key
+  pub crowds-key : {ahead : Bool} (old roomy : Keys) (above : Path) → IsRoomier ahead old roomy → LacksKeyRoom roomy above made → CrowdsBelow ahead old above key
   crowds-key old roomy above r l = (roomy, r, inl (subst (λ r. LacksKeyRoom roomy above r) same l))
 
-  pub builds-first : (mid roomy new : Keys) → BuildsRoot mid made → AreWhole mid → IsRoomier mid roomy → PutsValues [] key.time given roomy new →
-      BuildsFirst new key
+  pub builds-first : {ahead : Bool} (mid roomy new : Keys) → BuildsRoot mid made → AreWhole mid → IsRoomier ahead mid roomy → PutsValues [] key.time given roomy new →
+      BuildsFirst ahead new key
   builds-first mid roomy new b w r p =
       (mid, subst (λ r. BuildsRoot mid r) same b, w, roomy, r, subst (λ ms. PutsValues [] key.time ms roomy new) values p)
 
-  pub crowds-root : (mid roomy : Keys) → BuildsRoot mid made → AreWhole mid → IsRoomier mid roomy → CrowdsValues roomy [] key.time given →
-      CrowdsRoot key
+  pub crowds-root : {ahead : Bool} (mid roomy : Keys) → BuildsRoot mid made → AreWhole mid → IsRoomier ahead mid roomy → CrowdsValues roomy [] key.time given →
+      CrowdsRoot ahead key
   crowds-root mid roomy b w r c =
       (mid, subst (λ r. BuildsRoot mid r) same b, w, roomy, r, subst (λ ms. CrowdsValues roomy [] key.time ms) values c)

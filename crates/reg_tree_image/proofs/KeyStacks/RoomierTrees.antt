@@ -1,5 +1,5 @@
 -- A tree for which room was made: its keys are where they were.
-use Rattle.std.proofs.Common.{◌≡◌, ℕ, List, Option, None, Some, inl, inr, sym, ap, ◌∙◌, subst}
+use Rattle.std.proofs.Common.{◌≡◌, Bool, ℕ, List, Option, None, Some, inl, inr, sym, ap, ◌∙◌, subst}
 use Rattle.std.specs.Prelude.{IfSome}
 use Rattle.std.specs.FinMap.{get}
 use Rattle.reg_heap.specs.Heaps.{Heap}
@@ -21,11 +21,11 @@ pub record SameKeys (old new : Keys) : Type 0 where
   pub root : new.root ≡ old.root
   pub tree : new.tree ≡ old.tree
 
-pub same-keys : (old new : Keys) → IsRoomier old new → SameKeys old new
+pub same-keys : {ahead : Bool} (old new : Keys) → IsRoomier ahead old new → SameKeys old new
 same-keys old new (inl e) = record { cells = ap (λ (k : Keys). heap_of k.bins) e; root = ap (λ (k : Keys). k.root) e; tree = ap (λ (k : Keys). k.tree) e }
-same-keys old new (inr (size, small, m, whole)) = record { cells = m.cells; root = m.root; tree = m.tree }
+same-keys old new (inr (is, size, small, m, whole)) = record { cells = m.cells; root = m.root; tree = m.tree }
 
-module _ (old new : Keys) (roomier : IsRoomier old new) where
+module _ (ahead : Bool) (old new : Keys) (roomier : IsRoomier ahead old new) where
   same : SameKeys old new
   same = same-keys old new roomier
 

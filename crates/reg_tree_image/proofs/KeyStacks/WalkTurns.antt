@@ -98,11 +98,11 @@ module _ (old new : Keys) (keeps : KeepsNodes old new) (at : Path) (lower : ℕ)
     shown-on (suc levels) (omega (arith, apart)) above frames d.1 a.2,
   )
 
-module _ (heap : Heap) (minor root : ℕ) (whole : Told) (key : KeyFrame) (above : List KeyFrame) (old new : List CellState) (keys : Keys)
-    (w : IsWalking heap minor root whole (key ∷ above) old keys) where
+module _ (ahead : Bool) (heap : Heap) (minor root : ℕ) (whole : Told) (key : KeyFrame) (above : List KeyFrame) (old new : List CellState) (keys : Keys)
+    (w : IsWalking ahead heap minor root whole (key ∷ above) old keys) where
   -- the root of the walk comes to a key that there is no room for
   abbrev crowded : Type 0
-  crowded = IsRootCrowded heap minor root
+  crowded = IsRootCrowded ahead heap minor root
 
   -- what comes in what is left comes in the walk from the root on
   abbrev AllComes : ℕ → List Frame → Seen → Type 0
@@ -126,10 +126,10 @@ module _ (heap : Heap) (minor root : ℕ) (whole : Told) (key : KeyFrame) (above
 
   -- ---- nothing is left of the key
   pub walking-left : entries_in key.leaf ≡ [] → entries_in key.lists ≡ [] →
-      (state_in old key.offset ≡ OnPath → Puts old new key.offset Named) → IsWalking heap minor root whole above new keys
+      (state_in old key.offset ≡ OnPath → Puts old new key.offset Named) → IsWalking ahead heap minor root whole above new keys
   walking-left e l p = by-frame by
     where
-      by : FromLowest (IsWalking heap minor root whole above new keys)
+      by : FromLowest (IsWalking ahead heap minor root whole above new keys)
       by f frames a path shown t r m =
           let es : f.entries ≡ [] = sym a.entries ∙ e in
           let ls : f.lists ≡ [] = sym a.lists ∙ l in
@@ -150,10 +150,10 @@ module _ (heap : Heap) (minor root : ℕ) (whole : Told) (key : KeyFrame) (above
   -- ---- the next list of keys
   module _ (e : Entry) (part : ListPart) (empty : entries_in key.leaf ≡ []) (more : entries_in key.lists ≡ e ∷ entries_in part) where
     pub walking-list : (leaf : ListPart) → ((path : List ℕ) → Follows heap path list_in (leaf_from heap path e.offset) old new (Ok leaf)) →
-        IsWalking heap minor root whole (record key { leaf = leaf; lists = part } ∷ above) new keys
+        IsWalking ahead heap minor root whole (record key { leaf = leaf; lists = part } ∷ above) new keys
     walking-list leaf follows = by-frame by
       where
-        by : FromLowest (IsWalking heap minor root whole (record key { leaf = leaf; lists = part } ∷ above) new keys)
+        by : FromLowest (IsWalking ahead heap minor root whole (record key { leaf = leaf; lists = part } ∷ above) new keys)
         by f frames a path shown t r m =
             let es : f.entries ≡ [] = sym a.entries ∙ empty in
             let ls : f.lists ≡ e ∷ entries_in part = sym a.lists ∙ more in
@@ -167,7 +167,7 @@ module _ (heap : Heap) (minor root : ℕ) (whole : Told) (key : KeyFrame) (above
               depths = w.depths;
               table = d.table;
               told = w.told ∙ ap (λ (told : List (Path × Rec)). from_entries told) (sym d.told);
-              built = subst (λ (told : List (Path × Rec)). BuildsAll told keys) (sym d.told) w.built;
+              built = subst (λ (told : List (Path × Rec)). BuildsAll ahead told keys) (sym d.told) w.built;
               rest = rw g at (rw (es, ls) at r);
               comes = λ later k. m later
                   (list-comes heap minor later w.levels f frames w.seen e (entries_in part) es ls (list_in leaf) d.after g k);
@@ -193,8 +193,8 @@ module _ (heap : Heap) (minor root : ℕ) (whole : Told) (key : KeyFrame) (above
     abbrev Goes : Keys → Result KeyFrame LoadFault → Type 0
     Goes after result =
         (levels : ℕ) → (path : List ℕ) → (at : Path) → (seen : Seen) → IsTable heap seen.found path old → keys.tree ≡ tree_told seen →
-        BuildsAll seen.told keys → IsAt keys at key.node → levels + key.node.depth ≡ PATH_LIMIT →
-        Begins heap minor levels path (child_path at) e.offset seen new after result
+        BuildsAll ahead seen.told keys → IsAt keys at key.node → levels + key.node.depth ≡ PATH_LIMIT →
+        Begins ahead heap minor levels path (child_path at) e.offset seen new after result
 
     -- the lowest key, of which one subkey more was named
     abbrev named-one : Frame → Frame
@@ -235,12 +235,12 @@ module _ (heap : Heap) (minor root : ℕ) (whole : Told) (key : KeyFrame) (above
             (subst (λ n. ComesLeft heap minor later n (named-one f ∷ frames) k.0) (sym level) k.2)
 
     pub walking-key : (below : KeyFrame) (after : Keys) → KeepsNodes keys after → Goes after (Ok below) →
-        IsWalking heap minor root whole (below ∷ record key { count = key.count + 1; leaf = part } ∷ above) new after
+        IsWalking ahead heap minor root whole (below ∷ record key { count = key.count + 1; leaf = part } ∷ above) new after
     walking-key below after keeps goes = by-frame by
       where
-        by : FromLowest (IsWalking heap minor root whole (below ∷ record key { count = key.count + 1; leaf = part } ∷ above) new after)
+        by : FromLowest (IsWalking ahead heap minor root whole (below ∷ record key { count = key.count + 1; leaf = part } ∷ above) new after)
         by f frames a path shown t r m =
-            let b : IsBegun heap minor w.levels f.path (child_path f.at) e.offset w.seen new after below =
+            let b : IsBegun ahead heap minor w.levels f.path (child_path f.at) e.offset w.seen new after below =
             goes w.levels f.path f.at w.seen t w.told w.built a.node w.depths.0 in
             let one = subst (λ (tree : Tree). (p : Path) → length (children_of after.tree p) ≤
             length (children_of tree p) + cond (is_child p b.frame.at) 1 0) (sym w.told) b.one in
@@ -281,7 +281,7 @@ module _ (heap : Heap) (minor root : ℕ) (whole : Told) (key : KeyFrame) (above
       where
         by : FromLowest (FailsAs crowded fault whole)
         by f frames a path shown t r m =
-            key-fails (ComesCrowded heap minor w.levels f.path (child_path f.at) e.offset w.seen) crowded fault
+            key-fails (ComesCrowded ahead heap minor w.levels f.path (child_path f.at) e.offset w.seen) crowded fault
             (go heap minor w.levels f e.offset w.seen) (behind w.levels f frames) whole (λ e. refl)
             (sym (goes-on w.levels f frames w.seen a) ∙ r)
             (λ c. (
@@ -293,18 +293,18 @@ module _ (heap : Heap) (minor root : ℕ) (whole : Told) (key : KeyFrame) (above
             (goes w.levels f.path f.at w.seen t w.told w.built a.node w.depths.0)
 
 -- of the lowest key fewer subkeys were built than a key may have
-pub few-built : (heap : Heap) (minor root : ℕ) (whole : Told) (key : KeyFrame) (above : List KeyFrame) (old : List CellState) (keys : Keys) →
-    IsWalking heap minor root whole (key ∷ above) old keys → key.count < SUBKEYS_LIMIT →
+pub few-built : (ahead : Bool) (heap : Heap) (minor root : ℕ) (whole : Told) (key : KeyFrame) (above : List KeyFrame) (old : List CellState) (keys : Keys) →
+    IsWalking ahead heap minor root whole (key ∷ above) old keys → key.count < SUBKEYS_LIMIT →
     (p : Path) × IsAt keys p key.node × (length (children_of keys.tree p) < SUBKEYS_LIMIT)
-few-built heap minor root whole key above old keys w few =
-    by-frame heap minor root whole key above old old keys w (λ f frames a path shown t r m.
+few-built ahead heap minor root whole key above old keys w few =
+    by-frame ahead heap minor root whole key above old old keys w (λ f frames a path shown t r m.
     (f.at, a.node, (let n = a.count in let l = a.few in omega (arith, n, l, few))))
 
 -- the walk has come to the lowest key
-pub read-at : (heap : Heap) (minor root : ℕ) (whole : Told) (key : KeyFrame) (above : List KeyFrame) (old : List CellState) (keys : Keys) →
-    IsWalking heap minor root whole (key ∷ above) old keys → IsReadAt heap old keys key.node
-read-at heap minor root whole key above old keys w =
-    by-frame heap minor root whole key above old old keys w (λ f frames a path shown t r m.
+pub read-at : (ahead : Bool) (heap : Heap) (minor root : ℕ) (whole : Told) (key : KeyFrame) (above : List KeyFrame) (old : List CellState) (keys : Keys) →
+    IsWalking ahead heap minor root whole (key ∷ above) old keys → IsReadAt heap old keys key.node
+read-at ahead heap minor root whole key above old keys w =
+    by-frame ahead heap minor root whole key above old old keys w (λ f frames a path shown t r m.
     record { levels = w.levels; path = f.path; at = f.at; seen = w.seen; table = t; told = w.told; there = a.node; deep = w.depths.0 })
 
 -- ---- the first key
@@ -313,10 +313,10 @@ pub onward-same : (x : Told) → onward (λ _ seen. Ok (tt, seen)) x ≡ x
 onward-same (Ok x) = refl
 onward-same (Err e) = refl
 
-pub walking-first : (heap : Heap) (minor root : ℕ) (states : List CellState) (keys : Keys) (key : KeyFrame) →
-    IsBegun heap minor (suc PATH_LIMIT) [] root_path root nothing states keys key →
-    IsWalking heap minor root (key_from heap minor (suc PATH_LIMIT) [] root_path root nothing) (key ∷ []) states keys
-walking-first heap minor root states keys key b = record {
+pub walking-first : (ahead : Bool) (heap : Heap) (minor root : ℕ) (states : List CellState) (keys : Keys) (key : KeyFrame) →
+    IsBegun ahead heap minor (suc PATH_LIMIT) [] root_path root nothing states keys key →
+    IsWalking ahead heap minor root (key_from heap minor (suc PATH_LIMIT) [] root_path root nothing) (key ∷ []) states keys
+walking-first ahead heap minor root states keys key b = record {
   seen = b.after;
   frames = b.frame ∷ [];
   levels = b.lower;

@@ -1,5 +1,5 @@
 -- A key that is begun: from the steps that were read to what is left of it.
-use Rattle.std.proofs.Common.{◌≡◌, ℕ, zero, suc, ◌+◌, ◌-◌, ◌<◌, ◌≤◌, cond, not, true, false, None, is_some, IsSome, Result, Ok, Err, IsOk, List, inl, inr}
+use Rattle.std.proofs.Common.{◌≡◌, Bool, ℕ, zero, suc, ◌+◌, ◌-◌, ◌<◌, ◌≤◌, cond, not, true, false, None, is_some, IsSome, Result, Ok, Err, IsOk, List, inl, inr}
 use Rattle.std.proofs.Common.{[], ◌∷◌, ◌++◌}
 use Rattle.std.proofs.Common.{length, length-append, refl, sym, ap, ◌∙◌, subst, arith}
 use Rattle.std.specs.Result.{IsErrAnd, MatchResult}
@@ -197,7 +197,7 @@ module _ (heap : Heap) (minor lower : ℕ) (path : List ℕ) (here : List ℕ �
     told-are = ap (λ told. told ++ (its_path, told_as named parts) ∷ []) (own.told ∙ head.told)
 
     -- and there is no room for it
-    pub crowded-here : CrowdsNext seen.told its_path (told_as named parts) → ComesCrowded heap minor (suc lower) path here offset seen
+    pub crowded-here : {ahead : Bool} → CrowdsNext ahead seen.told its_path (told_as named parts) → ComesCrowded ahead heap minor (suc lower) path here offset seen
     crowded-here c = (
       told_then,
       comes-here,
@@ -254,12 +254,12 @@ module _ (heap : Heap) (minor lower : ℕ) (path : List ℕ) (here : List ℕ �
             let itself : ◌≡◌ {A = ℕ} (cond (is_child its_path its_path) 1 0) 0 = ap {B = ℕ} (λ b. cond b 1 0) (no-child-of its_path its_path (λ e. absurd (omega (arith, e)))) in
             omega (arith, one, none, itself)
 
-        pub key-begun : IsListed heap (offset ∷ path) go named.node.fields.subkeys named.node.fields.subkeys_list told_then last subkeys →
+        pub key-begun : {ahead : Bool} → IsListed heap (offset ∷ path) go named.node.fields.subkeys named.node.fields.subkeys_list told_then last subkeys →
             (keys : Keys) → IsAt keys its_path node → lower + node.depth ≡ PATH_LIMIT → get (tree_told seen) its_path ≡ None →
             keys.tree ≡ insert (tree_told seen) its_path (told_as named parts) →
-            BuildsAll (seen.told ++ (its_path, told_as named parts) ∷ []) keys → HasParents (tree_told seen) →
-            IsBegun heap minor (suc lower) path here offset seen last keys code_frame
-        key-begun l keys is deep n t built parents = record {
+            BuildsAll ahead (seen.told ++ (its_path, told_as named parts) ∷ []) keys → HasParents (tree_told seen) →
+            IsBegun ahead heap minor (suc lower) path here offset seen last keys code_frame
+        key-begun {ahead = ahead} l keys is deep n t built parents = record {
           lower = lower;
           levels_are = refl;
           after = l.after;
@@ -270,7 +270,7 @@ module _ (heap : Heap) (minor lower : ℕ) (path : List ℕ) (here : List ℕ �
           depth = deep;
           table = l.table;
           told = t ∙ (sym (tree-then n) ∙ ap (λ es. from_entries {R = path_cmp} es) (sym l.told));
-          built = subst (λ told. BuildsAll told keys) (sym (l.told ∙ told-are)) built;
+          built = subst (λ told. BuildsAll ahead told keys) (sym (l.told ∙ told-are)) built;
           one = one-more keys t;
           rest = begun ∙ l.rest;
           comes = λ later k. comes-below later (source-comes heap later go (its_comes later) (offset ∷ path) named.node.fields.subkeys
@@ -303,14 +303,14 @@ root-deep depth z = omega (arith, z)
 
 -- ---- a key below another one
 
-module _ (heap : Heap) (minor levels lower : ℕ) (level : levels ≡ suc lower) (path : List ℕ) (here : List ℕ → Path) (offset : ℕ)
+module _ (ahead : Bool) (heap : Heap) (minor levels lower : ℕ) (level : levels ≡ suc lower) (path : List ℕ) (here : List ℕ → Path) (offset : ℕ)
     (seen : Seen) (named : NamedKey)
     (mid : List CellState) (head : IsDone heap path (head_from heap path here offset) seen (key_of named) mid) where
   abbrev Whole : LoadFault → Type 0
-  Whole fault = FailsAs (ComesCrowded heap minor levels path here offset seen) fault (key_from heap minor levels path here offset seen)
+  Whole fault = FailsAs (ComesCrowded ahead heap minor levels path here offset seen) fault (key_from heap minor levels path here offset seen)
 
   abbrev WholeOf : LoadFault → ℕ → Type 0
-  WholeOf fault n = FailsAs (ComesCrowded heap minor n path here offset seen) fault (key_from heap minor n path here offset seen)
+  WholeOf fault n = FailsAs (ComesCrowded ahead heap minor n path here offset seen) fault (key_from heap minor n path here offset seen)
 
   -- what is known where a level is left for the key, by the number of levels
   leveled : (P : ℕ → Type 0) → P (suc lower) → P levels
@@ -336,11 +336,11 @@ module _ (heap : Heap) (minor levels lower : ℕ) (level : levels ≡ suc lower)
         (told_then heap minor lower path here offset seen named mid head parts next own) own.table))
 
     -- what building the key lacked
-    pub no-room : (fault : LoadFault) (here_crowded : Type 0) → (here_crowded → CrowdsNext seen.told (here (cow_slice_items named.name)) (told_as named parts)) →
+    pub no-room : (fault : LoadFault) (here_crowded : Type 0) → (here_crowded → CrowdsNext ahead seen.told (here (cow_slice_items named.name)) (told_as named parts)) →
         IsLack here_crowded fault → Whole fault
     no-room Memory k f l = tt
     no-room Limit k f l =
-        inr (leveled (λ n. ComesCrowded heap minor n path here offset seen)
+        inr (leveled (λ n. ComesCrowded ahead heap minor n path here offset seen)
         (crowded-here heap minor lower path here offset seen named mid head parts next own (f l)))
     no-room fault k f l = absurd l
 
@@ -348,11 +348,11 @@ module _ (heap : Heap) (minor levels lower : ℕ) (level : levels ≡ suc lower)
         IsAt keys (here (cow_slice_items named.name)) node →
         lower + node.depth ≡ PATH_LIMIT → get (tree_told seen) (here (cow_slice_items named.name)) ≡ None →
         keys.tree ≡ insert (tree_told seen) (here (cow_slice_items named.name)) (told_as named parts) →
-        BuildsAll (seen.told ++ (here (cow_slice_items named.name), told_as named parts) ∷ []) keys → HasParents (tree_told seen) →
-        IsBegun heap minor levels path here offset seen last keys
+        BuildsAll ahead (seen.told ++ (here (cow_slice_items named.name), told_as named parts) ∷ []) keys → HasParents (tree_told seen) →
+        IsBegun ahead heap minor levels path here offset seen last keys
         (record { offset = offset; node = node; count = 0; leaf = subkeys.leaf; lists = subkeys.lists })
     is-begun subkeys node l keys is deep n t built parents =
-        leveled (λ n. IsBegun heap minor n path here offset seen last keys
+        leveled (λ n. IsBegun ahead heap minor n path here offset seen last keys
         (record { offset = offset; node = node; count = 0; leaf = subkeys.leaf; lists = subkeys.lists }))
         (key-begun heap minor lower path here offset seen named mid head parts next own last subkeys node
         (l (go heap minor lower path here offset seen named mid head)
@@ -361,14 +361,14 @@ module _ (heap : Heap) (minor levels lower : ℕ) (level : levels ≡ suc lower)
 
 -- ---- the exit of a `?`
 
-pub begins-exit : (heap : Heap) (minor levels : ℕ) (path : List ℕ) (here : List ℕ → Path) (offset : ℕ) (seen : Seen)
+pub begins-exit : (ahead : Bool) (heap : Heap) (minor levels : ℕ) (path : List ℕ) (here : List ℕ → Path) (offset : ℕ) (seen : Seen)
     (states : List CellState) (keys : Keys)
     (fault : LoadFault) (r : Result KeyFrame LoadFault) → IsErrAnd r (λ e. e ≡ fault) →
-    FailsAs (ComesCrowded heap minor levels path here offset seen) fault (key_from heap minor levels path here offset seen) →
-    Begins heap minor levels path here offset seen states keys r
-begins-exit heap minor levels path here offset seen states keys fault (Ok key) i f = absurd i
-begins-exit heap minor levels path here offset seen states keys fault (Err e) i f =
-    subst (λ e. FailsAs (ComesCrowded heap minor levels path here offset seen) e (key_from heap minor levels path here offset seen)) (sym i) f
+    FailsAs (ComesCrowded ahead heap minor levels path here offset seen) fault (key_from heap minor levels path here offset seen) →
+    Begins ahead heap minor levels path here offset seen states keys r
+begins-exit ahead heap minor levels path here offset seen states keys fault (Ok key) i f = absurd i
+begins-exit ahead heap minor levels path here offset seen states keys fault (Err e) i f =
+    subst (λ e. FailsAs (ComesCrowded ahead heap minor levels path here offset seen) e (key_from heap minor levels path here offset seen)) (sym i) f
 
 pub root-exit : (P : BegunRoot → Type 0) (crowded : Type 0) (whole : Result (Unit {0} × Seen) LoadFault) (fault : LoadFault)
     (r : Result BegunRoot LoadFault) →

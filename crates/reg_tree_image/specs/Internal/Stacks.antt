@@ -1,5 +1,5 @@
 -- The code's keys on the present path, as frames of what is left.
-use Rattle.std.specs.Prelude.{◌≡◌, ◌⊎◌, ◌≤◌, cond, length, ℕ, suc, ◌+◌, Result, Ok, Err, List, [], ◌∷◌, ⊤}
+use Rattle.std.specs.Prelude.{◌≡◌, ◌⊎◌, ◌≤◌, Bool, cond, length, ℕ, suc, ◌+◌, Result, Ok, Err, List, [], ◌∷◌, ⊤}
 use Rattle.reg_names.specs.declared.TheConstants.{PATH_LIMIT}
 use Rattle.reg_heap.specs.Heaps.{Heap}
 use Rattle.reg_heap.specs.Paths.{Path, is_child, children_of}
@@ -47,7 +47,7 @@ IsDeep levels (key ∷ above) = (levels + key.node.depth ≡ PATH_LIMIT) × IsDe
 
 -- what was read so far, and the rest of the walk, are the whole walk, from the root at an offset on; the tree was built of the keys that
 -- were told
-pub record IsWalking (heap : Heap) (minor root : ℕ) (whole : Result (Unit {0} × Seen) LoadFault) (stack : List KeyFrame)
+pub record IsWalking (ahead : Bool) (heap : Heap) (minor root : ℕ) (whole : Result (Unit {0} × Seen) LoadFault) (stack : List KeyFrame)
     (states : List CellState) (keys : Keys) : Type 0 where
   pub seen : Seen
   pub frames : List Frame
@@ -56,7 +56,7 @@ pub record IsWalking (heap : Heap) (minor root : ℕ) (whole : Result (Unit {0} 
   pub depths : IsDeep levels stack
   pub table : IsTable heap seen.found (path_of frames) states
   pub told : keys.tree ≡ tree_told seen
-  pub built : BuildsAll seen.told keys
+  pub built : BuildsAll ahead seen.told keys
   pub rest : left heap minor levels frames seen ≡ whole
   pub comes : (later : Seen) → ComesLeft heap minor later levels frames seen →
       Comes heap minor later (suc PATH_LIMIT) [] root_path root nothing
@@ -73,13 +73,13 @@ pub record IsReadAt (heap : Heap) (states : List CellState) (keys : Keys) (node 
   pub deep : levels + node.depth ≡ PATH_LIMIT
 
 -- the walk of a key comes to one that the new bins have no room for
-abbrev pub ComesCrowded : Heap → ℕ → ℕ → List ℕ → (List ℕ → Path) → ℕ → Seen → Type 0
-ComesCrowded heap minor levels path here offset seen =
-    (after : Seen) × Comes heap minor after levels path here offset seen × IsCrowded after
+abbrev pub ComesCrowded : Bool → Heap → ℕ → ℕ → List ℕ → (List ℕ → Path) → ℕ → Seen → Type 0
+ComesCrowded ahead heap minor levels path here offset seen =
+    (after : Seen) × Comes heap minor after levels path here offset seen × IsCrowded ahead after
 
 -- the walk from the root at an offset on comes to a key that the new bins have no room for
-abbrev pub IsRootCrowded : Heap → ℕ → ℕ → Type 0
-IsRootCrowded heap minor root = ComesCrowded heap minor (suc PATH_LIMIT) [] root_path root nothing
+abbrev pub IsRootCrowded : Bool → Heap → ℕ → ℕ → Type 0
+IsRootCrowded ahead heap minor root = ComesCrowded ahead heap minor (suc PATH_LIMIT) [] root_path root nothing
 
 -- the whole walk meets this fault; want of memory may come in place of anything, and want of space where the new bins are crowded
 abbrev pub FailsAs : Type 0 → LoadFault → Result (Unit {0} × Seen) LoadFault → Type 0
@@ -89,7 +89,7 @@ FailsAs crowded fault whole = whole ≡ Err fault
 
 -- a key was begun: its record, class, security and values were read, and it was built; then the list of its subkeys was read. What is
 -- left of it are its subkeys
-pub record IsBegun (heap : Heap) (minor levels : ℕ) (path : List ℕ) (here : List ℕ → Path) (offset : ℕ) (seen : Seen)
+pub record IsBegun (ahead : Bool) (heap : Heap) (minor levels : ℕ) (path : List ℕ) (here : List ℕ → Path) (offset : ℕ) (seen : Seen)
     (states : List CellState) (keys : Keys) (key : KeyFrame) : Type 0 where
   pub lower : ℕ
   pub levels_are : levels ≡ suc lower
@@ -101,13 +101,13 @@ pub record IsBegun (heap : Heap) (minor levels : ℕ) (path : List ℕ) (here : 
   pub depth : lower + key.node.depth ≡ PATH_LIMIT
   pub table : IsTable heap after.found (offset ∷ path) states
   pub told : keys.tree ≡ tree_told after
-  pub built : BuildsAll after.told keys
+  pub built : BuildsAll ahead after.told keys
   pub one : (p : Path) → length (children_of keys.tree p) ≤ length (children_of (tree_told seen) p) + cond (is_child p frame.at) 1 0
   pub rest : key_from heap minor levels path here offset seen ≡ frame_left heap minor lower frame after
   pub comes : (later : Seen) → ComesInFrame heap minor later lower frame after → Comes heap minor later levels path here offset seen
 
 -- a key is begun below another one
-abbrev pub Begins : Heap → ℕ → ℕ → List ℕ → (List ℕ → Path) → ℕ → Seen → List CellState → Keys → Result KeyFrame LoadFault → Type 0
-Begins heap minor levels path here offset seen states keys (Ok key) = IsBegun heap minor levels path here offset seen states keys key
-Begins heap minor levels path here offset seen states keys (Err fault) =
-    FailsAs (ComesCrowded heap minor levels path here offset seen) fault (key_from heap minor levels path here offset seen)
+abbrev pub Begins : Bool → Heap → ℕ → ℕ → List ℕ → (List ℕ → Path) → ℕ → Seen → List CellState → Keys → Result KeyFrame LoadFault → Type 0
+Begins ahead heap minor levels path here offset seen states keys (Ok key) = IsBegun ahead heap minor levels path here offset seen states keys key
+Begins ahead heap minor levels path here offset seen states keys (Err fault) =
+    FailsAs (ComesCrowded ahead heap minor levels path here offset seen) fault (key_from heap minor levels path here offset seen)

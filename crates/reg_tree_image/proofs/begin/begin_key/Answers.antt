@@ -15,21 +15,21 @@ use Rattle.reg_tree_image.proofs.begin.begin_key.Goals as goal
 
 pub returns-in_err-named-clause-begins : goal.returns-in_err-named-clause-begins
 returns-in_err-named-clause-begins c levels path at seen t told built is deep =
-    begins-exit _ c.args.minor levels path (child_path at) c.args.offset seen _ _ _ _ c.from_residual.ensures.1
+    begins-exit c.args.building.ahead _ c.args.minor levels path (child_path at) c.args.offset seen _ _ _ _ c.from_residual.ensures.1
     (head-fails _ c.args.minor levels path (child_path at) c.args.offset seen _ _
     (head-stops (cell_at c.args.bins.now) levels path (child_path at) c.args.offset seen _ (c.in_err-named.ensures.follows path seen t)))
 
 pub returns-in_err-reached-clause-begins : goal.returns-in_err-reached-clause-begins
 returns-in_err-reached-clause-begins c levels path at seen t told built is deep =
-    begins-exit _ c.args.minor levels path (child_path at) c.args.offset seen _ _ _ _ c.from_residual-in_err-reached.ensures.1
+    begins-exit c.args.building.ahead _ c.args.minor levels path (child_path at) c.args.offset seen _ _ _ _ c.from_residual-in_err-reached.ensures.1
     (head-fails _ c.args.minor levels path (child_path at) c.args.offset seen _ _
     (c.in_err-reached.ensures.heads (cell_at c.args.bins.now) levels path at c.args.offset seen _ (c.in_ok-named.ensures.follows path seen t) told is deep))
 
 pub returns-in_err-parts-clause-begins : goal.returns-in_err-parts-clause-begins
 returns-in_err-parts-clause-begins c levels path at seen t told built is deep =
     let head = c.in_ok-reached.ensures.heads (cell_at c.args.bins.now) levels path at c.args.offset seen _ (c.in_ok-named.ensures.follows path seen t) told is deep in
-    begins-exit _ c.args.minor levels path (child_path at) c.args.offset seen _ _ _ _ c.from_residual-in_err-parts.ensures.1
-    (no-parts _ c.args.minor levels (levels - 1) (level-below levels _ deep c.in_ok-reached.ensures.shallow) path
+    begins-exit c.args.building.ahead _ c.args.minor levels path (child_path at) c.args.offset seen _ _ _ _ c.from_residual-in_err-parts.ensures.1
+    (no-parts _ _ c.args.minor levels (levels - 1) (level-below levels _ deep c.in_ok-reached.ensures.shallow) path
     (child_path at) c.args.offset seen
     c.in_ok-named.named _ head _ (c.in_err-parts.ensures.follows path head.after head.table))
 
@@ -37,8 +37,8 @@ pub returns-in_err-node-clause-begins : goal.returns-in_err-node-clause-begins
 returns-in_err-node-clause-begins c levels path at seen t told built is deep =
     let head = c.in_ok-reached.ensures.heads (cell_at c.args.bins.now) levels path at c.args.offset seen _ (c.in_ok-named.ensures.follows path seen t) told is deep in
     let key = told_as c.in_ok-named.named c.in_ok-parts.parts in
-    begins-exit _ c.args.minor levels path (child_path at) c.args.offset seen _ _ _ _ c.from_residual-in_err-node.ensures.1
-    (no-room _ c.args.minor levels (levels - 1) (level-below levels _ deep c.in_ok-reached.ensures.shallow) path
+    begins-exit c.args.building.ahead _ c.args.minor levels path (child_path at) c.args.offset seen _ _ _ _ c.from_residual-in_err-node.ensures.1
+    (no-room _ _ c.args.minor levels (levels - 1) (level-below levels _ deep c.in_ok-reached.ensures.shallow) path
     (child_path at) c.args.offset seen
     c.in_ok-named.named _ head c.in_ok-parts.parts _ (c.in_ok-parts.ensures.follows path head.after head.table) c.args.table.now.states.items _ _
     (crowds-next seen.told _ (child_path at (cow_slice_items c.in_ok-named.named.name)) at key built refl) (c.in_err-node.ensures.err at is))
@@ -46,8 +46,8 @@ returns-in_err-node-clause-begins c levels path at seen t told built is deep =
 pub returns-in_err-subkeys-clause-begins : goal.returns-in_err-subkeys-clause-begins
 returns-in_err-subkeys-clause-begins c levels path at seen t told built is deep =
     let head = c.in_ok-reached.ensures.heads (cell_at c.args.bins.now) levels path at c.args.offset seen _ (c.in_ok-named.ensures.follows path seen t) told is deep in
-    begins-exit _ c.args.minor levels path (child_path at) c.args.offset seen _ _ _ _ c.from_residual-in_err-subkeys.ensures.1
-    (no-list _ c.args.minor levels (levels - 1) (level-below levels _ deep c.in_ok-reached.ensures.shallow) path
+    begins-exit c.args.building.ahead _ c.args.minor levels path (child_path at) c.args.offset seen _ _ _ _ c.from_residual-in_err-subkeys.ensures.1
+    (no-list _ _ c.args.minor levels (levels - 1) (level-below levels _ deep c.in_ok-reached.ensures.shallow) path
     (child_path at) c.args.offset seen
     c.in_ok-named.named _ head c.in_ok-parts.parts _ (c.in_ok-parts.ensures.follows path head.after head.table) c.subkeys_from.new.table.states.items _
     (c.in_err-subkeys.ensures.lists (c.args.offset ∷ path)))
@@ -58,7 +58,7 @@ returns-clause-begins c levels path at seen t told built is deep =
     let name = cow_slice_items c.in_ok-named.named.name in
     let made = c.in_ok-node.ensures.ok at is in
     let key = made.1 in
-    is-begun _ c.args.minor levels (levels - 1) (level-below levels _ deep c.in_ok-reached.ensures.shallow) path
+    is-begun _ _ c.args.minor levels (levels - 1) (level-below levels _ deep c.in_ok-reached.ensures.shallow) path
     (child_path at) c.args.offset seen
     c.in_ok-named.named _ head c.in_ok-parts.parts _ (c.in_ok-parts.ensures.follows path head.after head.table) _ c.in_ok-subkeys.subkeys
     c.in_ok-node.node (c.in_ok-subkeys.ensures.lists (c.args.offset ∷ path)) _ key

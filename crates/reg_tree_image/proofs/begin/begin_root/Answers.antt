@@ -21,7 +21,7 @@ returns-in_err-parts-clause-begins c =
     let head = head-done (cell_at c.args.bins.now) [] root_path c.args.offset nothing c.in_ok-named.named _
     (c.in_ok-named.ensures.follows [] nothing c.requires) (none-told []) in
     root-exit _ _ _ _ _ c.from_residual-in_err-parts.ensures.1
-    (no-parts (cell_at c.args.bins.now) c.args.minor (suc PATH_LIMIT) PATH_LIMIT refl [] root_path c.args.offset nothing c.in_ok-named.named _ head _
+    (no-parts c.args.building.ahead (cell_at c.args.bins.now) c.args.minor (suc PATH_LIMIT) PATH_LIMIT refl [] root_path c.args.offset nothing c.in_ok-named.named _ head _
     (c.in_err-parts.ensures.follows [] head.after head.table))
 
 pub returns-in_err-tree-clause-begins : goal.returns-in_err-tree-clause-begins
@@ -29,7 +29,7 @@ returns-in_err-tree-clause-begins c =
     let head = head-done (cell_at c.args.bins.now) [] root_path c.args.offset nothing c.in_ok-named.named _
     (c.in_ok-named.ensures.follows [] nothing c.requires) (none-told []) in
     root-exit _ _ _ _ _ c.from_residual-in_err-tree.ensures.1
-    (no-room (cell_at c.args.bins.now) c.args.minor (suc PATH_LIMIT) PATH_LIMIT refl [] root_path c.args.offset nothing
+    (no-room c.args.building.ahead (cell_at c.args.bins.now) c.args.minor (suc PATH_LIMIT) PATH_LIMIT refl [] root_path c.args.offset nothing
     c.in_ok-named.named _ head c.in_ok-parts.parts _ (c.in_ok-parts.ensures.follows [] head.after head.table) c.args.table.now.states.items _ _
     (λ k. (refl, k)) c.in_err-tree.ensures.err)
 
@@ -38,7 +38,7 @@ returns-in_err-subkeys-clause-begins c =
     let head = head-done (cell_at c.args.bins.now) [] root_path c.args.offset nothing c.in_ok-named.named _
     (c.in_ok-named.ensures.follows [] nothing c.requires) (none-told []) in
     root-exit _ _ _ _ _ c.from_residual-in_err-subkeys.ensures.1
-    (no-list (cell_at c.args.bins.now) c.args.minor (suc PATH_LIMIT) PATH_LIMIT refl [] root_path c.args.offset nothing
+    (no-list c.args.building.ahead (cell_at c.args.bins.now) c.args.minor (suc PATH_LIMIT) PATH_LIMIT refl [] root_path c.args.offset nothing
     c.in_ok-named.named _ head c.in_ok-parts.parts _
     (c.in_ok-parts.ensures.follows [] head.after head.table) c.subkeys_from.new.table.states.items _
     (c.in_err-subkeys.ensures.lists (c.args.offset ∷ [])))
@@ -47,7 +47,7 @@ pub returns-clause-begins : goal.returns-clause-begins
 returns-clause-begins c =
     let head = head-done (cell_at c.args.bins.now) [] root_path c.args.offset nothing c.in_ok-named.named _
     (c.in_ok-named.ensures.follows [] nothing c.requires) (none-told []) in
-    is-begun (cell_at c.args.bins.now) c.args.minor (suc PATH_LIMIT) PATH_LIMIT refl [] root_path c.args.offset nothing
+    is-begun c.args.building.ahead (cell_at c.args.bins.now) c.args.minor (suc PATH_LIMIT) PATH_LIMIT refl [] root_path c.args.offset nothing
     c.in_ok-named.named _ head c.in_ok-parts.parts _
     (c.in_ok-parts.ensures.follows [] head.after head.table) _ c.in_ok-subkeys.subkeys _
     (c.in_ok-subkeys.ensures.lists (c.args.offset ∷ []))

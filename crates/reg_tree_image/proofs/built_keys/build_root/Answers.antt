@@ -25,7 +25,7 @@ pub returns-in_err-put_values-clause-err : goal.returns-in_err-put_values-clause
 returns-in_err-put_values-clause-err c =
     let whole : AreWhole _ = record { sound = c.arena.ensures.sound; whole = c.arena.ensures.whole } in
     let key = told_as c.args.named.now c.args.parts.now in
-    if_err (IsLack (CrowdsRoot key)) c.from_residual.result _ c.from_residual.ensures.1
+    if_err (IsLack (CrowdsRoot c.args.building.ahead key)) c.from_residual.result _ c.from_residual.ensures.1
     (lack-as _ _ _
     (crowds-root (built_key c.new_key.result) key (members_in c.as_slice-values.result.now) c.new_key.ensures.built
     (ap members_in c.as_slice-values.ensures.value) _ _ c.in-Ok.ensures.builds whole c.make_root_room.ensures)

@@ -20,7 +20,7 @@ returns-then-is_some-clause-firsts c heap are held =
 
 pub returns-in_err-note-clause-err : goal.returns-in_err-note-clause-err
 returns-in_err-note-clause-err c p is =
-    let crowds = IsLack (CrowdsBelow c.args.tree.now p (told_as c.args.named.now c.args.parts.now)) in
+    let crowds = IsLack (CrowdsBelow c.args.building.ahead c.args.tree.now p (told_as c.args.named.now c.args.parts.now)) in
     if_err crowds c.from_residual-in_err-note.result _ c.from_residual-in_err-note.ensures.1 (subst crowds (sym c.in_err-note.ensures.err) tt)
 
 pub returns-clause-firsts : goal.returns-clause-firsts

@@ -1,4 +1,4 @@
-use Rattle.std.proofs.Common.{rules, ◌≡◌, ℕ, ◌≤◌, ◌%◌, ◌++◌, Ok, IsOk, List, length, sym, ap, ◌∙◌, subst}
+use Rattle.std.proofs.Common.{rules, ◌≡◌, false, ℕ, ◌≤◌, ◌%◌, ◌++◌, Ok, IsOk, List, length, sym, ap, ◌∙◌, subst}
 use Rattle.std.proofs.KnownBytes.{Consumes-trans}
 use Rattle.reg_tree_image.specs.declared.LoadFault.TheVariants.{Read}
 use Rattle.reg_tree_image.specs.Images.{nothing, tree_in, bins_walk}
@@ -56,7 +56,7 @@ returns-in_err-tree-clause-err g c =
     let bins = c.in_ok-bins.bins.items in
     let good = block-good _ _ _ _ passed in
     exit-with _ c.from_residual-in_err-tree.result _ c.from_residual-in_err-tree.ensures.1
-    (let w = subst (λ (xs : List ℕ). FailsAs (IsOk (bins_walk xs block.minor block.root nothing) × AreCrowded xs block.minor block.root) c.in_err-tree.field-0.0 (bins_walk xs block.minor block.root nothing))
+    (let w = subst (λ (xs : List ℕ). FailsAs (IsOk (bins_walk xs block.minor block.root nothing) × AreCrowded false xs block.minor block.root) c.in_err-tree.field-0.0 (bins_walk xs block.minor block.root nothing))
     c.as_slice.ensures.value
     c.in_err-tree.ensures.err in
     let r = refused-at-bins c.fill.new.buffer (search rules) block passed bins _ _ good.small c.in_ok-bins.ensures.ok.1 w in

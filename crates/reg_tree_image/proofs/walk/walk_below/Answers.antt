@@ -17,8 +17,8 @@ loop-key-init c =
     let items : reverse c.push.new.keys.items ≡ c.args.root ∷ [] =
     ap reverse (c.in_ok-push.ensures.ok ∙ ap (λ (ks : List KeyFrame). ks ++ c.args.root ∷ []) c.new-keys.ensures.items) in (
       none-first (cell_at bins) c.args.tree.now c.before.before.before.before.before.new-firsts.result c.new-firsts.ensures,
-      subst (λ (ks : List KeyFrame). IsWalking (cell_at bins) c.args.minor c.args.root.offset whole ks c.args.table.now.states.items c.args.tree.now) (sym items)
-          (walking-first (cell_at bins) c.args.minor c.args.root.offset _ _ c.args.root c.requires.begun),
+      subst (λ (ks : List KeyFrame). IsWalking c.args.building.ahead (cell_at bins) c.args.minor c.args.root.offset whole ks c.args.table.now.states.items c.args.tree.now) (sym items)
+          (walking-first c.args.building.ahead (cell_at bins) c.args.minor c.args.root.offset _ _ c.args.root c.requires.begun),
     )
 
 pub loop-key-preserved : goal.loop-key-preserved
@@ -27,7 +27,7 @@ loop-key-preserved c =
     let whole = key_from (cell_at bins) c.args.minor (suc PATH_LIMIT) [] root_path c.args.root.offset nothing in (
       c.in_ok-step.ensures.firsts,
       c.in_ok-step.ensures.ok c.args.root.offset whole
-          (popped (λ (ks : List KeyFrame). IsWalking (cell_at bins) c.args.minor c.args.root.offset whole ks c.loop-key.table.states.items c.loop-key.tree)
+          (popped (λ (ks : List KeyFrame). IsWalking c.args.building.ahead (cell_at bins) c.args.minor c.args.root.offset whole ks c.loop-key.table.states.items c.loop-key.tree)
           c.loop-key.keys.items c.pop.new.self.items c.in-Some.key c.in-Some.ensures.items c.loop-key.invariant.1),
     )
 
@@ -37,6 +37,6 @@ step-requires-clause-walks c =
     let whole = key_from (cell_at bins) c.args.minor (suc PATH_LIMIT) [] root_path c.args.root.offset nothing in (
       c.args.root.offset,
       whole,
-      popped (λ (ks : List KeyFrame). IsWalking (cell_at bins) c.args.minor c.args.root.offset whole ks c.loop-key.table.states.items c.loop-key.tree)
+      popped (λ (ks : List KeyFrame). IsWalking c.args.building.ahead (cell_at bins) c.args.minor c.args.root.offset whole ks c.loop-key.table.states.items c.loop-key.tree)
           c.loop-key.keys.items c.pop.new.self.items c.in-Some.key c.in-Some.ensures.items c.loop-key.invariant.1,
     )

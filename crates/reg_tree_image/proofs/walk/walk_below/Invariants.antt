@@ -11,7 +11,7 @@ use Rattle.reg_tree_image.proofs.walk.walk_below.Given as goal
 abbrev pub invariant-loop-key : goal.invariant-loop-key
 invariant-loop-key l =
     AreFirst (cell_at l.bins) l.tree l.firsts
-    × IsWalking (cell_at l.bins) l.minor l.root.offset
+    × IsWalking l.building.ahead (cell_at l.bins) l.minor l.root.offset
     (key_from (cell_at l.bins) l.minor (suc PATH_LIMIT) [] root_path l.root.offset nothing)
     (reverse l.keys.items) l.table.states.items l.tree
 

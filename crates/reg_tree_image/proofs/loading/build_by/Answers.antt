@@ -1,7 +1,7 @@
 use Rattle.reg_tree_image.proofs.Devices.InputPieces.{exit-with}
 use Rattle.reg_tree_image.proofs.Devices.TreesOfBins.{scan-fails, scanned, tree-built, tree-fails}
 use Rattle.reg_tree.specs.declared.tree.Tree.{Tree}
-use Rattle.reg_tree_image.proofs.loading.build_keys.Goals as goal
+use Rattle.reg_tree_image.proofs.loading.build_by.Goals as goal
 
 pub returns-in_err-table-clause-err : goal.returns-in_err-table-clause-err
 returns-in_err-table-clause-err c =
@@ -18,4 +18,4 @@ returns-clause-ok c =
 
 pub returns-clause-err : goal.returns-clause-err
 returns-clause-err c =
-    tree-fails c.args.bins.now c.args.block.minor c.args.block.root _ c.in_ok-table.ensures c.walk.result c.walk.ensures.err
+    tree-fails c.args.bins.now c.args.block.minor c.args.block.root _ c.in_ok-table.ensures c.args.building.ahead c.walk.result c.walk.ensures.err
