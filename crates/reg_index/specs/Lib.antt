@@ -1,2 +1,3 @@
 pub mod Subkeys
+pub mod Lengthening
 pub mod Internal

@@ -10,7 +10,8 @@
 //!
 //! `finding` searches: for a place it looks at the last name first, and then halves the lists and one list. `order` compares two names.
 //! `plan` says which cells one more takes, `inserting` makes a gap and fills it, `splitting` parts a full list into two, and `removing`
-//! closes up. `leaf` and `root` write a list's entries and the index root's.
+//! closes up. `lengthening` gives the last list room for many more at once. `leaf` and `root` write a list's entries and the index
+//! root's.
 //!
 //! Suhanov, Windows registry file format specification, section "Subkeys list".
 #![tactic(auto)]
@@ -20,6 +21,7 @@ ghost use Rattle.std.specs.Prelude.{◌≡◌};
 mod finding;
 mod inserting;
 mod leaf;
+mod lengthening;
 mod order;
 mod plan;
 mod removing;
@@ -28,6 +30,7 @@ mod splitting;
 
 pub use finding::{at, at_place, behind, find, find_key, key_behind, longest_name, place_behind};
 pub use inserting::insert;
+pub use lengthening::{lengthen, plan_longer};
 pub use plan::{FIRST_HALF, FIRST_LIST_SIZE, SECOND_HALF, plan_insert};
 pub use removing::remove;
 

@@ -16,6 +16,7 @@ use Rattle.reg_index.specs.declared.Place.{Place}
 use Rattle.reg_index.specs.declared.IndexCells.{IndexCells}
 use Rattle.reg_index.specs.declared.plan.TheConstants.{FIRST_HALF, SECOND_HALF}
 use Rattle.reg_index.specs.Internal.HashLeaves.{IsLeaf}
+use Rattle.reg_index.specs.Lengthening.{last_of}
 use Rattle.reg_index.specs.Subkeys.{Moves, Rises, cells_of_index, each_of, entries_in, flat, index_of, index_under, leaf_list, lists_with, name_at, names_in, numbered, taken, with_one}
 
 -- each entry is that of a key with the hash of its name, and the names rise
@@ -85,6 +86,13 @@ pub record HasRoomAt (heap : Heap) (offset : ℕ) (lists : List KeyList) (place 
 -- the list at a place with an entry more there, in its cell or in one that was carved for it
 abbrev pub grown : KeyList → Option ℕ → ℕ → Entry → KeyList
 grown list fresh index entry = leaf_list (unwrap_or fresh list.offset) (with_one index entry list.list.entries)
+
+-- there are lists, and a cell that was carved has room for the entries of the last
+pub record HasRoomForLast (heap : Heap) (offset : ℕ) (lists : List KeyList) (cell : ℕ) : Type 0 where
+  pub lists_are : HasLists heap offset lists
+  pub some : 0 < length lists
+  pub room : HasRoom heap cell (4 + 8 * length (last_of lists).list.entries)
+  pub once : IsOnce (cells_under offset lists ++ cell ∷ [])
 
 -- an index root of two lists has room in a cell that was carved for it, and one of a list more in its cell or in such a one
 abbrev pub HasRootRoom : Heap → ℕ → List KeyList → Option ℕ → Type 0
