@@ -35,3 +35,5 @@ pub mod RootGaps
 pub mod CellCounts
 pub mod KeptCells
 pub mod LongestNames
+pub mod LastMoved
+pub mod LongerSizes
