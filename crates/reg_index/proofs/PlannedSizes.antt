@@ -101,7 +101,7 @@ no-size most n e = absurd (none-some _ e)
 some-size : (most size : ℕ) → (size % 8 ≡ 0) × (16 ≤ size) × (size ≤ most) → IsSizeTo most (Some size)
 some-size most size l n e = subst (λ n. (n % 8 ≡ 0) × (16 ≤ n) × (n ≤ most)) (same_Some _ _ e) l
 
-test-size : (most size : ℕ) (b : Bool) → (size % 8 ≡ 0) × (16 ≤ size) × (size ≤ most) → IsSizeTo most (cond b None (Some size))
+pub test-size : (most size : ℕ) (b : Bool) → (size % 8 ≡ 0) × (16 ≤ size) × (size ≤ most) → IsSizeTo most (cond b None (Some size))
 test-size most size true l = no-size most
 test-size most size false l = some-size most size l
 

@@ -9,6 +9,7 @@ use Rattle.reg_shape.specs.Nodes.{KeyList, Index, index_at, entries_of}
 use Rattle.reg_shape.specs.Nodes.Index.{Unlisted, Listed, Rooted}
 use Rattle.reg_index.specs.declared.Place.{Place}
 use Rattle.reg_index.specs.declared.IndexCells.{IndexCells}
+use Rattle.reg_index.specs.Lengthening.{last_moved, longer_in, longer_size}
 use Rattle.reg_index.specs.Subkeys.{AreSubkeys, IsPlaceIn, StandsIn, flat, index_under, insert_sizes, leaf_list, lists_with, lists_without, own, root_sizes, sizes_in}
 
 -- the index of one list, at 120
@@ -258,3 +259,37 @@ first_left = refl
 -- the last of all goes, and there is no list
 none_left : index_under 400 (lists_without (place 0 0) (leaf_list 400 (entry 10 ∷ []) ∷ [])) ≡ Unlisted
 none_left = refl
+
+-- ---- a last list that is given room
+
+-- of two lists the last one, of one subkey, in a cell of 12 bytes: for one more it takes a cell of 24 bytes
+longer_by_one : longer_size (rooted 0) 3 200 1 ≡ Some 24
+unfolding longer_size list_of half word
+longer_by_one = refl
+
+-- a list of one in a cell with room for two has room for one more, and not for two
+room_for_one : longer_size (heap_with 8) 1 120 1 ≡ None
+unfolding longer_size list_of half word
+room_for_one = refl
+
+no_room_for_two : longer_size (heap_with 8) 1 120 2 ≡ Some 32
+unfolding longer_size list_of half word
+no_room_for_two = refl
+
+-- for 499 more the cell of a list of 500, and the same for all that come
+longer_to_500 : longer_in (heap_with 0) (leaf_list 120 (entry 32 ∷ [])) 499 ≡ Some 4008
+longer_to_500 = refl
+
+longer_beyond_500 : longer_in (heap_with 0) (leaf_list 120 (entry 32 ∷ [])) 4294967295 ≡ Some 4008
+longer_beyond_500 = refl
+
+room_for_500 : longer_in (heap_with 3992) (leaf_list 120 (entry 32 ∷ [])) 4294967295 ≡ None
+room_for_500 = refl
+
+-- of three lists the last one moves, and of one that one
+last_moves : last_moved 300 three ≡
+    leaf_list 400 (entry 10 ∷ entry 11 ∷ []) ∷ leaf_list 440 (entry 20 ∷ entry 22 ∷ []) ∷ leaf_list 300 (entry 30 ∷ []) ∷ []
+last_moves = refl
+
+only_one_moves : index_under 400 (last_moved 300 (leaf_list 400 (entry 10 ∷ entry 11 ∷ []) ∷ [])) ≡ Listed (leaf_list 300 (entry 10 ∷ entry 11 ∷ []))
+only_one_moves = refl
