@@ -31,7 +31,7 @@ pub fn put(bytes: &mut [u8], at: usize, new: &[u8]) -> Result<(), FixtureFault>
 }
 
 /// The checksum of an image's first 4,096 bytes. The fault is `Place`, where there are fewer.
-pub fn sum_of(image: &[u8]) -> Result<u32, FixtureFault>
+fn sum_of(image: &[u8]) -> Result<u32, FixtureFault>
     ensures ok { IfOk result (λ sum. sum ≡ checksum_of (take 4096 image.now)) }
     ensures long { IsOk result ↔ (4096 ≤ length image.now) }
 {
@@ -85,14 +85,6 @@ pub fn put_line(alloc: Global, image: &mut [u8], line: &str) -> Result<(), Fixtu
     };
     let new = bytes_of(alloc, digits)?;
     put(image, at, &new)
-}
-
-/// Puts the bytes of each line of a table ([`put_line`]), up to the first that has a fault.
-pub fn put_table(alloc: Global, image: &mut [u8], table: &str) -> Result<(), FixtureFault> {
-    for line in table.split('\n') {
-        put_line(alloc, image, line)?;
-    }
-    Ok(())
 }
 
 /// Writes the changes of a line over those of an image, an offset and digits each, parted by a comma and a space, and the image's checksum

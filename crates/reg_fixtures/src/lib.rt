@@ -4,8 +4,7 @@
 //! meets. It stands on reg_tree_image for the checksum, and on reg_calls. Its main types are [`FakeReader`], [`FakeWriter`] and
 //! [`PlainHive`]; `FixtureFault` says what was wrong with a table or a place, or that memory was wanting.
 //!
-//! `bytes` changes and compares bytes of an image, `drafts` writes one out cell by cell from a table, `bins` reads a key's lists off the
-//! bins, and `paths` makes a path of many names.
+//! `bytes` changes bytes of an image, `drafts` writes one out cell by cell from a table, and `bins` reads a key's lists off the bins.
 #![tactic(auto)]
 
 mod bins;
@@ -13,13 +12,11 @@ mod bytes;
 mod drafts;
 mod fakes;
 mod fault;
-mod paths;
 mod registry;
 
 pub use crate::bins::{SubkeyLists, allocated, is_among, sizes_but, subkeys};
-pub use crate::bytes::{digits, put, put_changes, put_line, put_table, seal, sum_of};
+pub use crate::bytes::{digits, put, put_changes, put_line, seal};
 pub use crate::drafts::drafted;
 pub use crate::fakes::{Failure, FakeReader, FakeWriter, narrow, wide};
 pub use crate::fault::FixtureFault;
-pub use crate::paths::deep;
 pub use crate::registry::{PlainHive, Registry};

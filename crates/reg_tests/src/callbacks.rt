@@ -5,7 +5,7 @@ use crate::support::replies;
 use reg_callbacks::{Callback, CallbackFault, Cookie};
 use reg_calls::Hive;
 use reg_model::{Change, Query};
-use reg_test_support::assert_report;
+use crate::asserts::assert_report;
 use std::alloc::{AllocError, Global};
 use std::test::Fail;
 

@@ -4,7 +4,7 @@ use crate::support::replies;
 use reg_calls::Hive;
 use reg_fixtures::PlainHive;
 use reg_model::{Bytes, Call, Entry, Outcome, Query, Step};
-use reg_test_support::assert_report;
+use crate::asserts::assert_report;
 use std::alloc::Global;
 use std::test::Fail;
 

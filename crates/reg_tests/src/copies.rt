@@ -2,7 +2,7 @@
 use reg_model::{
     Answer, AnswerBody, Bytes, Call, Change, ChangeReply, Entry, Outcome, Query, Step,
 };
-use reg_test_support::assert_report;
+use crate::asserts::assert_report;
 use std::alloc::Global;
 use std::fmt::Debug;
 use std::test::Fail;

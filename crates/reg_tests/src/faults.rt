@@ -4,7 +4,7 @@ use reg_calls::{NewFault, RunFault};
 use reg_names::NameFault;
 use reg_records::RecordFault;
 use reg_script::ScriptFault;
-use reg_test_support::assert_report;
+use crate::asserts::assert_report;
 use reg_tree::TreeFault;
 use reg_tree_image::{ImageFault, LoadFault, WriteFault};
 use reg_tree_text::DumpFault;

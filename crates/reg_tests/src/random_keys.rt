@@ -4,7 +4,7 @@ use crate::support::replies;
 use reg_arena::Arena;
 use reg_calls::Hive;
 use reg_fixtures::{PlainHive, SubkeyLists, allocated, subkeys};
-use reg_test_support::assert_same;
+use crate::asserts::assert_same;
 use reg_workload::Chance;
 use std::alloc::{AllocError, Global};
 use std::collections::BTreeMap;

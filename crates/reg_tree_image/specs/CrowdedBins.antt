@@ -13,6 +13,7 @@ use Rattle.reg_tree.specs.declared.node.Node.{Node}
 use Rattle.reg_tree.specs.TreeKeys.{Keys, IsAt}
 use Rattle.reg_tree.specs.CellSizes.{LacksRoom}
 use Rattle.reg_tree.specs.MoreValues.{with_more_values}
+use Rattle.reg_tree.specs.LongerLists.{LengthensList}
 use Rattle.reg_tree.specs.MoreRoom.{MakesRoom}
 use Rattle.reg_tree.specs.BuiltKeys.{AreWhole, TakesCells, with_values, BuildsRoot, BuildsKey, LacksKeyRoom}
 use Rattle.reg_tree_image.specs.declared.room.TheConstants.{MOST_ROOM}
@@ -24,8 +25,16 @@ use Rattle.reg_tree_image.specs.WalkedKeys.{Comes}
 -- ---- room for what comes
 
 -- nothing changed; or, where room is made ahead, it was made for so many bytes, 524,288 at most, and all is whole
-abbrev pub IsRoomier : Bool → Keys → Keys → Type 0
-IsRoomier ahead old new = (new ≡ old) ⊎ ((ahead ≡ true) × (size : ℕ) × (size ≤ MOST_ROOM) × MakesRoom old new size × AreWhole new)
+abbrev pub IsReserved : Bool → Keys → Keys → Type 0
+IsReserved ahead old new = (new ≡ old) ⊎ ((ahead ≡ true) × (size : ℕ) × (size ≤ MOST_ROOM) × MakesRoom old new size × AreWhole new)
+
+-- nothing changed; or, where room is made ahead, the last list of a key's subkeys was given some, and all is whole
+abbrev pub IsLonger : Bool → Keys → Keys → Type 0
+IsLonger ahead old new = (new ≡ old) ⊎ ((ahead ≡ true) × (node : Node) × (more : ℕ) × LengthensList old new node more × AreWhole new)
+
+-- maybe room was made in the bins, and then in the last list of a key's subkeys
+abbrev pub IsListRoomier : Bool → Keys → Keys → Type 0
+IsListRoomier ahead old new = (mid : Keys) × IsReserved ahead old mid × IsLonger ahead mid new
 
 -- ---- all values of a key
 
@@ -132,13 +141,17 @@ bare_of key = record key { values = [] }
 abbrev pub BuildsFirst : Bool → Keys → Rec → Type 0
 BuildsFirst ahead new key =
     (bare : Keys) × BuildsRoot bare (bare_of key) × AreWhole bare
-    × (roomy : Keys) × IsRoomier ahead bare roomy × PutsValues [] key.time key.values roomy new
+    × (roomy : Keys) × IsReserved ahead bare roomy × PutsValues [] key.time key.values roomy new
 
 -- maybe room was made, and a key was built right below the one at a path, and got its values
-abbrev pub BuildsOne : Bool → Keys → Keys → Path → Rec → Type 0
-BuildsOne ahead old new above key =
-    (roomy : Keys) × IsRoomier ahead old roomy
+abbrev pub BuildsHere : Bool → Keys → Keys → Path → Rec → Type 0
+BuildsHere ahead old new above key =
+    (roomy : Keys) × IsReserved ahead old roomy
     × (bare : Keys) × BuildsKey roomy bare above (bare_of key) × AreWhole bare × PutsValues (child_path above key.name) key.time key.values bare new
+
+-- the same, where maybe room was made before in a list
+abbrev pub BuildsOne : Bool → Keys → Keys → Path → Rec → Type 0
+BuildsOne ahead old new above key = (roomy : Keys) × IsListRoomier ahead old roomy × BuildsHere ahead roomy new above key
 
 -- keys were built one after the other, each at its path
 abbrev pub BuildsEach : Bool → List (Path × Rec) → Keys → Keys → Type 0
@@ -157,7 +170,7 @@ BuildsAll ahead (e ∷ told) keys = (first : Keys) × (e.0 ≡ []) × BuildsFirs
 abbrev pub CrowdsRoot : Bool → Rec → Type 0
 CrowdsRoot ahead key =
     (bare : Keys) × BuildsRoot bare (bare_of key) × AreWhole bare
-    × (roomy : Keys) × IsRoomier ahead bare roomy × CrowdsValues roomy [] key.time key.values
+    × (roomy : Keys) × IsReserved ahead bare roomy × CrowdsValues roomy [] key.time key.values
 
 -- for a key right below the one at a path; or, once it is there, for its values
 abbrev pub CrowdsHere : Keys → Path → Rec → Type 0
@@ -166,9 +179,13 @@ CrowdsHere keys above key =
     ⊎ ((bare : Keys) × BuildsKey keys bare above (bare_of key) × AreWhole bare
     × CrowdsValues bare (child_path above key.name) key.time key.values)
 
--- the same, where maybe room was made before
+-- the same, where maybe room was made before in the bins
+abbrev pub CrowdsInRoom : Bool → Keys → Path → Rec → Type 0
+CrowdsInRoom ahead keys above key = (roomy : Keys) × IsReserved ahead keys roomy × CrowdsHere roomy above key
+
+-- and before that in a list
 abbrev pub CrowdsBelow : Bool → Keys → Path → Rec → Type 0
-CrowdsBelow ahead keys above key = (roomy : Keys) × IsRoomier ahead keys roomy × CrowdsHere roomy above key
+CrowdsBelow ahead keys above key = (roomy : Keys) × IsListRoomier ahead keys roomy × CrowdsInRoom ahead roomy above key
 
 -- for a key at a path, once these were built
 abbrev pub CrowdsNext : Bool → List (Path × Rec) → Path → Rec → Type 0

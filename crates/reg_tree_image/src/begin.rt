@@ -32,7 +32,7 @@ use crate::first_keys::{FirstKeys, build_sharing};
 use crate::frames::KeyFrame;
 use crate::key_parts::enter_key;
 use crate::keys::{NamedKey, named_key};
-use crate::room::{Building, Room};
+use crate::room::{Building, Room, make_list_room};
 use crate::subkeys::subkeys_from;
 use crate::table::{CellState, CellTable};
 use reg_names::PATH_LIMIT;
@@ -119,26 +119,29 @@ pub fn begin_key<'a>(
     minor: u32,
     table: &mut CellTable,
     tree: &mut Tree,
-    above: Node,
+    above: KeyFrame<'a>,
     offset: u32,
     firsts: &mut FirstKeys,
     room: &mut Room,
 ) -> Result<KeyFrame<'a>, LoadFault>
-    requires above { IsThere tree.old above }
-    requires few { (p : Path) × IsAt tree.old p above × (length (children_of tree.old.tree p) < SUBKEYS_LIMIT) }
-    requires read { IsReadAt (cell_at bins.now) table.old.states.items tree.old above }
+    requires above { IsThere tree.old above.node }
+    requires few { (p : Path) × IsAt tree.old p above.node × (length (children_of tree.old.tree p) < SUBKEYS_LIMIT) }
+    requires read { IsReadAt (cell_at bins.now) table.old.states.items tree.old above.node }
     requires firsts { AreFirst (cell_at bins.now) tree.old firsts.old }
     ensures begins { (levels : ℕ) → (path : List ℕ) → (at : Path) → (seen : Seen) → IsTable (cell_at bins.now) seen.found path table.old.states.items →
-        tree.old.tree ≡ tree_told seen → BuildsAll building.ahead seen.told tree.old → IsAt tree.old at above → levels + above.depth ≡ PATH_LIMIT →
+        tree.old.tree ≡ tree_told seen → BuildsAll building.ahead seen.told tree.old → IsAt tree.old at above.node → levels + above.node.depth ≡ PATH_LIMIT →
         Begins building.ahead (cell_at bins.now) minor levels path (child_path at) offset seen table.new.states.items tree.new result }
     ensures nodes { OnOk result (KeepsNodes tree.old tree.new) }
     ensures firsts { OnOk result (AreFirst (cell_at bins.now) tree.new firsts.new) }
     ensures fewer { OnOk result (unnamed table.new.states.items < unnamed table.old.states.items) }
 {
+    // This one and those that are left of its list.
+    let more = above.leaf.left().saturating_add(1);
+    make_list_room(building, tree, room, above.node, more);
     // Only for its clauses `tree` and `one_path`: what isn't there has nothing below it, and the node is that of one key.
     let _ = tree.root();
     let named = named_key(building.alloc, bins, table, offset)?;
-    let reached = reach_below(tree, above, &named)?;
+    let reached = reach_below(tree, above.node, &named)?;
     let met = table.state(named.node.fields.security) == CellState::NamedSecurity;
     let parts = enter_key(
         building.alloc,
@@ -149,7 +152,7 @@ pub fn begin_key<'a>(
         &named.node.fields,
     )?;
     let node = build_sharing(
-        building, tree, above, reached, &named, &parts, met, firsts, room,
+        building, tree, above.node, reached, &named, &parts, met, firsts, room,
     )?;
     let fields = named.node.fields;
     let subkeys = subkeys_from(bins, table, fields.subkeys, fields.subkeys_list)?;

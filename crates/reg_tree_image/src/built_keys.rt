@@ -19,7 +19,7 @@ ghost use Rattle.reg_tree.specs.Reaching.{IsWalkedTo};
 ghost use Rattle.reg_tree.specs.TreeKeys.{IsAt, IsThere, KeepsNodes};
 ghost use Rattle.reg_tree_image.specs.Internal.NamedRecords.{members_in};
 ghost use Rattle.reg_tree_image.specs.Internal.FitKeys.{IsFitName, AreFit, AreFitParts};
-ghost use Rattle.reg_tree_image.specs.CrowdedBins.{BuildsFirst, BuildsOne, CrowdsBelow, CrowdsRoot};
+ghost use Rattle.reg_tree_image.specs.CrowdedBins.{BuildsFirst, BuildsHere, CrowdsInRoom, CrowdsRoot};
 ghost use Rattle.reg_tree_image.specs.CrowdedBins.{bytes_taken, more_bytes_taken, CrowdsGroups, CrowdsValues, PutsAll, PutsGroups, PutsMore, PutsValues};
 ghost use Rattle.reg_tree_image.specs.Internal.BegunKeys.{IsBare, IsBegun, IsLack, lack_of, told_as};
 
@@ -261,8 +261,8 @@ pub fn build_below(
         (tree.new.tree ≡ insert tree.old.tree (child_path p (cow_slice_items named.now.name)) (told_as named.now parts.now))
         × IsAt tree.new (child_path p (cow_slice_items named.now.name)) node) }
     ensures nodes { OnOk result (KeepsNodes tree.old tree.new) }
-    ensures builds { (p : Path) → IsAt tree.old p above → OnOk result (BuildsOne building.ahead tree.old tree.new p (told_as named.now parts.now)) }
-    ensures err { (p : Path) → IsAt tree.old p above → IfErr result (IsLack (CrowdsBelow building.ahead tree.old p (told_as named.now parts.now))) }
+    ensures builds { (p : Path) → IsAt tree.old p above → OnOk result (BuildsHere building.ahead tree.old tree.new p (told_as named.now parts.now)) }
+    ensures err { (p : Path) → IsAt tree.old p above → IfErr result (IsLack (CrowdsInRoom building.ahead tree.old p (told_as named.now parts.now))) }
 {
     let values = parts.values.as_slice();
     let own = key_bytes(named, parts, like.is_some());

@@ -11,7 +11,7 @@ ghost use Rattle.reg_heap.specs.Edits.{child_path};
 ghost use Rattle.reg_shape.specs.Whole.{descriptor_at};
 ghost use Rattle.reg_tree.specs.Reaching.{IsWalkedTo};
 ghost use Rattle.reg_tree.specs.TreeKeys.{IsAt, IsThere, KeepsNodes};
-ghost use Rattle.reg_tree_image.specs.CrowdedBins.{BuildsOne, CrowdsBelow};
+ghost use Rattle.reg_tree_image.specs.CrowdedBins.{BuildsHere, CrowdsInRoom};
 ghost use Rattle.reg_tree_image.specs.Internal.FitKeys.{IsFitName, AreFitParts};
 ghost use Rattle.reg_tree_image.specs.Internal.BegunKeys.{IsLack, told_as};
 ghost use Rattle.reg_tree_image.specs.Internal.FirstUses.{AreFirst, Notes, first_with};
@@ -92,8 +92,8 @@ pub fn build_sharing(
         (tree.new.tree ≡ insert tree.old.tree (child_path p (cow_slice_items named.now.name)) (told_as named.now parts.now))
         × IsAt tree.new (child_path p (cow_slice_items named.now.name)) node) }
     ensures nodes { OnOk result (KeepsNodes tree.old tree.new) }
-    ensures builds { (p : Path) → IsAt tree.old p above → OnOk result (BuildsOne building.ahead tree.old tree.new p (told_as named.now parts.now)) }
-    ensures err { (p : Path) → IsAt tree.old p above → IfErr result (IsLack (CrowdsBelow building.ahead tree.old p (told_as named.now parts.now))) }
+    ensures builds { (p : Path) → IsAt tree.old p above → OnOk result (BuildsHere building.ahead tree.old tree.new p (told_as named.now parts.now)) }
+    ensures err { (p : Path) → IsAt tree.old p above → IfErr result (IsLack (CrowdsInRoom building.ahead tree.old p (told_as named.now parts.now))) }
     ensures firsts { (heap : Heap) → AreFirst heap tree.old firsts.old →
         descriptor_at heap named.now.node.fields.security ≡ Some parts.now.descriptor.now → OnOk result (AreFirst heap tree.new firsts.new) }
 {

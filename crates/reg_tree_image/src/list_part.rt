@@ -20,6 +20,13 @@ pub struct ListPart<'a> {
 }
 
 impl<'a> ListPart<'a> {
+    /// How many entries are left.
+    pub fn left(&self) -> u16
+        ensures { result ≤ self.now.count }
+    {
+        self.count - self.taken
+    }
+
     /// The offset in the next entry, which is taken then. `None`, which changes nothing, where no entry is left.
     pub fn take(&mut self) -> Option<u32>
         ensures next { MatchOption result (drop self.old.taken (entries_as self.old.form self.old.count 4 self.old.content.now) ≡ [])

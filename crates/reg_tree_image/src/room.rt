@@ -4,14 +4,14 @@
 
 ghost use Rattle.std.specs.Prelude.{◌≡◌, ◌≤◌, ◌<◌, ◌%◌, IfSome};
 ghost use Rattle.reg_tree.specs.TreeKeys.{IsThere};
-ghost use Rattle.reg_tree_image.specs.CrowdedBins.{IsRoomier};
+ghost use Rattle.reg_tree_image.specs.CrowdedBins.{IsReserved, IsListRoomier};
 
 use crate::free_cells::free_bytes;
 use crate::key_parts::KeyParts;
 use crate::keys::NamedKey;
 use crate::values::ReadValue;
 use reg_arena::Arena;
-use reg_heap::limits::{SUBKEYS_LIMIT, VALUES_LIMIT};
+use reg_heap::limits::{LEAF_LIMIT, SUBKEYS_LIMIT, VALUES_LIMIT};
 use reg_records::{KeyNode, ValueRecord, read_nk, read_sk, read_vk};
 use reg_tree::{Node, Tree};
 use std::alloc::Global;
@@ -21,6 +21,9 @@ pub const MOST_ROOM: u32 = 524_288;
 
 /// Cells of so many bytes have a bin of their own: less than a tenth of it stays free.
 const OWN_BIN: u32 = 40_960;
+
+/// How many subkeys the first of two lists gets where a full one gives way to them.
+const HALF: u32 = 250;
 
 /// The most bytes that are counted of one text.
 const MOST_COUNTED: usize = 16_777_216;
@@ -73,23 +76,21 @@ impl Room {
         }
     }
 
-    /// Notes that cells of a size come, beside which a list of a size may move, and answers the size that room is to be made for, if what
-    /// is kept is too little.
-    fn take(&mut self, size: u32, list: u32) -> Option<u32>
+    /// Notes that cells of a size come, and answers the size that room is to be made for, if what is kept is too little.
+    fn take(&mut self, size: u32) -> Option<u32>
         ensures { IfSome result (λ size. (size % 8 ≡ 0) × (0 < size) × (size ≤ MOST_ROOM)) }
     {
-        let all = size.saturating_add(list);
         let left = self.left;
         self.left = left.saturating_sub(size);
-        if all <= self.kept {
-            self.kept = self.kept.saturating_sub(size);
+        if size <= self.kept {
+            self.kept -= size;
             return None;
         }
         if size >= OWN_BIN {
             return room_size(size);
         }
-        let wanted = all.max(left.min(MOST_ROOM));
-        self.kept = wanted.saturating_sub(size);
+        let wanted = size.max(left.min(MOST_ROOM));
+        self.kept = wanted - size;
         room_size(wanted)
     }
 }
@@ -118,10 +119,9 @@ fn cell_bytes_if_some(count: usize) -> u32
     if count == 0 { 0 } else { cell_bytes(count) }
 }
 
-/// How many bytes the cells of a key have without its values: its key node, its entry in a list, its class, and its security unless it
-/// shares one.
+/// How many bytes the cells of a key have without its values: its key node, its class, and its security unless it shares one.
 pub fn key_bytes(named: &NamedKey<'_>, parts: &KeyParts<'_>, shares: bool) -> u32 {
-    let node = cell_bytes(76 + named.name.as_slice().len().min(MOST_COUNTED)) + 8;
+    let node = cell_bytes(76 + named.name.as_slice().len().min(MOST_COUNTED));
     let security = if shares {
         0
     } else {
@@ -190,16 +190,29 @@ pub fn bytes_built_of(content: &[u8]) -> u32 {
     }
 }
 
-/// Makes room for cells of a size that come, beside which a list may move. Where it can't be had, the tree stays as it is: what comes tells
-/// what it lacks.
-fn make_room(building: Building, tree: &mut Tree, room: &mut Room, size: u32, list: u32)
-    ensures { IsRoomier building.ahead tree.old tree.new }
+/// How many bytes the lists have that come with one subkey more of a key that has so many, where they are built in their order: the first
+/// list has 16, and one of 500 subkeys gives way to two, below an index root.
+fn list_bytes(subkeys: u32) -> u32
+    ensures { result ≤ 5000 }
+{
+    if subkeys == 0 {
+        return 16;
+    }
+    if subkeys < LEAF_LIMIT || subkeys % HALF != 0 {
+        return 0;
+    }
+    16 * HALF + 24 + 8 * (subkeys / HALF).min(64)
+}
+
+/// Makes room for cells of a size that come. Where it can't be had, the tree stays as it is: what comes tells what it lacks.
+fn make_room(building: Building, tree: &mut Tree, room: &mut Room, size: u32)
+    ensures { IsReserved building.ahead tree.old tree.new }
 {
     if !building.ahead {
         return;
     }
     room.look(tree.arena().bins_size());
-    let Some(wanted) = room.take(size, list) else {
+    let Some(wanted) = room.take(size) else {
         return;
     };
     if tree.reserve(building.alloc, wanted).is_ok() {
@@ -208,14 +221,18 @@ fn make_room(building: Building, tree: &mut Tree, room: &mut Room, size: u32, li
 }
 
 /// Makes room for the values of a root that was built.
-pub fn make_root_room(building: Building, tree: &mut Tree, room: &mut Room, values: &[ReadValue<'_>])
-    ensures { IsRoomier building.ahead tree.old tree.new }
+pub fn make_root_room(
+    building: Building,
+    tree: &mut Tree,
+    room: &mut Room,
+    values: &[ReadValue<'_>],
+)
+    ensures { IsReserved building.ahead tree.old tree.new }
 {
-    make_room(building, tree, room, values_bytes(values), 0)
+    make_room(building, tree, room, values_bytes(values))
 }
 
-/// Makes room for a key that is built below another one, with its values. The other one's list of subkeys, of at most 500 of them, may
-/// move.
+/// Makes room for a key that is built below another one, with its values.
 pub fn make_key_room(
     building: Building,
     tree: &mut Tree,
@@ -225,8 +242,41 @@ pub fn make_key_room(
     values: u32,
 )
     requires { IsThere tree.old above }
-    ensures { IsRoomier building.ahead tree.old tree.new }
+    ensures { IsReserved building.ahead tree.old tree.new }
 {
-    let list = 8 * tree.subkeys(above).min(500) + 16;
-    make_room(building, tree, room, own.saturating_add(values), list)
+    let list = list_bytes(tree.subkeys(above));
+    make_room(
+        building,
+        tree,
+        room,
+        own.saturating_add(list).saturating_add(values),
+    )
+}
+
+/// Gives the last list of a key's subkeys room for so many more, where it was just made: each of them would move it. Where room can't be
+/// had, the tree stays as it is.
+pub fn make_list_room(
+    building: Building,
+    tree: &mut Tree,
+    room: &mut Room,
+    above: Node,
+    more: u16,
+)
+    requires { IsThere tree.old above }
+    ensures { IsListRoomier building.ahead tree.old tree.new }
+{
+    let subkeys = tree.subkeys(above);
+    if !building.ahead || subkeys % HALF != 1 {
+        return;
+    }
+    let listed = if subkeys == 1 { 1 } else { HALF + 1 };
+    let entries = LEAF_LIMIT.min(listed + u32::from(more));
+    make_room(building, tree, room, 8 + 8 * entries);
+    if tree
+        .lengthen_list(building.alloc, above, u32::from(more))
+        .is_ok()
+    {
+        // Only for its clauses `whole` and `sound`.
+        let _ = tree.arena();
+    }
 }

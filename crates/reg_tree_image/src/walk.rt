@@ -69,7 +69,7 @@ fn step<'a>(
         }
         key.count += 1;
         let below = begin_key(
-            building, bins, minor, table, tree, key.node, offset, firsts, room,
+            building, bins, minor, table, tree, key, offset, firsts, room,
         )?;
         push(keys, key)?;
         return push(keys, below);

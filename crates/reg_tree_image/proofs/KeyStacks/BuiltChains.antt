@@ -12,7 +12,7 @@ use Rattle.reg_tree_image.specs.declared.LoadFault.{LoadFault}
 use Rattle.reg_tree_image.specs.declared.LoadFault.TheVariants.{Limit, Memory}
 use Rattle.reg_tree.specs.BuiltKeys.{AreWhole, BuildsRoot, BuildsKey, LacksKeyRoom}
 use Rattle.reg_tree_image.specs.CrowdedBins.{IsGroup, PutsMore, PutsGroups, PutsValues, CrowdsValues}
-use Rattle.reg_tree_image.specs.CrowdedBins.{BuildsFirst, BuildsOne, BuildsEach, BuildsAll, bare_of, IsRoomier, CrowdsRoot, CrowdsBelow, CrowdsNext}
+use Rattle.reg_tree_image.specs.CrowdedBins.{BuildsFirst, BuildsHere, BuildsOne, BuildsEach, BuildsAll, bare_of, IsReserved, CrowdsRoot, CrowdsInRoom, CrowdsBelow, CrowdsNext}
 use Rattle.reg_tree_image.specs.Internal.BegunKeys.{IsLack, lack_of}
 
 -- ---- values
@@ -77,8 +77,8 @@ module _ (made key : Rec) (given : List Member) (same : made ≡ bare_of key) (v
         at,
       )
 
-  pub builds-one : {ahead : Bool} (old roomy mid new : Keys) (above : Path) → IsRoomier ahead old roomy → BuildsKey roomy mid above made → AreWhole mid →
-      PutsValues (child_path above made.name) key.time given mid new → BuildsOne ahead old new above key
+  pub builds-one : {ahead : Bool} (old roomy mid new : Keys) (above : Path) → IsReserved ahead old roomy → BuildsKey roomy mid above made → AreWhole mid →
+      PutsValues (child_path above made.name) key.time given mid new → BuildsHere ahead old new above key
   builds-one old roomy mid new above r b w p = (
     roomy,
     r,
@@ -89,8 +89,8 @@ module _ (made key : Rec) (given : List Member) (same : made ≡ bare_of key) (v
         (subst (λ ms. PutsValues (child_path above made.name) key.time ms mid new) values p),
   )
 
-  pub crowds-below : {ahead : Bool} (old roomy mid : Keys) (above : Path) → IsRoomier ahead old roomy → BuildsKey roomy mid above made → AreWhole mid →
-      CrowdsValues mid (child_path above made.name) key.time given → CrowdsBelow ahead old above key
+  pub crowds-below : {ahead : Bool} (old roomy mid : Keys) (above : Path) → IsReserved ahead old roomy → BuildsKey roomy mid above made → AreWhole mid →
+      CrowdsValues mid (child_path above made.name) key.time given → CrowdsInRoom ahead old above key
   crowds-below old roomy mid above r b w c = (
     roomy,
     r,
@@ -103,15 +103,15 @@ module _ (made key : Rec) (given : List Member) (same : made ≡ bare_of key) (v
     ),
   )
 
-  pub crowds-key : {ahead : Bool} (old roomy : Keys) (above : Path) → IsRoomier ahead old roomy → LacksKeyRoom roomy above made → CrowdsBelow ahead old above key
+  pub crowds-key : {ahead : Bool} (old roomy : Keys) (above : Path) → IsReserved ahead old roomy → LacksKeyRoom roomy above made → CrowdsInRoom ahead old above key
   crowds-key old roomy above r l = (roomy, r, inl (subst (λ r. LacksKeyRoom roomy above r) same l))
 
-  pub builds-first : {ahead : Bool} (mid roomy new : Keys) → BuildsRoot mid made → AreWhole mid → IsRoomier ahead mid roomy → PutsValues [] key.time given roomy new →
+  pub builds-first : {ahead : Bool} (mid roomy new : Keys) → BuildsRoot mid made → AreWhole mid → IsReserved ahead mid roomy → PutsValues [] key.time given roomy new →
       BuildsFirst ahead new key
   builds-first mid roomy new b w r p =
       (mid, subst (λ r. BuildsRoot mid r) same b, w, roomy, r, subst (λ ms. PutsValues [] key.time ms roomy new) values p)
 
-  pub crowds-root : {ahead : Bool} (mid roomy : Keys) → BuildsRoot mid made → AreWhole mid → IsRoomier ahead mid roomy → CrowdsValues roomy [] key.time given →
+  pub crowds-root : {ahead : Bool} (mid roomy : Keys) → BuildsRoot mid made → AreWhole mid → IsReserved ahead mid roomy → CrowdsValues roomy [] key.time given →
       CrowdsRoot ahead key
   crowds-root mid roomy b w r c =
       (mid, subst (λ r. BuildsRoot mid r) same b, w, roomy, r, subst (λ ms. CrowdsValues roomy [] key.time ms) values c)

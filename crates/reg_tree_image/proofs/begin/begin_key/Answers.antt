@@ -10,6 +10,7 @@ use Rattle.reg_tree_image.specs.Internal.BegunKeys.{told_as}
 use Rattle.reg_tree_image.proofs.Readers.BegunSteps.{head-fails, head-stops, level-below, depth-below, no-parts, no-room, no-list, is-begun, begins-exit}
 use Rattle.reg_tree_image.proofs.KeyStacks.ChildCounts.{HasParents}
 use Rattle.reg_tree_image.proofs.KeyStacks.BuiltChains.{all-more, crowds-next}
+use Rattle.reg_tree_image.proofs.KeyStacks.RoomierTrees.{still, there-yet, few-yet, read-yet, first-yet}
 use Rattle.reg_tree_image.proofs.Readers.SharedDescriptors.{parts-described}
 use Rattle.reg_tree_image.proofs.begin.begin_key.Goals as goal
 
@@ -21,13 +22,15 @@ returns-in_err-named-clause-begins c levels path at seen t told built is deep =
 
 pub returns-in_err-reached-clause-begins : goal.returns-in_err-reached-clause-begins
 returns-in_err-reached-clause-begins c levels path at seen t told built is deep =
+    let s = still _ _ c.make_list_room.ensures in
     begins-exit c.args.building.ahead _ c.args.minor levels path (child_path at) c.args.offset seen _ _ _ _ c.from_residual-in_err-reached.ensures.1
     (head-fails _ c.args.minor levels path (child_path at) c.args.offset seen _ _
-    (c.in_err-reached.ensures.heads (cell_at c.args.bins.now) levels path at c.args.offset seen _ (c.in_ok-named.ensures.follows path seen t) told is deep))
+    (c.in_err-reached.ensures.heads (cell_at c.args.bins.now) levels path at c.args.offset seen _ (c.in_ok-named.ensures.follows path seen t) (s.tree ∙ told) (s.nodes at c.args.above.node is) deep))
 
 pub returns-in_err-parts-clause-begins : goal.returns-in_err-parts-clause-begins
 returns-in_err-parts-clause-begins c levels path at seen t told built is deep =
-    let head = c.in_ok-reached.ensures.heads (cell_at c.args.bins.now) levels path at c.args.offset seen _ (c.in_ok-named.ensures.follows path seen t) told is deep in
+    let s = still _ _ c.make_list_room.ensures in
+    let head = c.in_ok-reached.ensures.heads (cell_at c.args.bins.now) levels path at c.args.offset seen _ (c.in_ok-named.ensures.follows path seen t) (s.tree ∙ told) (s.nodes at c.args.above.node is) deep in
     begins-exit c.args.building.ahead _ c.args.minor levels path (child_path at) c.args.offset seen _ _ _ _ c.from_residual-in_err-parts.ensures.1
     (no-parts _ _ c.args.minor levels (levels - 1) (level-below levels _ deep c.in_ok-reached.ensures.shallow) path
     (child_path at) c.args.offset seen
@@ -35,17 +38,20 @@ returns-in_err-parts-clause-begins c levels path at seen t told built is deep =
 
 pub returns-in_err-node-clause-begins : goal.returns-in_err-node-clause-begins
 returns-in_err-node-clause-begins c levels path at seen t told built is deep =
-    let head = c.in_ok-reached.ensures.heads (cell_at c.args.bins.now) levels path at c.args.offset seen _ (c.in_ok-named.ensures.follows path seen t) told is deep in
+    let s = still _ _ c.make_list_room.ensures in
+    let head = c.in_ok-reached.ensures.heads (cell_at c.args.bins.now) levels path at c.args.offset seen _ (c.in_ok-named.ensures.follows path seen t) (s.tree ∙ told) (s.nodes at c.args.above.node is) deep in
     let key = told_as c.in_ok-named.named c.in_ok-parts.parts in
     begins-exit c.args.building.ahead _ c.args.minor levels path (child_path at) c.args.offset seen _ _ _ _ c.from_residual-in_err-node.ensures.1
     (no-room _ _ c.args.minor levels (levels - 1) (level-below levels _ deep c.in_ok-reached.ensures.shallow) path
     (child_path at) c.args.offset seen
     c.in_ok-named.named _ head c.in_ok-parts.parts _ (c.in_ok-parts.ensures.follows path head.after head.table) c.args.table.now.states.items _ _
-    (crowds-next seen.told _ (child_path at (cow_slice_items c.in_ok-named.named.name)) at key built refl) (c.in_err-node.ensures.err at is))
+    (λ k. crowds-next seen.told _ (child_path at (cow_slice_items c.in_ok-named.named.name)) at key built refl (_, c.make_list_room.ensures, k))
+    (c.in_err-node.ensures.err at (s.nodes at c.args.above.node is)))
 
 pub returns-in_err-subkeys-clause-begins : goal.returns-in_err-subkeys-clause-begins
 returns-in_err-subkeys-clause-begins c levels path at seen t told built is deep =
-    let head = c.in_ok-reached.ensures.heads (cell_at c.args.bins.now) levels path at c.args.offset seen _ (c.in_ok-named.ensures.follows path seen t) told is deep in
+    let s = still _ _ c.make_list_room.ensures in
+    let head = c.in_ok-reached.ensures.heads (cell_at c.args.bins.now) levels path at c.args.offset seen _ (c.in_ok-named.ensures.follows path seen t) (s.tree ∙ told) (s.nodes at c.args.above.node is) deep in
     begins-exit c.args.building.ahead _ c.args.minor levels path (child_path at) c.args.offset seen _ _ _ _ c.from_residual-in_err-subkeys.ensures.1
     (no-list _ _ c.args.minor levels (levels - 1) (level-below levels _ deep c.in_ok-reached.ensures.shallow) path
     (child_path at) c.args.offset seen
@@ -54,42 +60,53 @@ returns-in_err-subkeys-clause-begins c levels path at seen t told built is deep 
 
 pub returns-clause-begins : goal.returns-clause-begins
 returns-clause-begins c levels path at seen t told built is deep =
-    let head = c.in_ok-reached.ensures.heads (cell_at c.args.bins.now) levels path at c.args.offset seen _ (c.in_ok-named.ensures.follows path seen t) told is deep in
+    let s = still _ _ c.make_list_room.ensures in
+    let head = c.in_ok-reached.ensures.heads (cell_at c.args.bins.now) levels path at c.args.offset seen _ (c.in_ok-named.ensures.follows path seen t) (s.tree ∙ told) (s.nodes at c.args.above.node is) deep in
     let name = cow_slice_items c.in_ok-named.named.name in
-    let made = c.in_ok-node.ensures.ok at is in
+    let made = c.in_ok-node.ensures.ok at (s.nodes at c.args.above.node is) in
     let key = made.1 in
     is-begun _ _ c.args.minor levels (levels - 1) (level-below levels _ deep c.in_ok-reached.ensures.shallow) path
     (child_path at) c.args.offset seen
     c.in_ok-named.named _ head c.in_ok-parts.parts _ (c.in_ok-parts.ensures.follows path head.after head.table) _ c.in_ok-subkeys.subkeys
     c.in_ok-node.node (c.in_ok-subkeys.ensures.lists (c.args.offset ∷ path)) _ key
     (depth-below levels _ _ at (folded name) deep c.in_ok-reached.ensures.shallow is.depth key.depth)
-    (subst (λ (tree : Tree). get tree (child_path at name) ≡ None) told (c.in_ok-reached.ensures.free at is))
-    (made.0 ∙ ap (λ (tree : Tree). insert tree (child_path at name) (told_as c.in_ok-named.named c.in_ok-parts.parts)) told)
-    (all-more seen.told _ _ (child_path at name) at (told_as c.in_ok-named.named c.in_ok-parts.parts) built refl (c.in_ok-node.ensures.builds at is))
-    (subst (λ (tree : Tree). HasParents tree) told c.root.ensures.tree.parents)
+    (subst (λ (tree : Tree). get tree (child_path at name) ≡ None) (s.tree ∙ told) (c.in_ok-reached.ensures.free at (s.nodes at c.args.above.node is)))
+    (made.0 ∙ ap (λ (tree : Tree). insert tree (child_path at name) (told_as c.in_ok-named.named c.in_ok-parts.parts)) (s.tree ∙ told))
+    (all-more seen.told _ _ (child_path at name) at (told_as c.in_ok-named.named c.in_ok-parts.parts) built refl
+    (_, c.make_list_room.ensures, c.in_ok-node.ensures.builds at (s.nodes at c.args.above.node is)))
+    (subst (λ (tree : Tree). HasParents tree) (s.tree ∙ told) c.root.ensures.tree.parents)
 
 pub build_sharing-requires-clause-firsts : goal.build_sharing-requires-clause-firsts
 build_sharing-requires-clause-firsts c =
-    let r = c.requires.read in
+    let s = still _ _ c.make_list_room.ensures in
+    let r = read-yet _ _ s _ _ _ c.requires.read in
     let head = c.in_ok-reached.ensures.heads (cell_at c.args.bins.now) r.levels r.path r.at c.args.offset r.seen _ (c.in_ok-named.ensures.follows r.path r.seen r.table) r.told r.there r.deep in
     let done = c.in_ok-parts.ensures.follows r.path head.after head.table in (
       cell_at c.args.bins.now,
-      c.requires.firsts,
+      first-yet _ _ s _ _ c.requires.firsts,
       parts-described (cell_at c.args.bins.now) c.args.minor (c.args.offset ∷ r.path) c.in_ok-named.named.node.fields head.after done.after _
           done.gives,
     )
 
 pub returns-clause-firsts : goal.returns-clause-firsts
 returns-clause-firsts c =
-    let r = c.requires.read in
+    let s = still _ _ c.make_list_room.ensures in
+    let r = read-yet _ _ s _ _ _ c.requires.read in
     let head = c.in_ok-reached.ensures.heads (cell_at c.args.bins.now) r.levels r.path r.at c.args.offset r.seen _ (c.in_ok-named.ensures.follows r.path r.seen r.table) r.told r.there r.deep in
     let done = c.in_ok-parts.ensures.follows r.path head.after head.table in
-    c.in_ok-node.ensures.firsts (cell_at c.args.bins.now) c.requires.firsts
+    c.in_ok-node.ensures.firsts (cell_at c.args.bins.now) (first-yet _ _ s _ _ c.requires.firsts)
     (parts-described (cell_at c.args.bins.now) c.args.minor (c.args.offset ∷ r.path) c.in_ok-named.named.node.fields head.after done.after _
     done.gives)
 
 pub build_sharing-requires-clause-few : goal.build_sharing-requires-clause-few
 build_sharing-requires-clause-few c p is =
-    let few = c.requires.few in
-    subst (λ (q : Path). length (children_of c.args.tree.now.tree q) < SUBKEYS_LIMIT)
-    (c.root.ensures.one_path few.0 p c.args.above few.1 is) few.2
+    let few = few-yet _ _ (still _ _ c.make_list_room.ensures) _ c.requires.few in
+    subst (λ (q : Path). length (children_of c.make_list_room.new.tree.tree q) < SUBKEYS_LIMIT)
+    (c.root.ensures.one_path few.0 p c.args.above.node few.1 is) few.2
+
+pub build_sharing-requires-clause-above : goal.build_sharing-requires-clause-above
+build_sharing-requires-clause-above c = there-yet _ _ (still _ _ c.make_list_room.ensures) _ c.requires.above
+
+pub returns-clause-nodes : goal.returns-clause-nodes
+returns-clause-nodes c path node at =
+    c.in_ok-node.ensures.nodes path node ((still _ _ c.make_list_room.ensures).nodes path node at)

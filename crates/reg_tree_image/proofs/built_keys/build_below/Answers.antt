@@ -10,7 +10,7 @@ use Rattle.reg_tree.specs.TreeKeys.{IsAt}
 use Rattle.reg_tree.specs.BuiltKeys.{AreWhole, built_key}
 use Rattle.reg_tree_image.specs.Internal.BegunKeys.{IsLack, told_as}
 use Rattle.reg_tree_image.specs.Internal.NamedRecords.{members_in}
-use Rattle.reg_tree_image.specs.CrowdedBins.{CrowdsBelow}
+use Rattle.reg_tree_image.specs.CrowdedBins.{CrowdsInRoom}
 use Rattle.reg_tree_image.proofs.KeyStacks.StackEnds.{if_err}
 use Rattle.reg_tree_image.proofs.KeyStacks.BuiltChains.{as-lack, lack-as, told-below, builds-one, crowds-below, crowds-key}
 use Rattle.reg_tree_image.proofs.KeyStacks.RoomierTrees.{same-keys, at-still, at-before, there-still, walked-still, of-tree, like-still}
@@ -59,7 +59,7 @@ returns-in_err-put_values-in-Ok-clause-err c p was =
     let is = at-still _ _ _ c.make_key_room.ensures p c.args.above was in
     let whole : AreWhole _ = record { sound = c.arena.ensures.sound; whole = c.arena.ensures.whole } in
     let key = told_as c.args.named.now c.args.parts.now in
-    if_err (IsLack (CrowdsBelow c.args.building.ahead c.args.tree.now p key)) c.from_residual.result _ c.from_residual.ensures.1
+    if_err (IsLack (CrowdsInRoom c.args.building.ahead c.args.tree.now p key)) c.from_residual.result _ c.from_residual.ensures.1
     (lack-as _ _ _
     (crowds-below (built_key c.new_key.result) key (members_in c.as_slice-values.result.now) c.new_key.ensures.built
     (ap members_in c.as_slice-values.ensures.value) _ _ _ p c.make_key_room.ensures (c.in-Ok.ensures.builds p is) whole)
@@ -91,7 +91,7 @@ pub returns-in-Err-clause-err : goal.returns-in-Err-clause-err
 returns-in-Err-clause-err c p was =
     let is = at-still _ _ _ c.make_key_room.ensures p c.args.above was in
     let key = told_as c.args.named.now c.args.parts.now in
-    as-lack (CrowdsBelow c.args.building.ahead c.args.tree.now p key) c.in-Err.fault c.lack.result c.lack.ensures
+    as-lack (CrowdsInRoom c.args.building.ahead c.args.tree.now p key) c.in-Err.fault c.lack.result c.lack.ensures
     (λ full. crowds-key (built_key c.new_key.result) key (members_in c.args.parts.now.values.items) c.new_key.ensures.built refl _ _ p
     c.make_key_room.ensures (c.in-Err.ensures.space p is (ap Err full)))
 

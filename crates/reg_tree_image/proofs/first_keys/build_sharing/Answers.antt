@@ -1,7 +1,7 @@
 use Rattle.std.proofs.Common.{sym, subst}
 use Rattle.std.specs.Cow.{cow_slice_items}
 use Rattle.reg_heap.specs.Edits.{child_path}
-use Rattle.reg_tree_image.specs.CrowdedBins.{CrowdsBelow}
+use Rattle.reg_tree_image.specs.CrowdedBins.{CrowdsInRoom}
 use Rattle.reg_tree_image.specs.Internal.BegunKeys.{IsLack, told_as}
 use Rattle.reg_tree_image.proofs.KeyStacks.StackEnds.{if_err}
 use Rattle.reg_tree_image.proofs.Readers.SharedDescriptors.{like-first, like-met, first-still, first-then}
@@ -20,7 +20,7 @@ returns-then-is_some-clause-firsts c heap are held =
 
 pub returns-in_err-note-clause-err : goal.returns-in_err-note-clause-err
 returns-in_err-note-clause-err c p is =
-    let crowds = IsLack (CrowdsBelow c.args.building.ahead c.args.tree.now p (told_as c.args.named.now c.args.parts.now)) in
+    let crowds = IsLack (CrowdsInRoom c.args.building.ahead c.args.tree.now p (told_as c.args.named.now c.args.parts.now)) in
     if_err crowds c.from_residual-in_err-note.result _ c.from_residual-in_err-note.ensures.1 (subst crowds (sym c.in_err-note.ensures.err) tt)
 
 pub returns-clause-firsts : goal.returns-clause-firsts

@@ -1,4 +1,5 @@
 //! Comparisons that end a test.
+
 use std::fmt::Debug;
 use std::test::Fail;
 
