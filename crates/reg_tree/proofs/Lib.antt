@@ -8,3 +8,4 @@ pub mod DescribeKey
 pub mod PruneTree
 pub mod BuildKey
 pub mod ByteValues
+pub mod LengthenList

@@ -14,3 +14,4 @@ pub mod LengthChanges
 pub mod DescriptorChange
 pub mod KeyBuilding
 pub mod NamesSeen
+pub mod ListLengthening

@@ -9,5 +9,6 @@ pub mod SubkeyWalk
 pub mod BuiltKeys
 pub mod MoreRoom
 pub mod MoreValues
+pub mod LongerLists
 pub mod ValueBytes
 pub mod Internal

@@ -10,8 +10,8 @@
 //!
 //! `tree` is the type; the other modules work on its arena and a key's offset. `find` walks paths, `read` tells of a key, `values` has its
 //! values, and `key` reads and writes key nodes. `make` makes the missing keys of a path, `unmake` deletes a key, `prune` a key with all
-//! below it, and `security` gives a key a descriptor. `build` and `build_values` build a key of an image, with marks and a class.
-//! `names_seen` spares a search where many values are set on one key.
+//! below it, and `security` gives a key a descriptor. `build` and `build_values` build a key of an image, with marks and a class; `room`
+//! and `lengthening` see to room for cells and for subkeys to come. `names_seen` spares a search where many values are set on one key.
 //!
 //! Win32 registry reference, "Structure of the Registry"; Suhanov, Windows registry file format specification.
 #![tactic(auto)]
@@ -23,6 +23,7 @@ mod fault;
 mod find;
 mod held_bytes;
 mod key;
+mod lengthening;
 mod make;
 mod names_seen;
 mod node;

@@ -22,7 +22,7 @@ use crate::key::new_root;
 use crate::names_seen::NamesSeen;
 use crate::{
     Created, NewKey, NewValue, Node, Reached, Subkey, TreeFault, ValueFound, build, build_values,
-    find, make, prune, read, room, security, unmake, values,
+    find, lengthening, make, prune, read, room, security, unmake, values,
 };
 use reg_arena::{Arena, ArenaFault, cell_size};
 use reg_records::put_nk;
@@ -66,6 +66,7 @@ impl Tree {
     ghost use Rattle.reg_tree.specs.BuiltKeys.{MayBuild, built_key, with_values, class_sizes, TakesCells, BuildsRoot, BuildsKey, LacksKeyRoom};
     ghost use Rattle.reg_tree.specs.MoreRoom.{MakesRoom};
     ghost use Rattle.reg_tree.specs.MoreValues.{with_more_values, HasListRoom, MayExtend};
+    ghost use Rattle.reg_tree.specs.LongerLists.{LengthensList, longer_sizes};
     ghost use Rattle.reg_values.specs.NewValues.{all_told, all_value_sizes, each_value_sizes, MayFollow};
 
     /// A tree of one root: the name as given, mark 8 (no delete), no class, the descriptor, the moment (100 ns ticks since
@@ -837,6 +838,23 @@ impl Tree {
     {
         self.names.forget();
         room::reserve(alloc, &mut self.arena, size)
+    }
+
+    /// Sees to it that the last list of a key's subkeys has room for so many more, or for 500 in all: where its cell hasn't, the list is
+    /// moved into one that has, and its own is freed. So subkeys that come behind all others move no list, up to that number. A key without
+    /// subkeys has no list, and nothing happens. The keys stay as they are, each at its offset. After a fault the tree is as before.
+    ///
+    /// The one cell that comes is the list's, and each other cell keeps its size. `Full` only where no free cell has room for it and one
+    /// bin more would pass the limit of 268,435,456 bytes; `Memory`. The bins grow only where no free cell has room, and by no more than
+    /// one bin.
+    pub fn lengthen_list(&mut self, alloc: Global, node: Node, more: u32) -> Result<(), ArenaFault>
+        requires node { IsThere self.old node }
+        ensures lengthens { OnOk result (LengthensList self.old self.new node more) }
+        ensures space { result ≡ Err ArenaFault.Full → LacksRoom self.old.bins (longer_sizes (heap_of self.old.bins) node.offset more) }
+        ensures err { OnErr result (self.new ≡ self.old) }
+    {
+        self.names.forget();
+        lengthening::lengthen(alloc, &mut self.arena, node.offset, more)
     }
 
     /// Puts values as all that a key has that has none, in their order, and gives the key a time; no other key's changes. Each is

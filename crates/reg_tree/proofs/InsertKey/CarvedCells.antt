@@ -49,7 +49,7 @@ held-long h cell size z = ap (λ (o : Option (List ℕ)). length (unwrap_or o []
 zeros-room : (h : Heap) (cell size room : ℕ) → h cell ≡ Some (replicate (size - 4) 0) → room + 4 ≤ size → HasRoom h cell room
 zeros-room h cell size room z l = record { exists = subst IsSome (sym z) refl; enough = (let n = held-long h cell size z in omega (arith, n, l)) }
 
-zeros-ready : (h : Heap) (cell size : ℕ) → h cell ≡ Some (replicate (size - 4) 0) → 4 ≤ size → IsReadyCell h (Some size) (Some cell)
+pub zeros-ready : (h : Heap) (cell size : ℕ) → h cell ≡ Some (replicate (size - 4) 0) → 4 ≤ size → IsReadyCell h (Some size) (Some cell)
 unfolding key_at
 zeros-ready h cell size z l = (
   subst IsSome (sym z) refl,

@@ -71,7 +71,7 @@ pub same-kept : (h i : Heap) → SameSizes h i → KeepsCells h i
 same-kept h i a z some = (sym (a z).0 ∙ some, (a z).1)
 
 -- the cells of a key's index gave way, but those that were carved for it stay, and so do all others
-moved-leaves : (h k : Heap) (before carved after : List ℕ) → Moves h k (before ++ carved) after → ((z : ℕ) → 0 < times z carved → IsSome (k z)) → LeavesOthers h k before
+pub moved-leaves : (h k : Heap) (before carved after : List ℕ) → Moves h k (before ++ carved) after → ((z : ℕ) → 0 < times z carved → IsSome (k z)) → LeavesOthers h k before
 moved-leaves h k before carved after moves stay z there none = elim (cases_lt 0 (times z carved)) [
   | inl l ↦ stay z l
   | inr l ↦
