@@ -129,7 +129,7 @@ pub fn begin_key<'a>(
     requires read { IsReadAt (cell_at bins.now) table.old.states.items tree.old above.node }
     requires firsts { AreFirst (cell_at bins.now) tree.old firsts.old }
     ensures begins { (levels : ℕ) → (path : List ℕ) → (at : Path) → (seen : Seen) → IsTable (cell_at bins.now) seen.found path table.old.states.items →
-        tree.old.tree ≡ tree_told seen → BuildsAll building.ahead seen.told tree.old → IsAt tree.old at above.node → levels + above.node.depth ≡ PATH_LIMIT →
+        tree.old.tree ≡ tree_told seen → BuildsAll building.ahead seen.told tree.old → IsAt tree.old at above.entry.node → levels + above.entry.node.depth ≡ PATH_LIMIT →
         Begins building.ahead (cell_at bins.now) minor levels path (child_path at) offset seen table.new.states.items tree.new result }
     ensures nodes { OnOk result (KeepsNodes tree.old tree.new) }
     ensures firsts { OnOk result (AreFirst (cell_at bins.now) tree.new firsts.new) }

@@ -272,10 +272,7 @@ pub fn make_list_room(
     let listed = if subkeys == 1 { 1 } else { HALF + 1 };
     let entries = LEAF_LIMIT.min(listed + u32::from(more));
     make_room(building, tree, room, 8 + 8 * entries);
-    if tree
-        .lengthen_list(building.alloc, above, u32::from(more))
-        .is_ok()
-    {
+    if let Ok(()) = tree.lengthen_list(building.alloc, above, u32::from(more)) {
         // Only for its clauses `whole` and `sound`.
         let _ = tree.arena();
     }

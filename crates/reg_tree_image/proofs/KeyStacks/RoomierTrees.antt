@@ -1,5 +1,5 @@
 -- A tree for which room was made: its keys are where they were.
-use Rattle.std.proofs.Common.{◌≡◌, ◌<◌, Bool, ℕ, List, length, Option, None, Some, inl, inr, sym, ap, ◌∙◌, subst}
+use Rattle.std.proofs.Common.{◌≡◌, ◌<◌, Bool, true, false, not, ℕ, List, length, Option, None, Some, inl, inr, refl, sym, ap, ◌∙◌, subst}
 use Rattle.std.specs.Prelude.{IfSome}
 use Rattle.std.specs.FinMap.{get}
 use Rattle.reg_heap.specs.Heaps.{Heap}
@@ -71,6 +71,10 @@ module _ (ahead : Bool) (old new : Keys) (roomier : IsReserved ahead old new) wh
   like-still descriptor (Some node) (q, at, d) = (q, at-still q node at, of-tree (λ tree. descriptor_of (get tree q) ≡ descriptor) d)
 
 -- ---- room in a list
+
+pub ahead-is : (b : Bool) → not b ≡ false → b ≡ true
+ahead-is true e = refl
+ahead-is false e = absurd (cc)
 
 -- the same keys, each where it stood
 pub record StandStill (old new : Keys) : Type 0 where

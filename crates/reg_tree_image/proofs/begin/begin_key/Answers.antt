@@ -83,7 +83,7 @@ build_sharing-requires-clause-firsts c =
     let head = c.in_ok-reached.ensures.heads (cell_at c.args.bins.now) r.levels r.path r.at c.args.offset r.seen _ (c.in_ok-named.ensures.follows r.path r.seen r.table) r.told r.there r.deep in
     let done = c.in_ok-parts.ensures.follows r.path head.after head.table in (
       cell_at c.args.bins.now,
-      first-yet _ _ s _ _ c.requires.firsts,
+      first-yet _ _ s _ c.args.firsts.now c.requires.firsts,
       parts-described (cell_at c.args.bins.now) c.args.minor (c.args.offset ∷ r.path) c.in_ok-named.named.node.fields head.after done.after _
           done.gives,
     )
@@ -94,7 +94,7 @@ returns-clause-firsts c =
     let r = read-yet _ _ s _ _ _ c.requires.read in
     let head = c.in_ok-reached.ensures.heads (cell_at c.args.bins.now) r.levels r.path r.at c.args.offset r.seen _ (c.in_ok-named.ensures.follows r.path r.seen r.table) r.told r.there r.deep in
     let done = c.in_ok-parts.ensures.follows r.path head.after head.table in
-    c.in_ok-node.ensures.firsts (cell_at c.args.bins.now) (first-yet _ _ s _ _ c.requires.firsts)
+    c.in_ok-node.ensures.firsts (cell_at c.args.bins.now) (first-yet _ _ s _ c.args.firsts.now c.requires.firsts)
     (parts-described (cell_at c.args.bins.now) c.args.minor (c.args.offset ∷ r.path) c.in_ok-named.named.node.fields head.after done.after _
     done.gives)
 
@@ -110,3 +110,6 @@ build_sharing-requires-clause-above c = there-yet _ _ (still _ _ c.make_list_roo
 pub returns-clause-nodes : goal.returns-clause-nodes
 returns-clause-nodes c path node at =
     c.in_ok-node.ensures.nodes path node ((still _ _ c.make_list_room.ensures).nodes path node at)
+
+pub reach_below-requires-clause-above : goal.reach_below-requires-clause-above
+reach_below-requires-clause-above c = there-yet _ _ (still _ _ c.make_list_room.ensures) _ c.requires.above
