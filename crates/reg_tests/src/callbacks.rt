@@ -1,11 +1,11 @@
 //! Callbacks of a hive in boxes: whose answer it is, and which key they are shown. Which calls they are asked of: `questions`.
 ghost use Rattle.std.specs.Prelude.{◌==◌, length, if◌then◌else◌};
 
+use crate::asserts::assert_report;
 use crate::support::replies;
 use reg_callbacks::{Callback, CallbackFault, Cookie};
 use reg_calls::Hive;
 use reg_model::{Change, Query};
-use crate::asserts::assert_report;
 use std::alloc::{AllocError, Global};
 use std::test::Fail;
 

@@ -1,10 +1,10 @@
 //! A question that is copied and run, and the copies of its answer and of a journal's entry. What is compared is the `Debug` text of a copy,
 //! which has every field.
+use crate::asserts::assert_report;
 use crate::support::replies;
 use reg_calls::Hive;
 use reg_fixtures::PlainHive;
 use reg_model::{Bytes, Call, Entry, Outcome, Query, Step};
-use crate::asserts::assert_report;
 use std::alloc::Global;
 use std::test::Fail;
 

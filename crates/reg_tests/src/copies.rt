@@ -1,8 +1,8 @@
 //! Copies of calls, entries and outcomes, with ample memory. What is compared is a copy's `Debug` text, which has every field.
+use crate::asserts::assert_report;
 use reg_model::{
     Answer, AnswerBody, Bytes, Call, Change, ChangeReply, Entry, Outcome, Query, Step,
 };
-use crate::asserts::assert_report;
 use std::alloc::Global;
 use std::fmt::Debug;
 use std::test::Fail;

@@ -1,10 +1,10 @@
 //! The words that faults are told in, which no clause says.
+use crate::asserts::assert_report;
 use reg_arena::ArenaFault;
 use reg_calls::{NewFault, RunFault};
 use reg_names::NameFault;
 use reg_records::RecordFault;
 use reg_script::ScriptFault;
-use crate::asserts::assert_report;
 use reg_tree::TreeFault;
 use reg_tree_image::{ImageFault, LoadFault, WriteFault};
 use reg_tree_text::DumpFault;

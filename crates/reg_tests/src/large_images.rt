@@ -1,7 +1,7 @@
 //! Images of many bytes: keys whose values take more than one carve, which load, and keys that have, in the cells of new bins, more bytes
 //! than bins may have, with what is wrong with the last of them. The wanted sizes and faults come from the format's tables.
-use reg_fixtures::{drafted, put_changes, sizes_but};
 use crate::asserts::assert_report;
+use reg_fixtures::{drafted, put_changes, sizes_but};
 use reg_tree::Tree;
 use reg_tree_image::load_tree;
 use std::alloc::{AllocError, Global};

@@ -1,10 +1,10 @@
 //! Keys below one key made and deleted at random, beside a plain map of their names. A script makes and deletes them and, behind each batch,
 //! asks for all; the map tells what is replied. The lists that stand in the bins then have the map's names, in its order.
+use crate::asserts::assert_same;
 use crate::support::replies;
 use reg_arena::Arena;
 use reg_calls::Hive;
 use reg_fixtures::{PlainHive, SubkeyLists, allocated, subkeys};
-use crate::asserts::assert_same;
 use reg_workload::Chance;
 use std::alloc::{AllocError, Global};
 use std::collections::BTreeMap;

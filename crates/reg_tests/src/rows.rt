@@ -3,10 +3,10 @@
 ghost use Rattle.std.specs.Prelude.{◌≡◌, ◌≤◌, true, IsSome, IfOk};
 ghost use Rattle.reg_arena.specs.Arena.{heap_of};
 
+use crate::asserts::assert_report;
 use reg_arena::{Arena, ArenaFault};
 use reg_fixtures::is_among;
 use reg_names::check_value_name;
-use crate::asserts::assert_report;
 use reg_tree_image::checksum;
 use reg_values::laws::no_values_are_no_list;
 use reg_values::{ValuesList, plan_set};

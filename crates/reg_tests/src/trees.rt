@@ -2,8 +2,8 @@
 ghost use Rattle.std.specs.Prelude.{IfSome};
 ghost use Rattle.reg_tree.specs.TreeKeys.{IsThere};
 
-use reg_names::check_path;
 use crate::asserts::assert_report;
+use reg_names::check_path;
 use reg_tree::{Node, Tree, TreeFault};
 use reg_tree_text::dump;
 use std::alloc::Global;

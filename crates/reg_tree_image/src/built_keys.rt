@@ -268,13 +268,7 @@ pub fn build_below(
     let own = key_bytes(named, parts, like.is_some());
     make_key_room(building, tree, room, above, own, values_bytes(values));
     let time = named.node.fields.time;
-    match tree.build_key(
-        building.alloc,
-        above,
-        reached,
-        new_key(named, parts),
-        like,
-    ) {
+    match tree.build_key(building.alloc, above, reached, new_key(named, parts), like) {
         Ok(node) => {
             // Only for its clauses `whole` and `sound`.
             let _ = tree.arena();

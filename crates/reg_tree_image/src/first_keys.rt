@@ -99,9 +99,7 @@ pub fn build_sharing(
 {
     let security = named.node.fields.security;
     let like = firsts.find(security, met);
-    let node = build_below(
-        building, tree, above, reached, named, parts, like, room,
-    )?;
+    let node = build_below(building, tree, above, reached, named, parts, like, room)?;
     if like.is_some() {
         return Ok(node);
     }

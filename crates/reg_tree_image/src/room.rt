@@ -255,13 +255,7 @@ pub fn make_key_room(
 
 /// Gives the last list of a key's subkeys room for so many more, where it was just made: each of them would move it. Where room can't be
 /// had, the tree stays as it is.
-pub fn make_list_room(
-    building: Building,
-    tree: &mut Tree,
-    room: &mut Room,
-    above: Node,
-    more: u16,
-)
+pub fn make_list_room(building: Building, tree: &mut Tree, room: &mut Room, above: Node, more: u16)
     requires { IsThere tree.old above }
     ensures { IsListRoomier building.ahead tree.old tree.new }
 {
