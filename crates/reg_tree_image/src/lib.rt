@@ -13,8 +13,8 @@
 //! [`LoadFault`].
 //!
 //! `loading` reads an image (`input`), tests its base block (`block`) and cells (`scan`), and then its keys, by `walk` over a stack of
-//! `frames`, or by `checking`, which builds none. `begin` reads a key and builds it (`built_keys`, `first_keys`), each record by a reader
-//! of its own, over `cells`, which names a cell in the `table`. `writing` makes an image, `tree_writing` writes one bin by bin.
+//! `frames`, or by `checking`, which builds none. `begin` reads a key and builds it (`built_keys`, `first_keys`) where `room` was
+//! made for it, each record by a reader of its own, over `cells`, which names a cell in the `table`. `writing` makes an image, `tree_writing` writes one bin by bin.
 //! `free_cells` counts what of the bins is free, and `rebuilding` builds a tree anew in bins of its own.
 //!
 //! Suhanov, Windows registry file format specification, sections "Format of primary files", "Base block", "Hive bin" and "Cell".
