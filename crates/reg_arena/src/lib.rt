@@ -5,8 +5,8 @@
 //! field are the offset of the next one of its list. Offsets count from the first bin. Sizes and offsets are in bytes.
 //!
 //! Its one contract: the cells fill the bins and the lists have just the free ones (`IsSound`, of every arena); `carve` and `free`
-//! change which cells there are, exactly as the rules say, and the writers what one cell holds. Crates above need only `cell_at`,
-//! what the allocated cell at an offset holds. It stands on reg_bins, which has the bytes, and on reg_heap. Its types
+//! change which cells there are, exactly as the rules say, and the writers what one cell holds. Crates above need only `heap_of`,
+//! what the allocated cell at each offset holds. It stands on reg_bins, which has the bytes, and on reg_heap. Its types
 //! are [`Arena`], [`Cell`], [`ArenaFault`] and [`Stretch`], by which whoever reads many cells looks a bin up once.
 //!
 //! `carve` takes cells from a free one, or from a bin that `bin` appends, and `cut` cuts them; `each` carves those of one change each by
