@@ -8,7 +8,8 @@
 //! names it, [`Value`], a value as it is told, [`LargestValues`], what is largest among them, and [`NewValue`], one to be made.
 //!
 //! `finding`, `data` and `big` read. `plan` says which cells a set takes; `setting` is a set, by `add` for a new name and by `replace` for
-//! one that is there. `removing` removes, `making` makes all values of a key that has none, in cells of one carve, and `extending` puts more behind them.
+//! one that is there. `removing` removes, `making` makes all values of a key that has none, in cells of one carve, and `extending` puts
+//! more behind them.
 //!
 //! Suhanov, Windows registry file format specification, sections "Key values list", "Key value" and "Big data".
 #![tactic(auto)]
