@@ -8,10 +8,11 @@
 //! owns its arena; [`Node`], a key of it; [`NewKey`], one to be built, and [`NewValue`], a value to be built; [`Subkey`], one of those
 //! below a key, with its place; [`Reached`], how far a path leads; [`ValueFound`] and [`TreeFault`].
 //!
-//! `tree` is the type; the other modules work on its arena and a key's offset. `find` walks paths, `read` tells of a key, `values` has its
-//! values, and `key` reads and writes key nodes. `make` makes the missing keys of a path, `unmake` deletes a key, `prune` a key with all
-//! below it, and `security` gives a key a descriptor. `build` and `build_values` build a key of an image, with marks and a class; `room`
-//! and `lengthening` see to room for cells and for subkeys to come. `names_seen` spares a search where many values are set on one key.
+//! `tree` is the type, and its `building` has the calls by which images are built; the other modules work on its arena and a key's
+//! offset. `find` walks paths, `read` tells of a key, `values` has its values, and `key` reads and writes key nodes. `make` makes the
+//! missing keys of a path, `unmake` deletes a key, `prune` a key with all below it, and `security` gives a key a descriptor. `build` and
+//! `build_values` build a key of an image, with marks and a class; `room` and `lengthening` see to room for cells and for subkeys to come.
+//! `names_seen` spares a search where many values are set on one key.
 //!
 //! Win32 registry reference, "Structure of the Registry"; Suhanov, Windows registry file format specification.
 #![tactic(auto)]
