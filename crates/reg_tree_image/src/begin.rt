@@ -137,7 +137,8 @@ pub fn begin_key<'a>(
 {
     // This one and those that are left of its list.
     let more = above.leaf.left().saturating_add(1);
-    make_list_room(building, tree, room, above.node, more);
+    let begins = above.leaf.taken == 1;
+    make_list_room(building, tree, room, above.node, more, begins);
     // Only for its clauses `tree` and `one_path`: what isn't there has nothing below it, and the node is that of one key.
     let _ = tree.root();
     let named = named_key(building.alloc, bins, table, offset)?;

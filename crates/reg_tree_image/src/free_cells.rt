@@ -72,6 +72,18 @@ pub fn free_bytes(arena: &Arena) -> u32
     free
 }
 
+/// How many bytes of the bins aren't free: the cells that are allocated, and the headers of bins.
+pub fn live_bytes(arena: &Arena) -> u32
+    ensures { result ≤ length arena.now.bytes }
+{
+    arena.bins_size() - free_bytes(arena)
+}
+
+/// Whether bins of a size have more than 1.1 times so many bytes, and a page.
+pub fn is_loose(size: u32, live: u32) -> bool {
+    size.saturating_sub(live) > live / 10 + 4096
+}
+
 /// Whether more than half of the bytes of a tree's bins are free.
 pub fn is_sparse(tree: &Tree) -> bool
     ensures { result ≡ are_sparse tree.now.bins.bytes }

@@ -15,6 +15,7 @@ use crate::LoadFault;
 use crate::block::{BaseBlock, read_block};
 use crate::cells::word_at;
 use crate::checking::check_keys;
+use crate::free_cells::{is_loose, live_bytes};
 use crate::input::{fill, read_bytes};
 use crate::room::Building;
 use crate::scan::scan;
@@ -70,6 +71,33 @@ fn build_by(building: Building, bins: &[u8], block: BaseBlock) -> Result<Tree, L
     walk(building, bins, block.minor, &mut table, block.root)
 }
 
+/// A tree that was built, or, where much of its bins is free, one of the same keys that is built once it is known how many bytes they
+/// take, if that has smaller bins.
+fn closer(alloc: Global, bins: &[u8], block: BaseBlock, built: Tree) -> Tree
+    requires pages { length bins.now % 4096 ≡ 0 }
+    requires small { length bins.now ≤ BINS_LIMIT }
+    requires built { tree_in (bins_walk bins.now block.minor block.root nothing) ≡ Ok built.tree }
+    ensures { tree_in (bins_walk bins.now block.minor block.root nothing) ≡ Ok result.tree }
+{
+    let size = built.arena().bins_size();
+    let live = live_bytes(built.arena());
+    if !is_loose(size, live) {
+        return built;
+    }
+    let building = Building {
+        alloc,
+        ahead: true,
+        to_build: Some(live),
+    };
+    let Ok(again) = build_by(building, bins, block) else {
+        return built;
+    };
+    if again.arena().bins_size() < size {
+        return again;
+    }
+    built
+}
+
 /// The tree of the keys in foreign bins, built anew. Room is made ahead, so that little of the bins stays free; where that takes too
 /// much, the tree is built once more, of just the cells that its keys take: `Limit` also where these bins have no room for a key that
 /// is met before any fault.
@@ -80,18 +108,19 @@ pub fn build_keys(alloc: Global, bins: &[u8], block: BaseBlock) -> Result<Tree, 
     ensures err { IfErr result (λ fault. FailsAs (AreCrowded false bins.now block.minor block.root) fault
         (bins_walk bins.now block.minor block.root nothing)) }
 {
-    let built = build_by(Building { alloc, ahead: true }, bins, block);
-    if let Err(LoadFault::Limit) = built {
-        return build_by(
-            Building {
-                alloc,
-                ahead: false,
-            },
-            bins,
-            block,
-        );
+    let mut building = Building {
+        alloc,
+        ahead: true,
+        to_build: None,
+    };
+    match build_by(building, bins, block) {
+        Ok(tree) => Ok(closer(alloc, bins, block, tree)),
+        Err(LoadFault::Limit) => {
+            building.ahead = false;
+            build_by(building, bins, block)
+        }
+        failed => failed,
     }
-    built
 }
 
 /// Makes the tests of the keys in foreign bins, and builds none: the first that fails is the fault.
@@ -129,8 +158,7 @@ fn build_tree(alloc: Global, bins: &[u8], block: BaseBlock) -> Result<Tree, Load
 /// `Bins` and `Limit`; of the bins, once all are read, `Bins` where the header of one is bad, else `Cells` where a cell's size is; of the
 /// keys, as they are met from the root on, `Record`, `Loop`, `Twice`, `NotInProfile` and `Limit`. Where none of these tests fails,
 /// `Limit` comes for want of room in the new bins: bins that came about by building the keys in the order in which they are met, each
-/// with just the cells that it takes, and grew only where no free cell had room: for the cells of a key or of values, or for those of
-/// many keys to come, of 524,288 bytes at most. They have none for a key's key node with its class, its descriptor and its place in a
+/// with just the cells that it takes, and grew only where no free cell had room for the cells of a key or of values. They have none for a key's key node with its class, its descriptor and its place in a
 /// list, or then none for its values: for as many of them together, from the first on, as have cells of at most 16,777,216 bytes with a
 /// list that has room for all, or then again for as many of those that are left as have cells of at most so many bytes. No room is that
 /// no free cell has room for all cells of one of these, and that with a bin more for them the bins would pass 268,435,456 bytes. `Memory`

@@ -38,6 +38,8 @@ pub struct Building {
     pub alloc: Global,
     /// Whether room is made ahead. Where it isn't, each key takes just its cells.
     pub ahead: bool,
+    /// How many bytes of cells are to be built, where that is known.
+    pub to_build: Option<u32>,
 }
 
 /// How many bytes of cells are to be built, and for how many of them there is room. Both are estimates: what is built by them is the
@@ -50,6 +52,8 @@ pub struct Room {
     kept: u32,
     /// The size of the bins when room was made last.
     bins: u32,
+    /// Whether what comes has a bin of its own.
+    beside: bool,
 }
 
 impl Room {
@@ -59,6 +63,7 @@ impl Room {
             left,
             kept: 0,
             bins: 0,
+            beside: false,
         }
     }
 
@@ -69,11 +74,14 @@ impl Room {
         self.bins = arena.bins_size();
     }
 
-    /// Looks at the size of the bins. Where they grew, the cells that came didn't fit in what was kept: that is used up.
+    /// Looks at the size of the bins. Where they grew, and not by a bin of its own for what came, that didn't fit in what was kept, which is
+    /// used up.
     fn look(&mut self, bins: u32) {
-        if self.bins < bins {
+        if self.bins < bins && !self.beside {
             self.kept = 0;
         }
+        self.bins = bins;
+        self.beside = false;
     }
 
     /// Notes that cells of a size come, and answers the size that room is to be made for, if what is kept is too little.
@@ -87,6 +95,7 @@ impl Room {
             return None;
         }
         if size >= OWN_BIN {
+            self.beside = true;
             return room_size(size);
         }
         let wanted = size.max(left.min(MOST_ROOM));
@@ -253,18 +262,42 @@ pub fn make_key_room(
     )
 }
 
-/// Gives the last list of a key's subkeys room for so many more, where it was just made: each of them would move it. Where room can't be
-/// had, the tree stays as it is.
-pub fn make_list_room(building: Building, tree: &mut Tree, room: &mut Room, above: Node, more: u16)
+/// How many subkeys the last list has of a key that has so many, where they are built in their order.
+fn listed_last(subkeys: u32) -> u32
+    ensures { result ≤ 500 }
+{
+    if subkeys <= LEAF_LIMIT {
+        return subkeys;
+    }
+    HALF + 1 + (subkeys - LEAF_LIMIT - 1) % HALF
+}
+
+/// Whether the last list of a key that has so many subkeys was just made.
+fn is_new_list(subkeys: u32) -> bool {
+    subkeys == 1 || subkeys > LEAF_LIMIT && subkeys % HALF == 1
+}
+
+/// Gives the last list of a key's subkeys room for so many more, where it was just made, or where these begin a list of the image: each of
+/// them would move it. Where room can't be had, the tree stays as it is.
+pub fn make_list_room(
+    building: Building,
+    tree: &mut Tree,
+    room: &mut Room,
+    above: Node,
+    more: u16,
+    begins: bool,
+)
     requires { IsThere tree.old above }
     ensures { IsListRoomier building.ahead tree.old tree.new }
 {
     let subkeys = tree.subkeys(above);
-    if !building.ahead || subkeys % HALF != 1 {
+    if !building.ahead || subkeys == 0 {
         return;
     }
-    let listed = if subkeys == 1 { 1 } else { HALF + 1 };
-    let entries = LEAF_LIMIT.min(listed + u32::from(more));
+    if !begins && !is_new_list(subkeys) {
+        return;
+    }
+    let entries = LEAF_LIMIT.min(listed_last(subkeys) + u32::from(more));
     make_room(building, tree, room, 8 + 8 * entries);
     if let Ok(()) = tree.lengthen_list(building.alloc, above, u32::from(more)) {
         // Only for its clauses `whole` and `sound`.

@@ -138,7 +138,7 @@ pub fn walk(
     ensures err { IfErr result (λ fault. FailsAs (IsRootCrowded building.ahead (cell_at bins.now) minor root) fault
         (key_from (cell_at bins.now) minor (suc PATH_LIMIT) [] root_path root nothing)) }
 {
-    let mut room = Room::new(table.to_build);
+    let mut room = Room::new(building.to_build.unwrap_or(table.to_build));
     let BegunRoot { mut tree, key } = begin_root(building, bins, minor, table, root, &mut room)?;
     walk_below(building, bins, minor, table, &mut tree, key, &mut room)?;
     Ok(tree)

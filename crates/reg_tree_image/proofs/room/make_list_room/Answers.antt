@@ -5,6 +5,9 @@ use Rattle.reg_tree_image.proofs.room.make_list_room.Goals as goal
 pub returns-then-not-building : goal.returns-then-not-building
 returns-then-not-building c = (c.args.tree.now, inl refl, inl refl)
 
+pub returns-then-not-is_new_list : goal.returns-then-not-is_new_list
+returns-then-not-is_new_list c = (c.args.tree.now, inl refl, inl refl)
+
 pub returns-in-Ok : goal.returns-in-Ok
 returns-in-Ok c = (
   c.make_room.new.tree,
