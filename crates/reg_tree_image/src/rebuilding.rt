@@ -21,7 +21,7 @@ fn copy_bins(alloc: Global, arena: &Arena) -> Result<Vec<u8>, AllocError>
 }
 
 /// The tree built anew, as [`load_tree`](crate::load_tree) builds the one of its image: with the same keys, in bins of its own. Meanwhile
-/// there is a copy of the bins besides both trees.
+/// there is a copy of the bins besides both trees, and a third tree where it is built twice.
 ///
 /// `Limit` only where the new bins have no room for one of the keys, `Memory` where it lacks; there is no other fault.
 pub fn rebuild(alloc: Global, tree: &Tree) -> Result<Tree, LoadFault>
