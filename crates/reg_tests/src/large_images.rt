@@ -117,16 +117,30 @@ fn values_of_several_carves_fit(rt: HostRuntime) -> Result<(), Fail> {
 }
 
 // A key's list of 11 values has a cell of 48 bytes, each value's record one of 32 and its data one of 4,056, its key node one of 88. With a
-// bin's header of 32 bytes these 45,136 are more than eleven pages, so that new bins have 49,152 bytes for each such key, and what is left
-// has no room for the values of another. So 5,461 keys have 268,419,072 bytes, with the root's bin 268,423,168, and one more has no room.
+// bin's header of 32 bytes these 45,136 are more than eleven pages, so that bins for each such key have 49,152 bytes, and those of 5,462 more
+// than bins may have. Without room made ahead there is a bin for the values alone, of eleven pages. Of the 5,463 subkeys of the root 5,000
+// have lists of 250, 2,008 bytes each, and 463 one of 3,712; the index root has 96: 5,462 * 45,104 + 2 * 88 + 48 + 20 * 2,008 + 3,712 + 96.
+#[test]
+fn keys_that_fit_without_room_ahead(rt: HostRuntime) -> Result<(), Fail> {
+    let image = Image {
+        keys: 5_462,
+        values: 11,
+        size: 4_048,
+    };
+    check(rt.alloc(), image, &[("0 72656766", "246402240 close")])
+}
+
+// A key's list of 10 values has a cell of 48 bytes, each value's record one of 32 and its data one of 4,072. With a bin's header of 32 bytes
+// these 41,120 are more than ten pages, so that new bins have 45,056 bytes for the values of each such key, and what is left has no room
+// for those of another. 5,958 such bins have 268,443,648 bytes, more than bins may have.
 // The record of `k99999` begins at 4,180. Its changes: none, so that the bins alone want room; another signature; its own list of subkeys,
 // which names it; the name of `k04999`; a predefined handle; 16,385 values.
 #[test]
 fn faults_behind_the_place_without_room(rt: HostRuntime) -> Result<(), Fail> {
     let image = Image {
-        keys: 5_462,
-        values: 11,
-        size: 4_048,
+        keys: 5_958,
+        values: 10,
+        size: 4_064,
     };
     check(
         rt.alloc(),
