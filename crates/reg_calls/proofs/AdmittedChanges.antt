@@ -5,12 +5,14 @@ use Rattle.reg_heap.specs.Paths.{Tree}
 use Rattle.reg_model.specs.declared.statuses.TheConstants.{NOT_ENOUGH_MEMORY, NO_SYSTEM_RESOURCES}
 use Rattle.reg_model.specs.Histories.{state_of}
 use Rattle.reg_model.specs.declared.reply.Entry.{Entry}
+use Rattle.reg_model.specs.declared.notice.Notice.{Notice}
 use Rattle.reg_model.specs.Callbacks.{Callbacks, change_status}
 use Rattle.reg_model.specs.Causes.{asked_before}
 use Rattle.reg_model.specs.Replies.{refusal}
 use Rattle.reg_model.specs.declared.reply.ChangeReply.{ChangeReply}
 use Rattle.reg_model.specs.declared.call.Change.{Change}
 use Rattle.reg_calls.specs.declared.store.Store.{Store}
+use Rattle.reg_calls.specs.declared.store.JournalEnd.{JournalEnd}
 use Rattle.reg_calls.specs.declared.changes.Admitted.{Admitted}
 use Rattle.reg_calls.specs.declared.changes.Admitted.TheVariants.{OpenRoot, OpenKey, CreateKey, SetValue, DeleteValue, DeleteKey, DeleteTree, SetSecurity, Notify, Close}
 use Rattle.reg_calls.specs.declared.refusal.Refusal.{Refusal}
@@ -26,20 +28,20 @@ use Rattle.reg_calls.proofs.KnownKeys.{unmade}
 use Rattle.reg_calls.proofs.RefusalTests.{still-clear}
 
 -- nothing refuses a change that was admitted
-pub admits-clear : (entries : ℕ) (store : Store) (session : ℕ) (change : Change) (admitted : Admitted) → Admits entries store session change admitted → IsClear entries store session change
-admits-clear entries store session change (OpenRoot found) a = subst (IsClear entries store session) (sym a.0) a.1
-admits-clear entries store session change (OpenKey found) a = subst (IsClear entries store session) (sym a.2) a.3.clear
-admits-clear entries store session change (CreateKey found) a = subst (IsClear entries store session) (sym a.2) a.3.clear
-admits-clear entries store session change (SetValue found) a = subst (IsClear entries store session) (sym a.1) a.2.clear
-admits-clear entries store session change (DeleteValue found) a = subst (IsClear entries store session) (sym a.2) a.3.clear
-admits-clear entries store session change (DeleteKey found) a = subst (IsClear entries store session) (sym a.2) a.3.clear
-admits-clear entries store session change (DeleteTree found) a = subst (IsClear entries store session) (sym a.2) a.3.clear
-admits-clear entries store session change (SetSecurity found) a = subst (IsClear entries store session) (sym a.1) a.2.clear
-admits-clear entries store session change (Notify found) a = subst (IsClear entries store session) (sym a.0) a.1
-admits-clear entries store session change (Close found) a = subst (IsClear entries store session) (sym a.0) a.1
+pub admits-clear : (end : JournalEnd) (store : Store) (session : ℕ) (change : Change) (admitted : Admitted) → Admits end store session change admitted → IsClear end store session change
+admits-clear end store session change (OpenRoot found) a = subst (IsClear end store session) (sym a.0) a.1
+admits-clear end store session change (OpenKey found) a = subst (IsClear end store session) (sym a.2) a.3.clear
+admits-clear end store session change (CreateKey found) a = subst (IsClear end store session) (sym a.2) a.3.clear
+admits-clear end store session change (SetValue found) a = subst (IsClear end store session) (sym a.1) a.2.clear
+admits-clear end store session change (DeleteValue found) a = subst (IsClear end store session) (sym a.2) a.3.clear
+admits-clear end store session change (DeleteKey found) a = subst (IsClear end store session) (sym a.2) a.3.clear
+admits-clear end store session change (DeleteTree found) a = subst (IsClear end store session) (sym a.2) a.3.clear
+admits-clear end store session change (SetSecurity found) a = subst (IsClear end store session) (sym a.1) a.2.clear
+admits-clear end store session change (Notify found) a = subst (IsClear end store session) (sym a.0) a.1
+admits-clear end store session change (Close found) a = subst (IsClear end store session) (sym a.0) a.1
 
 -- one that wasn't is refused, and nothing changed
-pub refused-as : (callbacks : Callbacks) (v new : View) (session moment : ℕ) (change : Change) (reply : ChangeReply) (n : ℕ) (store : Store) (why : Refusal) → state v ≡ at n store →
+pub refused-as : (callbacks : Callbacks) (v new : View) (session moment : ℕ) (change : Change) (reply : ChangeReply) (n : JournalEnd) (store : Store) (why : Refusal) → state v ≡ at n store →
     IsNotAdmitted (change_status callbacks (world_of store) session moment change) n store session change why → reply ≡ refusal (status_told why) → new ≡ v →
     IsApplied callbacks v new session moment change reply
 refused-as callbacks v new session moment change reply n store (Cause status) is cause told same =
@@ -48,14 +50,14 @@ refused-as callbacks v new session moment change reply n store Memory is short t
     applied-by callbacks v new session moment change reply n store None is (sym (still-clear (at n store) session _ change short.0 short.2)) (inr (record { why = inl (told, short.1); same = same }))
 
 -- one that was, and for which space or memory was wanting, isn't made, and nothing changed
-pub given-up : (callbacks : Callbacks) (origin : Tree) (es : List Entry) (store new : Store) (session moment n : ℕ) (change : Change) (reply : ChangeReply) (lack : Lack) →
-    state_of origin es ≡ at n store → IsClear n store session change →
+pub given-up : (callbacks : Callbacks) (origin : Tree) (base : ℕ) (before : List (List Notice)) (es : List Entry) (store new : Store) (session moment : ℕ) (n : JournalEnd) (change : Change) (reply : ChangeReply) (lack : Lack) →
+    state_of base origin es ≡ at n store → IsClear n store session change →
     asked_before change (change_status callbacks (world_of store) session moment change) ≡ None → IsMade store new session moment n change (Err lack) →
     reply ≡ refusal (status_of lack) → (v w : View) →
-    view_with origin es store ≡ v → w ≡ view_with origin es new → IsApplied callbacks v w session moment change reply
-given-up callbacks origin es store new session moment n change reply lack is clear none made told v w was now =
+    view_with origin base before es store ≡ v → w ≡ view_with origin base before es new → IsApplied callbacks v w session moment change reply
+given-up callbacks origin base before es store new session moment n change reply lack is clear none made told v w was now =
     applied-by callbacks v w session moment change reply n store None (ap state (sym was) ∙ is) (sym (still-clear (at n store) session _ change clear none))
-    (inr (record { why = why lack made told; same = now ∙ view-unchanged origin es (unmade store new session moment n change lack made) ∙ was }))
+    (inr (record { why = why lack made told; same = now ∙ view-unchanged origin base before es (unmade store new session moment n change lack made) ∙ was }))
   where
     spaced : LacksSpace store.tree store.handles.handles session change → LacksSpace v.keys v.handles session change
     spaced lacks = subst (λ (x : View). LacksSpace x.keys x.handles session change) was lacks

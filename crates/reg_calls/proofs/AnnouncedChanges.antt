@@ -31,6 +31,7 @@ use Rattle.reg_calls.specs.Internal.Announcements.{ending_in, HasKinds, IsAnnoun
 use Rattle.reg_calls.specs.Internal.QuietKeys.{IsOwnEvent}
 use Rattle.reg_calls.proofs.FoundTrees.{has-names, from-nowhere}
 use Rattle.reg_calls.proofs.StoreAfterChange.{with-names}
+use Rattle.reg_calls.specs.declared.store.JournalEnd.{JournalEnd}
 use Rattle.reg_calls.proofs.ToldWatches.{nothing-ends, Agree, agree-all}
 
 -- ---- one event
@@ -64,7 +65,7 @@ pub announced-at : {E : Type 0} (store : Store) (session found h : ℕ) → foun
 announced-at store session found h is bits r ends =
     subst (λ (x : ℕ). IfOk r (λ a. (by : ℕ) → ending_in a by ≡ ended bits (path_at session x store.handles.handles) (λ q. false) by)) is ends
 
-module _ (n : ℕ) (store : Store) (session : ℕ) where
+module _ (n : JournalEnd) (store : Store) (session : ℕ) where
   abbrev hs : List Handle
   hs = store.handles.handles
 
@@ -79,32 +80,32 @@ module _ (n : ℕ) (store : Store) (session : ℕ) where
 
   -- a change that asks for no watch
   module _ (change : Change) (asks : (moment : ℕ) → asked change moment ≡ None) where
-    pub announced-as : (a : Announced) → HasKinds a → ((moment : ℕ) → ending_in a n ≡ few change moment) → IsAnnounced n store session change a
+    pub announced-as : (a : Announced) → HasKinds a → ((moment : ℕ) → ending_in a n.next ≡ few change moment) → IsAnnounced n store session change a
     announced-as a kinds ends = record {
       kinds = kinds;
-      ends = λ moment. agree-all (ending_in a n) (few change moment) (λ v. ap (λ (x : Ending). reason x v) (ends moment)) store.watches.pending;
+      ends = λ moment. agree-all (ending_in a n.next) (few change moment) (λ v. ap (λ (x : Ending). reason x v) (ends moment)) store.watches.pending;
       spares = λ moment v is. no-watch v (sym (asks moment) ∙ is);
     }
 
-    pub one-announced : {E : Type 0} (bits : ℕ) (p : Path) (gone : Path → Bool) → ((moment : ℕ) → few change moment ≡ ended bits p gone n) → (r : Result Announced E) → IfOk r HasKinds →
+    pub one-announced : {E : Type 0} (bits : ℕ) (p : Path) (gone : Path → Bool) → ((moment : ℕ) → few change moment ≡ ended bits p gone n.next) → (r : Result Announced E) → IfOk r HasKinds →
         IfOk r (λ a. (by : ℕ) → ending_in a by ≡ ended bits p gone by) → IfOk r (λ a. IsAnnounced n store session change a)
-    one-announced bits p gone due = if-both (λ a kinds ends. announced-as a kinds (λ moment. ends n ∙ sym (due moment)))
+    one-announced bits p gone due = if-both (λ a kinds ends. announced-as a kinds (λ moment. ends n.next ∙ sym (due moment)))
 
   -- ---- nothing
 
   pub none-announced : (change : Change) → store.watches.pending ≡ [] → IsAnnounced n store session change Nothing
   none-announced change none = record {
     kinds = tt;
-    ends = λ moment. subst (λ (vs : List Watch). Agree (ending_in Nothing n) (few change moment) vs) (sym none) tt;
-    spares = λ moment v is. nothing-ends n v;
+    ends = λ moment. subst (λ (vs : List Watch). Agree (ending_in Nothing n.next) (few change moment) vs) (sym none) tt;
+    spares = λ moment v is. nothing-ends n.next v;
   }
 
   -- a change by which no watch at all is ended
-  as-nothing : (change : Change) → ((moment : ℕ) → ending_in Nothing n ≡ few change moment) → IsAnnounced n store session change Nothing
+  as-nothing : (change : Change) → ((moment : ℕ) → ending_in Nothing n.next ≡ few change moment) → IsAnnounced n store session change Nothing
   as-nothing change same = record {
     kinds = tt;
-    ends = λ moment. agree-all (ending_in Nothing n) (few change moment) (λ v. ap (λ (x : Ending). reason x v) (same moment)) store.watches.pending;
-    spares = λ moment v is. nothing-ends n v;
+    ends = λ moment. agree-all (ending_in Nothing n.next) (few change moment) (λ v. ap (λ (x : Ending). reason x v) (same moment)) store.watches.pending;
+    spares = λ moment v is. nothing-ends n.next v;
   }
 
   pub root-announced : (mask : ℕ) → IsAnnounced n store session (OpenRoot mask) Nothing
@@ -146,7 +147,7 @@ module _ (n : ℕ) (store : Store) (session : ℕ) where
     pub there-announced : lost ≡ [] → IsAnnounced n store session (CreateKey h path mask given) Nothing
     unfolding few_ending few_events removes closing
     there-announced none =
-        as-nothing (CreateKey h path mask given) (λ moment. λ i. record { by = n; events = few_makings (sym none i) last; removes = λ q. false; closed = None })
+        as-nothing (CreateKey h path mask given) (λ moment. λ i. record { by = n.next; events = few_makings (sym none i) last; removes = λ q. false; closed = None })
 
     -- the place of the last one that is there, by the names that are missing behind it
     pub last-at : (text rest : List ℕ) → path_of text ≡ path_from session h hs path → path_of rest ≡ lost → (p : Path) →
@@ -160,7 +161,7 @@ module _ (n : ℕ) (store : Store) (session : ℕ) where
     made-announced some p last_is =
         one-announced (CreateKey h path mask given) (λ moment. refl) NAME p (λ q. false) (λ moment. by lost some ∙ ended-same NAME last p (λ q. false) (λ q. false) n (sym last_is) refl)
       where
-        by : (m : List (List ℕ)) → m ≢ [] → ◌≡◌ {A = Ending} (record { by = n; events = few_makings m last; removes = λ q. false; closed = None }) (ended NAME last (λ q. false) n)
+        by : (m : List (List ℕ)) → m ≢ [] → ◌≡◌ {A = Ending} (record { by = n.next; events = few_makings m last; removes = λ q. false; closed = None }) (ended NAME last (λ q. false) n)
         by [] some = absurd (some refl)
         by (x ∷ xs) some = refl
 
@@ -202,7 +203,7 @@ module _ (n : ℕ) (store : Store) (session : ℕ) where
         cond b (few_removals tree (path_at session h hs) ++ cleared tree (path_at session h hs)) (event_at NAME (above (path_from session h hs path)) ∷ [])
 
     tree-ends : Bool → Ending
-    tree-ends b = record { by = n; events = happens b; removes = gone b; closed = None }
+    tree-ends b = record { by = n.next; events = happens b; removes = gone b; closed = None }
 
     -- by a path that has names
     pub branch-announced : {E : Type 0} → path_of path ≢ [] → (p key : Path) → p ≡ above (path_from session h hs path) → key ≡ path_from session h hs path →
@@ -219,19 +220,19 @@ module _ (n : ℕ) (store : Store) (session : ℕ) where
         IfOk r (λ a. IsAnnounced n store session (DeleteTree h path) a)
     unfolding few_ending few_events removes closing watch_of tree-ends
     contents-announced none p is =
-        if-both (λ a kinds ends. announced-as (DeleteTree h path) (λ moment. refl) a kinds (λ moment. ends n ∙ due))
+        if-both (λ a kinds ends. announced-as (DeleteTree h path) (λ moment. refl) a kinds (λ moment. ends n.next ∙ due))
       where
         own : p ≡ path_at session h hs
         own = is ∙ from-nowhere (path_at session h hs) path none
 
-        due : ◌≡◌ {A = Ending} (record { by = n; events = few_removals tree p ++ cleared tree p; removes = is_under p; closed = None }) (tree-ends (length path == 0))
+        due : ◌≡◌ {A = Ending} (record { by = n.next; events = few_removals tree p ++ cleared tree p; removes = is_under p; closed = None }) (tree-ends (length path == 0))
         due =
-            (λ i. record { by = n; events = few_removals tree (own i) ++ cleared tree (own i); removes = is_under (own i); closed = None })
+            (λ i. record { by = n.next; events = few_removals tree (own i) ++ cleared tree (own i); removes = is_under (own i); closed = None })
             ∙ ap tree-ends (ap (λ (x : List ℕ). length x == 0) (sym none))
 
 -- ---- changes that are one event of their handle's key
 
-module _ (n : ℕ) (store : Store) (session h : ℕ) where
+module _ (n : JournalEnd) (store : Store) (session h : ℕ) where
   pub set-own : (name : List ℕ) (kind : ℕ) (bytes : List ℕ) → change_cause (at n store) session (SetValue h name kind bytes) 0 ≡ None →
       IsOwnEvent n store session (SetValue h name kind bytes) (record { handle = h; bits = LAST_SET })
   unfolding few_ending few_events removes closing watch_of
@@ -255,43 +256,43 @@ module _ (n : ℕ) (store : Store) (session h : ℕ) where
 
 -- the same, as they were admitted
 
-module _ (entries : ℕ) (store : Store) (session : ℕ) (change : Change) where
-  pub set-admitted-own : (found : ValueFound) → Admits entries store session change (SetAdmitted found) →
-      IsOwnEvent entries store session change (record { handle = found.handle; bits = LAST_SET })
+module _ (end : JournalEnd) (store : Store) (session : ℕ) (change : Change) where
+  pub set-admitted-own : (found : ValueFound) → Admits end store session change (SetAdmitted found) →
+      IsOwnEvent end store session change (record { handle = found.handle; bits = LAST_SET })
   set-admitted-own found a =
-      let at_found = subst (λ (h : ℕ). IsOwnEvent entries store session (SetValue a.0 found.name.now found.kind found.bytes.now) (record { handle = h; bits = LAST_SET }))
-      (sym a.2.by) (set-own entries store session a.0 found.name.now found.kind found.bytes.now a.2.clear) in
-      subst (λ (x : Change). IsOwnEvent entries store session x (record { handle = found.handle; bits = LAST_SET })) (sym a.1) at_found
+      let at_found = subst (λ (h : ℕ). IsOwnEvent end store session (SetValue a.0 found.name.now found.kind found.bytes.now) (record { handle = h; bits = LAST_SET }))
+      (sym a.2.by) (set-own end store session a.0 found.name.now found.kind found.bytes.now a.2.clear) in
+      subst (λ (x : Change). IsOwnEvent end store session x (record { handle = found.handle; bits = LAST_SET })) (sym a.1) at_found
 
-  pub drop-admitted-own : (found : RemovalFound) → Admits entries store session change (RemovalAdmitted found) →
-      IsOwnEvent entries store session change (record { handle = found.handle; bits = LAST_SET })
+  pub drop-admitted-own : (found : RemovalFound) → Admits end store session change (RemovalAdmitted found) →
+      IsOwnEvent end store session change (record { handle = found.handle; bits = LAST_SET })
   drop-admitted-own found a =
-      let at_found = subst (λ (h : ℕ). IsOwnEvent entries store session (DeleteValue a.0 a.1) (record { handle = h; bits = LAST_SET }))
-      (sym a.3.by) (drop-own entries store session a.0 a.1 a.3.clear) in
-      subst (λ (x : Change). IsOwnEvent entries store session x (record { handle = found.handle; bits = LAST_SET })) (sym a.2) at_found
+      let at_found = subst (λ (h : ℕ). IsOwnEvent end store session (DeleteValue a.0 a.1) (record { handle = h; bits = LAST_SET }))
+      (sym a.3.by) (drop-own end store session a.0 a.1 a.3.clear) in
+      subst (λ (x : Change). IsOwnEvent end store session x (record { handle = found.handle; bits = LAST_SET })) (sym a.2) at_found
 
-  pub secure-admitted-own : (found : SecurityFound) → Admits entries store session change (SecurityAdmitted found) →
-      IsOwnEvent entries store session change (record { handle = found.handle; bits = SECURITY })
+  pub secure-admitted-own : (found : SecurityFound) → Admits end store session change (SecurityAdmitted found) →
+      IsOwnEvent end store session change (record { handle = found.handle; bits = SECURITY })
   secure-admitted-own found a =
-      let at_found = subst (λ (h : ℕ). IsOwnEvent entries store session (SetSecurity a.0 found.descriptor.now) (record { handle = h; bits = SECURITY }))
-      (sym a.2.by) (secure-own entries store session a.0 found.descriptor.now a.2.clear) in
-      subst (λ (x : Change). IsOwnEvent entries store session x (record { handle = found.handle; bits = SECURITY })) (sym a.1) at_found
+      let at_found = subst (λ (h : ℕ). IsOwnEvent end store session (SetSecurity a.0 found.descriptor.now) (record { handle = h; bits = SECURITY }))
+      (sym a.2.by) (secure-own end store session a.0 found.descriptor.now a.2.clear) in
+      subst (λ (x : Change). IsOwnEvent end store session x (record { handle = found.handle; bits = SECURITY })) (sym a.1) at_found
 
 -- ---- changes that end no watch, as they were admitted
 
-module _ (entries : ℕ) (store : Store) (session : ℕ) (change : Change) where
-  root-quiet : (found : RootFound) → Admits entries store session change (RootAdmitted found) → IsAnnounced entries store session change Nothing
-  root-quiet found a = subst (λ (x : Change). IsAnnounced entries store session x Nothing) (sym a.0) (root-announced entries store session found.mask)
+module _ (end : JournalEnd) (store : Store) (session : ℕ) (change : Change) where
+  root-quiet : (found : RootFound) → Admits end store session change (RootAdmitted found) → IsAnnounced end store session change Nothing
+  root-quiet found a = subst (λ (x : Change). IsAnnounced end store session x Nothing) (sym a.0) (root-announced end store session found.mask)
 
-  open-quiet : (found : KeyFound) → Admits entries store session change (KeyAdmitted found) → IsAnnounced entries store session change Nothing
-  open-quiet found a = subst (λ (x : Change). IsAnnounced entries store session x Nothing) (sym a.2) (open-announced entries store session a.0 a.1 found.mask)
+  open-quiet : (found : KeyFound) → Admits end store session change (KeyAdmitted found) → IsAnnounced end store session change Nothing
+  open-quiet found a = subst (λ (x : Change). IsAnnounced end store session x Nothing) (sym a.2) (open-announced end store session a.0 a.1 found.mask)
 
-  notify-quiet : (found : WatchFound) → Admits entries store session change (WatchAdmitted found) → IsAnnounced entries store session change Nothing
-  notify-quiet found a = subst (λ (x : Change). IsAnnounced entries store session x Nothing) (sym a.0) (notify-announced entries store session found.handle found.filter found.subtree)
+  notify-quiet : (found : WatchFound) → Admits end store session change (WatchAdmitted found) → IsAnnounced end store session change Nothing
+  notify-quiet found a = subst (λ (x : Change). IsAnnounced end store session x Nothing) (sym a.0) (notify-announced end store session found.handle found.filter found.subtree)
 
-  pub quiet-announced : (admitted : Admitted) → Admits entries store session change admitted →
+  pub quiet-announced : (admitted : Admitted) → Admits end store session change admitted →
       ((x : RootFound) × (admitted ≡ RootAdmitted x)) ⊎ (((x : KeyFound) × (admitted ≡ KeyAdmitted x)) ⊎ ((x : WatchFound) × (admitted ≡ WatchAdmitted x))) →
-      IsAnnounced entries store session change Nothing
-  quiet-announced admitted a (inl is) = root-quiet is.0 (subst (Admits entries store session change) is.1 a)
-  quiet-announced admitted a (inr (inl is)) = open-quiet is.0 (subst (Admits entries store session change) is.1 a)
-  quiet-announced admitted a (inr (inr is)) = notify-quiet is.0 (subst (Admits entries store session change) is.1 a)
+      IsAnnounced end store session change Nothing
+  quiet-announced admitted a (inl is) = root-quiet is.0 (subst (Admits end store session change) is.1 a)
+  quiet-announced admitted a (inr (inl is)) = open-quiet is.0 (subst (Admits end store session change) is.1 a)
+  quiet-announced admitted a (inr (inr is)) = notify-quiet is.0 (subst (Admits end store session change) is.1 a)

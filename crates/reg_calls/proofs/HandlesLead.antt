@@ -14,6 +14,7 @@ use Rattle.reg_model.proofs.HandlesUntilClosed.{found, numbered-more, numbered-o
 use Rattle.reg_calls.specs.declared.store.Store.{Store}
 use Rattle.reg_calls.specs.Internal.Stores.{IsReady, IsTarget}
 use Rattle.reg_calls.specs.Internal.QuietKeys.{LeadsTo}
+use Rattle.reg_calls.specs.declared.store.JournalEnd.{JournalEnd}
 use Rattle.reg_calls.proofs.HandleLookUps.{target-at}
 
 -- the same look-up
@@ -90,7 +91,7 @@ lead-before w e n p below = elim e.change as (λ (change : Change). LeadsTo (aft
 
 -- ---- the handle of a change
 
-module _ (n : ℕ) (store : Store) (session h : ℕ) (t : IsTarget store session h) where
+module _ (n : JournalEnd) (store : Store) (session h : ℕ) (t : IsTarget store session h) where
   target-leads : LeadsTo store.handles.handles h t.path
   target-leads = record { handle = t.handle; found = (found session h store.handles.handles t.handle t.found).number; destination = t.destination }
 
@@ -105,7 +106,7 @@ module _ (n : ℕ) (store : Store) (session h : ℕ) (t : IsTarget store session
       ap path_in (sym l.destination ∙ ap (λ (x : Handle). x.destination) same ∙ t.destination) ∙ sym (target-at store session h t)
 
   -- and is older than the next entry
-  pub opened-before : IsReady n store → h < n
+  pub opened-before : IsReady n store → h < n.next
   unfolding target-leads
   opened-before ready =
-      numbered-below h n store.handles.handles t.handle (recursion_from_All (λ (x : Handle). x.number < n) store.handles.handles ready.below) target-leads.found
+      numbered-below h n.next store.handles.handles t.handle (recursion_from_All (λ (x : Handle). x.number < n.next) store.handles.handles ready.below) target-leads.found

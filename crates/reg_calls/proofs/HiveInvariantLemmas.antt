@@ -1,7 +1,7 @@
 -- A hive's tables are what its journal says, and stay so after one accepted change more.
 use Rattle.std.proofs.Common.{◌≡◌, ℕ, ◌+◌, ◌<◌, ◌≤◌, Bool, true, false, not, nat_le, eqb, cond, is_some, List, [], ◌∷◌, ◌++◌, length, Option, Some, None, refl, sym, ap, ◌∙◌, subst, arith}
-use Rattle.std.proofs.Common.{length-append, true≢false}
-use Rattle.std.specs.Prelude.{All, Err, ◌==◌, ◌-◌, nat_lt, get_or, slice_get}
+use Rattle.std.proofs.Common.{length-append, append_assoc, true≢false}
+use Rattle.std.specs.Prelude.{All, Err, ◌==◌, get_or, slice_index_or}
 use Rattle.std.specs.List.{AllByRecursion}
 use Rattle.std.proofs.lemmas.List.{length-map}
 use Rattle.std.proofs.lemmas.Bool.{false≢true}
@@ -28,50 +28,45 @@ use Rattle.reg_notify.specs.Tables.{told_to, taken_by}
 use Rattle.reg_arena.specs.Arena.{IsSound}
 use Rattle.reg_tree.specs.TreeKeys.{IsWholeTree}
 use Rattle.reg_calls.specs.declared.store.Store.{Store}
+use Rattle.reg_calls.specs.declared.store.JournalEnd.{JournalEnd}
 use Rattle.reg_calls.specs.Internal.Stores.{at, world_of, IsReady, IsCarriedOut, IsUnchanged, IsMade}
 use Rattle.reg_calls.specs.declared.lack.Lack.{Lack}
 use Rattle.reg_calls.proofs.KnownKeys.{unmade}
 use Rattle.reg_calls.specs.Shortages.{is_closing, growth_of}
 use Rattle.reg_calls.specs.Views.{HiveInvariant, View, view_with, state, IsHive, IsAccepted, IsAppliedBy, IsApplied}
 
--- a journal whose numbers begin at 0
-pub from-zero : {base n many : ℕ} → base ≡ 0 → n ≡ base + many → n ≡ many
-from-zero zero is = omega (arith, zero, is)
+-- where a journal ends
+abbrev pub ends_at : ℕ → List Entry → JournalEnd
+ends_at base es = record { kept = length es; next = base + length es }
+
+pub end-is : (end : JournalEnd) (base : ℕ) (es : List Entry) → end.kept ≡ length es → end.next ≡ base + length es → end ≡ ends_at base es
+end-is end base es kept next = λ i. record { kept = kept i; next = next i }
 
 -- the number after that of the last entry
-pub one-more : (es : List Entry) (e : Entry) {n : ℕ} {all : List Entry} → n ≡ length es → all ≡ es ++ e ∷ [] → n + 1 ≡ length all
-one-more es e is more =
+pub one-more : (base : ℕ) (es : List Entry) (e : Entry) {all : List Entry} → all ≡ es ++ e ∷ [] → base + length es + 1 ≡ base + length all
+one-more base es e more =
     let l = length-append es (e ∷ []) in
     let m = ap (λ (x : List Entry). length x) more in
-    omega (arith, l, m, is)
-
-pub entry-from-zero : (n : ℕ) (es : List Entry) {base : ℕ} {o : Option Entry} → base ≡ 0 → o ≡ cond (nat_lt n base) None (slice_get es (n - base)) → o ≡ slice_get es n
-entry-from-zero n es zero is = is ∙ ap (λ (b : ℕ). cond (nat_lt n b) None (slice_get es (n - b))) zero ∙ whole
-  where
-    whole : cond (nat_lt n 0) None (slice_get es (n - 0)) ≡ slice_get es n
-    whole =
-        let above : nat_lt n 0 ≡ false = grind (arith, nat_tests) in
-        let same : n - 0 ≡ n = omega arith in
-        rw (above, same) refl
+    omega (arith, l, m)
 
 -- ---- what is kept
 
-pub world-kept : {origin : Tree} {es : List Entry} {store : Store} {room : ℕ} → HiveInvariant origin es store room → world_of store ≡ replay origin es
+pub world-kept : {origin : Tree} {base : ℕ} {before : List (List Notice)} {es : List Entry} {store : Store} {room : ℕ} → HiveInvariant origin base before es store room → world_of store ≡ replay origin es
 world-kept kept = λ i. record { tree = kept.hive.tree i; handles = kept.hive.handles i }
 
-pub state-kept : {origin : Tree} {es : List Entry} {store : Store} {room : ℕ} → HiveInvariant origin es store room → state_of origin es ≡ at (length es) store
-state-kept {es = es} kept = λ i. record { kept = length es; next = length es; world = sym (world-kept kept) i; pending = sym kept.hive.pending i }
+pub state-kept : {origin : Tree} {base : ℕ} {before : List (List Notice)} {es : List Entry} {store : Store} {room : ℕ} → HiveInvariant origin base before es store room → state_of base origin es ≡ at (ends_at base es) store
+state-kept {base = base} {es = es} kept = λ i. record { kept = length es; next = base + length es; world = sym (world-kept kept) i; pending = sym kept.hive.pending i }
 
 -- the same at a hive's view
-pub state-view : {origin : Tree} {es : List Entry} {store : Store} {room : ℕ} (v : View) → HiveInvariant origin es store room →
-    view_with origin es store ≡ v → state v ≡ at (length es) store
+pub state-view : {origin : Tree} {base : ℕ} {before : List (List Notice)} {es : List Entry} {store : Store} {room : ℕ} (v : View) → HiveInvariant origin base before es store room →
+    view_with origin base before es store ≡ v → state v ≡ at (ends_at base es) store
 state-view v kept e = ap state (sym e) ∙ state-kept kept
 
-pub ready-kept : {origin : Tree} {es : List Entry} {store : Store} {room : ℕ} → HiveInvariant origin es store room → IsReady (length es) store
-ready-kept {origin = origin} {es = es} {store = store} kept = record {
-  stand = subst (λ (w : World). IsStanding w.tree w.handles) (sym (world-kept kept)) (is_standing origin es kept.hive.legal kept.hive.origin.root);
-  below = subst (All (λ (h : Handle). h.number < length es)) (sym kept.hive.handles) (handles-below origin es kept.hive.legal);
-  watched = subst (All (λ (v : Watch). v.number < length es)) (sym kept.hive.pending) (watches-below origin es kept.hive.legal);
+pub ready-kept : {origin : Tree} {base : ℕ} {before : List (List Notice)} {es : List Entry} {store : Store} {room : ℕ} → HiveInvariant origin base before es store room → IsReady (ends_at base es) store
+ready-kept {origin = origin} {base = base} {es = es} {store = store} kept = record {
+  stand = subst (λ (w : World). IsStanding w.tree w.handles) (sym (world-kept kept)) (is_standing base origin es kept.hive.legal kept.hive.origin.root);
+  below = subst (All (λ (h : Handle). h.number < base + length es)) (sym kept.hive.handles) (handles-below base origin es kept.hive.legal);
+  watched = subst (All (λ (v : Watch). v.number < base + length es)) (sym kept.hive.pending) (watches-below base origin es kept.hive.legal);
   known = kept.known;
   small = kept.hive.small;
 }
@@ -161,24 +156,28 @@ sessions-push : (es : List Entry) (e : Entry) → SessionsBelow es → e.session
 sessions-push [] e b l = (l, tt)
 sessions-push (x ∷ es) e b l = (b.0, sessions-push es e b.1 l)
 
+-- what a session was told before the journal began
+abbrev told_before : List (List Notice) → ℕ → List Notice
+told_before before s = slice_index_or before s []
+
 -- the entry that an accepted change becomes
-abbrev pub entry_with : List Entry → ℕ → ℕ → Change → ChangeReply → Entry
-entry_with es session moment change told = record { number = length es; session = session; moment = moment; change = change; reply = told }
+abbrev pub entry_with : ℕ → List Entry → ℕ → ℕ → Change → ChangeReply → Entry
+entry_with base es session moment change told = record { number = base + length es; session = session; moment = moment; change = change; reply = told }
 
 -- where so much room is kept, the journal's room lasts: two more than there are handles, or for a Close as many
 abbrev pub HasRoom : ℕ → Store → Change → Type 0
 HasRoom room store change = (is_closing change ≡ false → length store.handles.handles + 2 ≤ room) × (is_closing change ≡ true → length store.handles.handles ≤ room)
 
-module _ {origin : Tree} {es : List Entry} {store : Store} {room : ℕ} (kept : HiveInvariant origin es store room) (session moment : ℕ) (change : Change)
-    (none : change_cause (at (length es) store) session change 0 ≡ None)
-    (new : Store) (told : ChangeReply) (done : IsCarriedOut store new session moment (length es) change told) where
+module _ {origin : Tree} {base : ℕ} {before : List (List Notice)} {es : List Entry} {store : Store} {room : ℕ} (kept : HiveInvariant origin base before es store room) (session moment : ℕ) (change : Change)
+    (none : change_cause (at (ends_at base es) store) session change 0 ≡ None)
+    (new : Store) (told : ChangeReply) (done : IsCarriedOut store new session moment (ends_at base es) change told) where
   abbrev e : Entry
-  e = entry_with es session moment change told
+  e = entry_with base es session moment change told
 
-  due : e ≡ entry_due (at (length es) store) session moment change
-  due = ap (λ (r : ChangeReply). entry_with es session moment change r) done.reply
+  due : e ≡ entry_due (at (ends_at base es) store) session moment change
+  due = ap (λ (r : ChangeReply). entry_with base es session moment change r) done.reply
 
-  pub fit-done : IsFit origin es e
+  pub fit-done : IsFit base origin es e
   fit-done = record {
     number = refl;
     accepted = subst (λ (s : State). change_cause s session change 0 ≡ None) (sym (state-kept kept)) none;
@@ -193,26 +192,29 @@ module _ {origin : Tree} {es : List Entry} {store : Store} {room : ℕ} (kept : 
   pending-done =
       done.watches.pending
       ∙ ((λ i. pending_past (few_ending (world-kept kept i) (sym due i)) (watch_of (world-kept kept i) (sym due i)) (kept.hive.pending i))
-      ∙ sym (few-pending origin es e kept.hive.origin kept.hive.legal fit-done))
+      ∙ sym (few-pending base origin es e kept.hive.origin kept.hive.legal fit-done))
 
-  told-done : (s : ℕ) → told_to new.watches s ≡ fired origin (es ++ e ∷ []) s
+  told-done : (s : ℕ) → told_to new.watches s ≡ told_before before s ++ fired origin (es ++ e ∷ []) s
   told-done s =
       done.watches.told s
       ∙ ((λ i. kept.hive.told s i ++ notices s (few_ending (world-kept kept i) (sym due i)) (kept.hive.pending i))
-      ∙ sym (few-fired origin es e s kept.hive.origin kept.hive.legal fit-done))
+      ∙ (append_assoc (told_before before s) (fired origin es s) (notices s (few_ending (replay origin es) e) (pending origin es))
+      ∙ ap (λ (ns : List Notice). told_before before s ++ ns) (sym (few-fired base origin es e s kept.hive.origin kept.hive.legal fit-done))))
 
-  taken-done : (s : ℕ) → taken_by new.watches s ≤ length (fired origin (es ++ e ∷ []) s)
+  taken-done : (s : ℕ) → taken_by new.watches s ≤ length (told_before before s ++ fired origin (es ++ e ∷ []) s)
   taken-done s =
       let same = ap (λ (taken : List ℕ). get_or taken s 0) done.watches.taken in
       let most = kept.hive.taken s in
+      let was = length-append (told_before before s) (fired origin es s) in
+      let now = length-append (told_before before s) (fired origin (es ++ e ∷ []) s) in
       let more = ap (λ (told : List Notice). length told) (fired-push origin es e s) in
       let both = length-append (fired origin es s) (notices s (ending (replay origin es) e) (pending origin es)) in
-      omega (arith, same, most, more, both)
+      omega (arith, same, most, was, now, more, both)
 
-  fits-done : Fits (at (length es) store) change new.handles.handles
+  fits-done : Fits (at (ends_at base es) store) change new.handles.handles
   fits-done =
-      let f = fits (at (length es) store) (entry_due (at (length es) store) session moment change) kept.hive.small none in
-      subst (λ (w : World). Fits (at (length es) store) change w.handles) (sym done.world) f
+      let f = fits (at (ends_at base es) store) (entry_due (at (ends_at base es) store) session moment change) kept.hive.small none in
+      subst (λ (w : World). Fits (at (ends_at base es) store) change w.handles) (sym done.world) f
 
   by_closing : (P : Type 0) → (is_closing change ≡ true → P) → (is_closing change ≡ false → P) → P
   by_closing P yes_closing not_closing = by (is_closing change) refl
@@ -229,7 +231,7 @@ module _ {origin : Tree} {es : List Entry} {store : Store} {room : ℕ} (kept : 
   -- the hive after it, whose cells are sound and whole
   pub kept-done : (room' room'' : ℕ) → session < SESSIONS_LIMIT → IsSound new.tree.bins.bytes new.tree.bins.heads →
       IsWholeTree new.tree.bins.bytes new.tree.root new.tree.tree → HasRoom room' store change → room' ≤ room'' + 1 →
-      HiveInvariant origin (es ++ e ∷ []) new room''
+      HiveInvariant origin base before (es ++ e ∷ []) new room''
   kept-done room' room'' below sound whole h used =
       let f = fits-done in
       let l = length-append es (e ∷ []) in
@@ -238,7 +240,7 @@ module _ {origin : Tree} {es : List Entry} {store : Store} {room : ℕ} (kept : 
         hive = record {
           origin = kept.hive.origin;
           limits = kept.hive.limits;
-          legal = legal-push origin es e kept.hive.legal fit-done;
+          legal = legal-push base origin es e kept.hive.legal fit-done;
           sessions = sessions-push es e kept.hive.sessions below;
           small = omega (arith, small, l);
           tree = ap (λ (w : World). w.tree) world-done;
@@ -257,45 +259,47 @@ module _ {origin : Tree} {es : List Entry} {store : Store} {room : ℕ} (kept : 
 -- ---- no entry more
 
 -- a change that isn't made leaves the hive, save that more room may be kept
-pub view-unchanged : {store new : Store} (origin : Tree) (es : List Entry) → IsUnchanged store new →
-    view_with origin es new ≡ view_with origin es store
-view-unchanged origin es u = λ i. record { origin = origin; journal = es; keys = u.tree i; handles = u.handles i; watches = u.watches i }
+pub view-unchanged : {store new : Store} (origin : Tree) (base : ℕ) (before : List (List Notice)) (es : List Entry) → IsUnchanged store new →
+    view_with origin base before es new ≡ view_with origin base before es store
+view-unchanged origin base before es u = λ i. record { origin = origin; base = base; before = before; journal = es; keys = u.tree i; handles = u.handles i; watches = u.watches i }
 
-pub kept-unchanged : {origin : Tree} {es : List Entry} {store : Store} {room : ℕ} → HiveInvariant origin es store room → (new : Store) (room' : ℕ) →
-    IsUnchanged store new → room ≤ room' → HiveInvariant origin es new room'
-kept-unchanged {origin = origin} {es = es} kept new room' u more =
+pub kept-unchanged : {origin : Tree} {base : ℕ} {before : List (List Notice)} {es : List Entry} {store : Store} {room : ℕ} → HiveInvariant origin base before es store room → (new : Store) (room' : ℕ) →
+    IsUnchanged store new → room ≤ room' → HiveInvariant origin base before es new room'
+kept-unchanged {origin = origin} {base = base} {before = before} {es = es} kept new room' u more =
     let handles = ap (λ (hs : List Handle). length hs) u.handles in
     let few = kept.room_kept in
-    record { hive = subst IsHive (sym (view-unchanged origin es u)) kept.hive; room_kept = omega (arith, handles, few, more); known = u.known }
+    record { hive = subst IsHive (sym (view-unchanged origin base before es u)) kept.hive; room_kept = omega (arith, handles, few, more); known = u.known }
 
 -- room is kept for more
-pub kept-roomier : {origin : Tree} {es : List Entry} {store : Store} {room : ℕ} → HiveInvariant origin es store room → (es' : List Entry) (room' : ℕ) → es' ≡ es → room ≤ room' →
-    HiveInvariant origin es' store room'
-kept-roomier {origin = origin} {store = store} kept es' room' same more =
+pub kept-roomier : {origin : Tree} {base : ℕ} {before : List (List Notice)} {es : List Entry} {store : Store} {room : ℕ} → HiveInvariant origin base before es store room → (es' : List Entry) (room' : ℕ) → es' ≡ es → room ≤ room' →
+    HiveInvariant origin base before es' store room'
+kept-roomier {origin = origin} {base = base} {before = before} {store = store} kept es' room' same more =
     let few = kept.room_kept in
-    subst (λ (x : List Entry). HiveInvariant origin x store room') (sym same) (record { hive = kept.hive; room_kept = omega (arith, few, more); known = kept.known })
+    subst (λ (x : List Entry). HiveInvariant origin base before x store room') (sym same) (record { hive = kept.hive; room_kept = omega (arith, few, more); known = kept.known })
 
 -- the same as the call names its steps
-pub kept-unmade : {origin : Tree} {es : List Entry} {store : Store} {room : ℕ} → HiveInvariant origin es store room → (new : Store) (es' : List Entry) (room' : ℕ) →
-    (session moment n : ℕ) (change : Change) (lack : Lack) → IsMade store new session moment n change (Err lack) → es' ≡ es → room ≤ room' → HiveInvariant origin es' new room'
-kept-unmade {origin = origin} kept new es' room' session moment n change lack made same more =
-    subst (λ (x : List Entry). HiveInvariant origin x new room') (sym same) (kept-unchanged kept new room' (unmade _ new session moment n change lack made) more)
+pub kept-unmade : {origin : Tree} {base : ℕ} {before : List (List Notice)} {es : List Entry} {store : Store} {room : ℕ} → HiveInvariant origin base before es store room → (new : Store) (es' : List Entry) (room' : ℕ) →
+    (session moment : ℕ) (n : JournalEnd) (change : Change) (lack : Lack) → IsMade store new session moment n change (Err lack) → es' ≡ es → room ≤ room' → HiveInvariant origin base before es' new room'
+kept-unmade {origin = origin} {base = base} {before = before} kept new es' room' session moment n change lack made same more =
+    subst (λ (x : List Entry). HiveInvariant origin base before x new room') (sym same) (kept-unchanged kept new room' (unmade _ new session moment n change lack made) more)
 
 -- ---- what a change is answered
 
 -- a change that was made is accepted
-pub accepted : {origin : Tree} {es : List Entry} {store : Store} {room : ℕ} (kept : HiveInvariant origin es store room) (v new : View) →
-    view_with origin es store ≡ v → (session moment : ℕ) (change : Change) (told : ChangeReply) →
-    told ≡ reply_to (at (length es) store) session change → new.journal ≡ es ++ entry_with es session moment change told ∷ [] → new.origin ≡ origin →
+pub accepted : {origin : Tree} {base : ℕ} {before : List (List Notice)} {es : List Entry} {store : Store} {room : ℕ} (kept : HiveInvariant origin base before es store room) (v new : View) →
+    view_with origin base before es store ≡ v → (session moment : ℕ) (change : Change) (told : ChangeReply) →
+    told ≡ reply_to (at (ends_at base es) store) session change → new.journal ≡ es ++ entry_with base es session moment change told ∷ [] → new.origin ≡ origin → new.base ≡ base → new.before ≡ before →
     new.watches.taken ≡ store.watches.taken → (changes_keys change told ≡ false → new.keys ≡ store.tree) →
     length store.tree.bins.bytes ≤ length new.keys.bins.bytes →
     length new.keys.bins.bytes ≤ length store.tree.bins.bytes + growth_of change → IsHive new → IsAccepted v new session moment change told
-accepted {origin = origin} {es = es} {store = store} kept v new view_is session moment change told reply journal same taken kept_keys kept_bins grows hive =
+accepted {origin = origin} {base = base} {before = before} {es = es} {store = store} kept v new view_is session moment change told reply journal same same_base same_before taken kept_keys kept_bins grows hive =
     let says = reply ∙ ap (λ (s : State). reply_to s session change) (sym (state-kept kept)) in
     subst (λ (w : View). IsAccepted w new session moment change told) view_is (record {
       says = says;
-      journal = journal ∙ ap (λ (r : ChangeReply). es ++ entry_with es session moment change r ∷ []) says;
+      journal = journal ∙ ap (λ (r : ChangeReply). es ++ entry_with base es session moment change r ∷ []) says;
       origin = same;
+      base = same_base;
+      before = same_before;
       taken = taken;
       kept_keys = kept_keys;
       kept = kept_bins;
@@ -304,7 +308,7 @@ accepted {origin = origin} {es = es} {store = store} kept v new view_is session 
     })
 
 -- the cause decides what is answered
-pub applied-by : (callbacks : Callbacks) (v new : View) (session moment : ℕ) (change : Change) (reply : ChangeReply) (n : ℕ) (store : Store) (o : Option ℕ) → state v ≡ at n store →
+pub applied-by : (callbacks : Callbacks) (v new : View) (session moment : ℕ) (change : Change) (reply : ChangeReply) (n : JournalEnd) (store : Store) (o : Option ℕ) → state v ≡ at n store →
     o ≡ change_cause (at n store) session change (change_status callbacks (world_of store) session moment change) →
     IsAppliedBy o v new session moment change reply → IsApplied callbacks v new session moment change reply
 applied-by callbacks v new session moment change reply n store o is cause by =

@@ -17,6 +17,7 @@ use Rattle.reg_model.specs.declared.call.Change.{Change}
 use Rattle.reg_calls.specs.declared.store.Store.{Store}
 use Rattle.reg_calls.specs.declared.lack.Lack.{Lack}
 use Rattle.reg_calls.specs.declared.lack.Lack.TheVariants.{Space, Memory as Short}
+use Rattle.reg_calls.specs.declared.store.JournalEnd.{JournalEnd}
 use Rattle.reg_calls.specs.Internal.Stores.{KnowsKeys, IsUnchanged, IsMade}
 
 some_one : (a b : Node) → Some a ≡ Some b → a ≡ b
@@ -43,7 +44,7 @@ unchanged old new known same = record {
 }
 
 -- what a change that isn't made leaves
-pub unmade : (old new : Store) (session moment n : ℕ) (change : Change) (lack : Lack) → IsMade old new session moment n change (Err lack) → IsUnchanged old new
+pub unmade : (old new : Store) (session moment : ℕ) (n : JournalEnd) (change : Change) (lack : Lack) → IsMade old new session moment n change (Err lack) → IsUnchanged old new
 unmade old new session moment n change Space made = made.0
 unmade old new session moment n change Short made = made.0
 

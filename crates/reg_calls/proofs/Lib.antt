@@ -19,4 +19,5 @@ pub mod AcceptedChanges
 pub mod RememberedEvents
 pub mod QuietChanges
 pub mod HandlesLead
+pub mod SharesOfHives
 pub mod LargestNumbers

@@ -23,6 +23,7 @@ use Rattle.reg_calls.specs.Internal.Stores.{at, IsTarget}
 use Rattle.reg_calls.specs.Views.{IsReadBy, IsTold, is_told}
 use Rattle.reg_calls.proofs.HandleLookUps.{by_handle-at, target-at}
 use Rattle.reg_model.proofs.HandleInvariant.{has-put}
+use Rattle.reg_calls.specs.declared.store.JournalEnd.{JournalEnd}
 use Rattle.reg_calls.proofs.RefusalTests.{Refuses, first}
 
 -- a refusal is told
@@ -33,7 +34,7 @@ refused s session c status q e = rw e (inl refl)
 pub told : (s : State) (session c : ℕ) (q : Query) (due body : AnswerBody) → query_cause s session q c ≡ None → body_of s session q ≡ due → IsTold due body → IsReadBy c s session q body
 told s session c q due body none is t = rw (none, is) t
 
-module _ (n : ℕ) (store : Store) (session h c : ℕ) where
+module _ (n : JournalEnd) (store : Store) (session h c : ℕ) where
   abbrev s : State
   s = at n store
 

@@ -23,6 +23,7 @@ use Rattle.reg_calls.specs.Internal.Announcements.{ending_in, IsAnnounced}
 use Rattle.reg_calls.specs.Internal.QuietKeys.{Remembers, HitsNone, LeadsTo, IsUnhit, AreUnhit, IsOwnEvent}
 use Rattle.reg_calls.proofs.HandlesLead.{lead-before, leads-here, path-led, opened-before}
 use Rattle.reg_calls.proofs.AnnouncedChanges.{ended}
+use Rattle.reg_calls.specs.declared.store.JournalEnd.{JournalEnd}
 use Rattle.reg_calls.proofs.ToldWatches.{Agree, nothing-ends}
 
 -- ---- lists that are filtered
@@ -80,7 +81,7 @@ unhit-all bits p n (v ∷ vs) all = (stays-unhit bits p n v all.0, unhit-all bit
 
 agree-unhit : (bits : ℕ) (p : Path) (n : ℕ) (vs : List Watch) → HitsNone (event_at bits p) vs → Agree (ending_in Nothing n) (ended bits p (λ q. false) n) vs
 agree-unhit bits p n [] none = tt
-agree-unhit bits p n (v ∷ vs) none = (nothing-ends n v ∙ sym (unhit-stays bits p n v none.0), agree-unhit bits p n vs none.1)
+agree-unhit bits p n (v ∷ vs) none = (nothing-ends n.next v ∙ sym (unhit-stays bits p n v none.0), agree-unhit bits p n vs none.1)
 
 -- a change that asks for a watch ends none
 asks-alone : (w : World) (e : Entry) (v : Watch) → watch_of w e ≡ Some v → (u : Watch) → stays (few_ending w e) u ≡ true
@@ -100,15 +101,15 @@ asks-alone w e v = elim e.change as (λ (change : Change). watch_of w (record e 
 
 -- ---- an event that is remembered
 
-pub remembered-announced : (n : ℕ) (store : Store) (session : ℕ) (change : Change) (q : Quiet) (event : OwnEvent) (number : ℕ) → Remembers q event.handle event.bits number → AreUnhit n store q →
+pub remembered-announced : (n : JournalEnd) (store : Store) (session : ℕ) (change : Change) (q : Quiet) (event : OwnEvent) (number : ℕ) → Remembers q event.handle event.bits number → AreUnhit n.next store q →
     IsOwnEvent n store session change event → IsAnnounced n store session change Nothing
 remembered-announced n store session change q event number r unhit own =
     let p = path_at session event.handle store.handles.handles in
     let none = (unhit event.handle event.bits number r).none p (leads-here n store session event.handle own.target) in
     record {
       kinds = tt;
-      ends = λ moment. subst (λ (x : Ending). Agree (ending_in Nothing n) x store.watches.pending) (sym (own.ends moment)) (agree-unhit event.bits p n store.watches.pending none);
-      spares = λ moment v is. nothing-ends n v;
+      ends = λ moment. subst (λ (x : Ending). Agree (ending_in Nothing n.next) x store.watches.pending) (sym (own.ends moment)) (agree-unhit event.bits p n.next store.watches.pending none);
+      spares = λ moment v is. nothing-ends n.next v;
     }
 
 -- ---- what is remembered after a change
@@ -123,7 +124,7 @@ unhit-same n old new q handles pending unhit = λ handle bits number r.
       none = λ p l. subst (HitsNone (event_at bits p)) (sym pending) (u.none p (subst (λ (hs : List Handle). LeadsTo hs handle p) handles l));
     }
 
-module _ (n : ℕ) (old new : Store) (session moment : ℕ) (change : Change) (told : ChangeReply) (ready : IsReady n old) (done : IsCarriedOut old new session moment n change told) where
+module _ (n : JournalEnd) (old new : Store) (session moment : ℕ) (change : Change) (told : ChangeReply) (ready : IsReady n old) (done : IsCarriedOut old new session moment n change told) where
   abbrev e : Entry
   e = entry_due (at n old) session moment change
 
@@ -149,12 +150,12 @@ module _ (n : ℕ) (old new : Store) (session moment : ℕ) (change : Change) (t
       by None is = done.watches.pending ∙ (λ i. left ++ option_to_list (is i)) ∙ append-nil left
       by (Some v) is = let more = asked-more v is in absurd (omega (arith, more, most))
 
-  leads-old : (h : ℕ) (p : Path) → h < n → LeadsTo new.handles.handles h p → LeadsTo old.handles.handles h p
+  leads-old : (h : ℕ) (p : Path) → h < n.next → LeadsTo new.handles.handles h p → LeadsTo old.handles.handles h p
   leads-old h p below l =
       lead-before (world_of old) e h p below (subst (λ (w : World). LeadsTo w.handles h p) done.world l)
 
   -- what was remembered before
-  still-unhit : (h bits number : ℕ) → IsUnhit old n h bits number → length new.watches.pending ≤ length old.watches.pending → IsUnhit new (n + 1) h bits number
+  still-unhit : (h bits number : ℕ) → IsUnhit old n.next h bits number → length new.watches.pending ≤ length old.watches.pending → IsUnhit new (n.next + 1) h bits number
   still-unhit h bits number u most =
       let past = u.past in
       let opened = u.opened in
@@ -165,14 +166,14 @@ module _ (n : ℕ) (old new : Store) (session moment : ℕ) (change : Change) (t
       }
 
   -- the change's own event
-  own-unhit : (event : OwnEvent) → IsOwnEvent n old session change event → length old.watches.pending ≡ length new.watches.pending → IsUnhit new (n + 1) event.handle event.bits n
+  own-unhit : (event : OwnEvent) → IsOwnEvent n old session change event → length old.watches.pending ≡ length new.watches.pending → IsUnhit new (n.next + 1) event.handle event.bits n.next
   own-unhit event own same =
       let most : length new.watches.pending ≤ length old.watches.pending = omega (arith, same) in
       let opened = opened-before n old session event.handle own.target ready in
       let here = path_at session event.handle old.handles.handles in
       let all = all-left (stays x) old.watches.pending (ap (λ (vs : List Watch). length vs) (sym (asked-none most)) ∙ sym same) in
       let none : HitsNone (event_at event.bits here) old.watches.pending =
-      unhit-all event.bits here n old.watches.pending (subst (λ (y : Ending). AllByRecursion (λ (v : Watch). stays y v ≡ true) old.watches.pending) (own.ends moment) all) in
+      unhit-all event.bits here n.next old.watches.pending (subst (λ (y : Ending). AllByRecursion (λ (v : Watch). stays y v ≡ true) old.watches.pending) (own.ends moment) all) in
       record {
         past = omega arith;
         opened = omega (arith, opened);
@@ -182,24 +183,24 @@ module _ (n : ℕ) (old new : Store) (session moment : ℕ) (change : Change) (t
             (left-none (event_at event.bits p) (stays x) old.watches.pending (subst (λ (q : Path). HitsNone (event_at event.bits q) old.watches.pending) (sym is) none));
       }
 
-  pub quiet-follows : (q q' : Quiet) (event : OwnEvent) (before after : ℕ) → AreUnhit n old q → (0 < event.bits → IsOwnEvent n old session change event) →
+  pub quiet-follows : (q q' : Quiet) (event : OwnEvent) (before after : ℕ) → AreUnhit n.next old q → (0 < event.bits → IsOwnEvent n old session change event) →
       before ≡ length old.watches.pending → after ≡ length new.watches.pending →
       ((handle bits number : ℕ) → Remembers q' handle bits number →
-      (Remembers q handle bits number × ((after ≤ before) ⊎ (n ≤ number))) ⊎ ((before ≡ after) × (0 < bits) × (handle ≡ event.handle) × (bits ≡ event.bits) × (number ≡ n))) →
-      AreUnhit (n + 1) new q'
+      (Remembers q handle bits number × ((after ≤ before) ⊎ (n.next ≤ number))) ⊎ ((before ≡ after) × (0 < bits) × (handle ≡ event.handle) × (bits ≡ event.bits) × (number ≡ n.next))) →
+      AreUnhit (n.next + 1) new q'
   quiet-follows q q' event before after unhit own was now follows = λ handle bits number r. by handle bits number (follows handle bits number r)
     where
       by : (handle bits number : ℕ) →
-          (Remembers q handle bits number × ((after ≤ before) ⊎ (n ≤ number))) ⊎ ((before ≡ after) × (0 < bits) × (handle ≡ event.handle) × (bits ≡ event.bits) × (number ≡ n)) →
-          IsUnhit new (n + 1) handle bits number
+          (Remembers q handle bits number × ((after ≤ before) ⊎ (n.next ≤ number))) ⊎ ((before ≡ after) × (0 < bits) × (handle ≡ event.handle) × (bits ≡ event.bits) × (number ≡ n.next)) →
+          IsUnhit new (n.next + 1) handle bits number
       by handle bits number (inl f) = kept (unhit handle bits number f.0) f.1
         where
-          kept : IsUnhit old n handle bits number → (after ≤ before) ⊎ (n ≤ number) → IsUnhit new (n + 1) handle bits number
+          kept : IsUnhit old n.next handle bits number → (after ≤ before) ⊎ (n.next ≤ number) → IsUnhit new (n.next + 1) handle bits number
           kept u (inl most) = still-unhit handle bits number u (omega (arith, most, was, now))
           kept u (inr late) = let past = u.past in absurd (omega (arith, late, past))
       by handle bits number (inr f) =
           let same : length old.watches.pending ≡ length new.watches.pending = sym was ∙ f.0 ∙ now in
           let some : 0 < event.bits = subst (λ (b : ℕ). 0 < b) f.3 f.1 in
           let done_so = own-unhit event (own some) same in
-          subst (λ (t : ℕ). IsUnhit new (n + 1) handle bits t) (sym f.4)
-          (subst (λ (b : ℕ). IsUnhit new (n + 1) handle b n) (sym f.3) (subst (λ (k : ℕ). IsUnhit new (n + 1) k event.bits n) (sym f.2) done_so))
+          subst (λ (t : ℕ). IsUnhit new (n.next + 1) handle bits t) (sym f.4)
+          (subst (λ (b : ℕ). IsUnhit new (n.next + 1) handle b n.next) (sym f.3) (subst (λ (k : ℕ). IsUnhit new (n.next + 1) k event.bits n) (sym f.2) done_so))

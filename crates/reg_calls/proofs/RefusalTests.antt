@@ -20,6 +20,7 @@ use Rattle.reg_model.specs.declared.call.Change.TheVariants.{OpenRoot, OpenKey, 
 use Rattle.reg_calls.specs.declared.store.Store.{Store}
 use Rattle.reg_calls.specs.Internal.Stores.{at, IsTarget}
 use Rattle.reg_calls.specs.Internal.DeletedTrees.{keeps_tree}
+use Rattle.reg_calls.specs.declared.store.JournalEnd.{JournalEnd}
 use Rattle.reg_calls.proofs.HandleLookUps.{by_handle-at, target-at, target-from}
 
 abbrev pub Refuses : Store → ℕ → ℕ → ℕ → Type 0
@@ -47,7 +48,7 @@ pub root-refused : (s : State) (session mask c status : ℕ) → bit_and mask 42
 unfolding early_cause late_cause
 root-refused s session mask c status good room refused = let m : is_mask mask ≡ true = grind (arith, nat_tests, good) in rw (m, room, refused) refl
 
-module _ (n : ℕ) (store : Store) (session h c : ℕ) where
+module _ (n : JournalEnd) (store : Store) (session h c : ℕ) where
   abbrev s : State
   s = at n store
 

@@ -37,6 +37,7 @@ use Rattle.reg_calls.specs.Internal.Stores.{at, world_of, KnowsKeys, IsReady, Is
 use Rattle.reg_calls.specs.Internal.Lacks.{lack_of}
 use Rattle.reg_calls.specs.Shortages.{LacksSpace, is_closing}
 use Rattle.reg_calls.proofs.FoundTrees.{has-names, from-nowhere}
+use Rattle.reg_calls.specs.declared.store.JournalEnd.{JournalEnd}
 use Rattle.reg_calls.proofs.TableAndLimitLemmas.{not_above}
 
 -- ---- keys of which none is missing
@@ -75,7 +76,7 @@ given-described (Some descriptor) bytes good = described (bytes descriptor) good
 no-growth : (store : Store) → length store.tree.bins.bytes ≤ length store.tree.bins.bytes + 0
 no-growth store = omega arith
 
-module _ (n : ℕ) (store : Store) (session : ℕ) (ready : IsReady n store) where
+module _ (n : JournalEnd) (store : Store) (session : ℕ) (ready : IsReady n store) where
   abbrev s : State
   s = at n store
 
@@ -89,13 +90,13 @@ module _ (n : ℕ) (store : Store) (session : ℕ) (ready : IsReady n store) whe
   room-few e = let b = both_false (nat_le HANDLES_LIMIT (handles_of session hs)) (is_full 2 s) e in grind (arith, nat_tests, b.0)
 
   abbrev added : Table Node → ℕ → List ℕ → Type 0
-  added table mask text = table.handles ≡ hs ++ record { number = n; session = session; mask = mask; destination = At (path_of text) } ∷ []
+  added table mask text = table.handles ≡ hs ++ record { number = n.next; session = session; mask = mask; destination = At (path_of text) } ∷ []
 
   abbrev pub opening : Option ℕ → ChangeReply
-  opening disposition = record { status = 0; number = Some n; handle = Some n; disposition = disposition }
+  opening disposition = record { status = 0; number = Some n.next; handle = Some n.next; disposition = disposition }
 
   abbrev pub plain : ChangeReply
-  plain = record { status = 0; number = Some n; handle = None; disposition = None }
+  plain = record { status = 0; number = Some n.next; handle = None; disposition = None }
 
   -- ---- OpenRoot
 
@@ -107,7 +108,7 @@ module _ (n : ℕ) (store : Store) (session : ℕ) (ready : IsReady n store) whe
       IsDone store (record { tree = store.tree; handles = table; watches = store.watches }) session moment n (OpenRoot mask) told
   unfolding after reply_to watch_of changes_keys
   root-done moment mask table text empty add told e known =
-      let handles = add ∙ ap (λ (t : List ℕ). hs ++ record { number = n; session = session; mask = mask; destination = At (path_of t) } ∷ []) empty in
+      let handles = add ∙ ap (λ (t : List ℕ). hs ++ record { number = n.next; session = session; mask = mask; destination = At (path_of t) } ∷ []) empty in
       record { world = λ i. record { tree = tree; handles = handles i }; reply = e; kept_keys = λ none. refl; kept = omega arith; grows = no-growth store; known = known; watches = refl }
 
   -- ---- OpenKey
@@ -117,12 +118,12 @@ module _ (n : ℕ) (store : Store) (session : ℕ) (ready : IsReady n store) whe
     open-room = let m = open-met s session h path mask 0 c in room-few m.room
 
     pub open-done : (moment : ℕ) (table : Table Node) (to : Path) → to ≡ path_from session h hs path →
-        table.handles ≡ hs ++ record { number = n; session = session; mask = mask; destination = At to } ∷ [] → (told : ChangeReply) → told ≡ opening None → KnowsKeys (record { tree = store.tree; handles = table; watches = store.watches }) →
+        table.handles ≡ hs ++ record { number = n.next; session = session; mask = mask; destination = At to } ∷ [] → (told : ChangeReply) → told ≡ opening None → KnowsKeys (record { tree = store.tree; handles = table; watches = store.watches }) →
         IsDone store (record { tree = store.tree; handles = table; watches = store.watches }) session moment n
         (OpenKey h path mask) told
     unfolding after reply_to watch_of changes_keys
     open-done moment table to names add told e known =
-        let handles = add ∙ ap (λ (p : Path). hs ++ record { number = n; session = session; mask = mask; destination = At p } ∷ []) names in
+        let handles = add ∙ ap (λ (p : Path). hs ++ record { number = n.next; session = session; mask = mask; destination = At p } ∷ []) names in
         record { world = λ i. record { tree = tree; handles = handles i }; reply = e; kept_keys = λ none. refl; kept = omega arith; grows = no-growth store; known = known; watches = refl }
 
   -- ---- CreateKey
@@ -145,7 +146,7 @@ module _ (n : ℕ) (store : Store) (session : ℕ) (ready : IsReady n store) whe
         IsDone store (record { tree = keys; handles = table; watches = store.watches }) session moment n (CreateKey h path mask given) told
     unfolding after reply_to watch_of
     create-done moment keys table text names made add told e same kept larger known =
-        let handles = add ∙ ap (λ (p : Path). hs ++ record { number = n; session = session; mask = mask; destination = At p } ∷ []) names in
+        let handles = add ∙ ap (λ (p : Path). hs ++ record { number = n.next; session = session; mask = mask; destination = At p } ∷ []) names in
         record { world = λ i. record { tree = made i; handles = handles i }; reply = e; kept_keys = same; kept = kept; grows = larger; known = known; watches = refl }
 
     -- where no key is missing
@@ -276,7 +277,7 @@ module _ (n : ℕ) (store : Store) (session : ℕ) (ready : IsReady n store) whe
     watch-target = let m = notify-met s session h filter subtree 0 c in m.target
 
     abbrev watch : Path → Watch
-    watch p = record { number = n; session = session; handle = h; path = p; filter = filter; subtree = subtree }
+    watch p = record { number = n.next; session = session; handle = h; path = p; filter = filter; subtree = subtree }
 
     pub notify-done : (moment : ℕ) (watches : Watches) (p : Path) → p ≡ path_at session h hs → Adds (watch p) store.watches watches → (told : ChangeReply) → told ≡ plain →
         IsDone store (record { tree = store.tree; handles = store.handles; watches = watches }) session moment n (Notify h filter subtree) told
@@ -308,7 +309,7 @@ pub lacks_full : (fault : ArenaFault) (lack : Lack) → lack ≡ lack_of fault �
 lacks_full Full lack e space = refl
 lacks_full NoMemory lack e space = absurd (cc)
 
-pub lacking : (old new : Store) (session moment n : ℕ) (change : Change) (lack : Lack) → IsUnchanged old new → is_closing change ≡ false →
+pub lacking : (old new : Store) (session moment : ℕ) (n : JournalEnd) (change : Change) (lack : Lack) → IsUnchanged old new → is_closing change ≡ false →
     (lack ≡ Space → LacksSpace old.tree old.handles.handles session change) → IsMade old new session moment n change (Err lack)
 lacking old new session moment n change Space same opens space = (same, space refl)
 lacking old new session moment n change Short same opens space = (same, opens)

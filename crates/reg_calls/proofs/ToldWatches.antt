@@ -16,6 +16,7 @@ use Rattle.reg_calls.specs.declared.store.Store.{Store}
 use Rattle.reg_calls.specs.declared.announced.Announced.{Announced}
 use Rattle.reg_calls.specs.declared.announced.Announced.TheVariants.{Nothing, Changes, Closes}
 use Rattle.reg_calls.specs.Internal.Stores.{at, world_of, Asks, GoesOver, IsDone, IsCarriedOut}
+use Rattle.reg_calls.specs.declared.store.JournalEnd.{JournalEnd}
 use Rattle.reg_calls.specs.Internal.Announcements.{ending_in, IsAnnounced}
 
 -- ---- endings that end nothing
@@ -108,16 +109,16 @@ module _ (x y : Ending) (old mid new : Table) (by : x.by ≡ y.by) (same : Agree
   over None spares asks = over-none asks
   over (Some v) spares asks = over-some v (spares v refl) asks
 
-numbered-so : (a : Announced) (store : Store) (session moment n : ℕ) (change : Change) →
-    (ending_in a n).by ≡ (few_ending (world_of store) (entry_due (at n store) session moment change)).by
+numbered-so : (a : Announced) (store : Store) (session moment : ℕ) (n : JournalEnd) (change : Change) →
+    (ending_in a n.next).by ≡ (few_ending (world_of store) (entry_due (at n store) session moment change)).by
 unfolding few_ending
 numbered-so Nothing store session moment n change = refl
 numbered-so (Changes events removed) store session moment n change = refl
 numbered-so (Closes handle) store session moment n change = refl
 
 -- a change that was made, and the watches told that it ends
-pub carried-out : (old mid new : Store) (session moment n : ℕ) (change : Change) (told : ChangeReply) (announced : Announced) → IsDone old mid session moment n change told →
-    IsAnnounced n old session change announced → new.tree ≡ mid.tree → new.handles ≡ mid.handles → Fires (ending_in announced n) mid.watches new.watches →
+pub carried-out : (old mid new : Store) (session moment : ℕ) (n : JournalEnd) (change : Change) (told : ChangeReply) (announced : Announced) → IsDone old mid session moment n change told →
+    IsAnnounced n old session change announced → new.tree ≡ mid.tree → new.handles ≡ mid.handles → Fires (ending_in announced n.next) mid.watches new.watches →
     IsCarriedOut old new session moment n change told
 carried-out old mid new session moment n change told announced done ann tree handles fires =
     subst (λ (s : Store). IsCarriedOut old s session moment n change told) (sym same) (record {
@@ -127,7 +128,7 @@ carried-out old mid new session moment n change told announced done ann tree han
       kept = done.kept;
       grows = done.grows;
       known = done.known;
-      watches = over (ending_in announced n) _ old.watches mid.watches new.watches (numbered-so announced old session moment n change) (ann.ends moment) fires _ (ann.spares moment) done.watches;
+      watches = over (ending_in announced n.next) _ old.watches mid.watches new.watches (numbered-so announced old session moment n change) (ann.ends moment) fires _ (ann.spares moment) done.watches;
     })
   where
     same : new ≡ record mid { watches = new.watches }

@@ -1,5 +1,5 @@
 -- A hive, as its callers see it.
-use Rattle.std.specs.Prelude.{ℕ, ◌+◌, ◌*◌, ◌/◌}
+use Rattle.std.specs.Prelude.{ℕ, List, ◌+◌, ◌*◌, ◌/◌}
 use Rattle.reg_arena.specs.NewCells.{cell_size}
 use Rattle.reg_model.specs.Callbacks.{Callbacks as Asked}
 use Rattle.reg_callbacks.specs.declared.callbacks.Callbacks.{Callbacks}
@@ -10,7 +10,11 @@ use Rattle.reg_calls.specs.Views.{View}
 
 -- the hive without its callbacks
 abbrev pub view_of : {C : Type 0} → Hive C → View
-view_of h = h.core
+view_of h = h.core.view
+
+-- of each session that has a seat, how many entries it had before the journal began
+abbrev pub noted_of : {C : Type 0} → Hive C → List ℕ
+noted_of h = h.core.noted
 
 -- the callbacks that are registered on it
 abbrev pub callbacks_of : {C : Type 0} → Hive C → Callbacks C

@@ -3,3 +3,4 @@ pub mod Internal
 pub mod Views
 pub mod HiveView
 pub mod Runs
+pub mod Seats

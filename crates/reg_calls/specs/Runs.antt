@@ -6,7 +6,7 @@ use Rattle.reg_model.specs.declared.call.Call.TheVariants.{Change, Query}
 use Rattle.reg_model.specs.declared.step.Step.{Step}
 use Rattle.reg_model.specs.declared.step.Outcome.{Outcome}
 use Rattle.reg_model.specs.declared.step.Outcome.TheVariants.{Changed, Answered}
-use Rattle.reg_calls.specs.Views.{View, state, IsApplied, IsRead}
+use Rattle.reg_calls.specs.Views.{View, next_of, state, IsApplied, IsRead}
 
 -- one step from a hive to the next: a change is answered by a reply, and a question by an answer, which changes nothing
 abbrev pub IsStep : Callbacks → View → Step → Outcome → View → Type 0
@@ -14,7 +14,7 @@ IsStep callbacks old s outcome new = by s.call outcome
   where
     by : Call → Outcome → Type 0
     by (Change change) (Changed reply) = IsApplied callbacks old new s.session s.moment change reply
-    by (Query query) (Answered answer) = (answer.at ≡ length old.journal) × IsRead callbacks (state old) s.session query answer.body × (new ≡ old)
+    by (Query query) (Answered answer) = (answer.at ≡ next_of old) × IsRead callbacks (state old) s.session query answer.body × (new ≡ old)
     by (Change change) (Answered answer) = ⊥
     by (Query query) (Changed reply) = ⊥
 

@@ -1,8 +1,8 @@
 -- What callers see of a hive, and what is true of every hive.
-use Rattle.std.specs.Prelude.{◌≡◌, ◌≢◌, ℕ, ◌+◌, ◌<◌, ◌≤◌, ◌==◌, ◌&&◌, List, [], ◌∷◌, ◌++◌, length, slice_get, if◌then◌else◌}
+use Rattle.std.specs.Prelude.{◌≡◌, ◌≢◌, ℕ, ◌+◌, ◌<◌, ◌≤◌, ◌==◌, ◌&&◌, List, [], ◌∷◌, ◌++◌, length, slice_get, slice_index_or, if◌then◌else◌}
 use Rattle.std.specs.Prelude.{Option, Some, None, is_some, false, ◌⊎◌, refl}
 use Rattle.std.specs.List.{AllByRecursion}
-use Rattle.std.specs.Coded.{Coded, code_by, coded×, coded_list}
+use Rattle.std.specs.Coded.{Coded, code_by, coded×, coded_list, coded_ℕ}
 use Rattle.reg_heap.specs.Paths.{Tree, coded_tree}
 use Rattle.reg_heap.specs.Trees.{IsTree, IsWithinLimits}
 use Rattle.reg_arena.specs.Arena.{IsSound}
@@ -24,17 +24,20 @@ use Rattle.reg_model.specs.declared.call.Change.{Change}
 use Rattle.reg_model.specs.declared.call.Query.{Query}
 use Rattle.reg_tree.specs.TreeKeys.{Keys, coded_keys, IsWholeTree}
 use Rattle.reg_handles.specs.HandleTables.{coded_handle}
-use Rattle.reg_notify.specs.Tables.{Table, coded_table, told_to, taken_by}
+use Rattle.reg_notify.specs.Tables.{Table, coded_notice, coded_table, told_to, taken_by}
 use Rattle.reg_calls.specs.declared.store.Store.{Store}
 use Rattle.reg_calls.specs.Internal.Stores.{KnowsKeys}
 use Rattle.reg_calls.specs.declared.lack.Lack.{Lack}
 use Rattle.reg_calls.specs.declared.lack.Lack.TheVariants.{Space, Memory}
 use Rattle.reg_calls.specs.Shortages.{is_closing, LacksSpace, growth_of}
 
--- a hive: the tree that it was made with, its journal, its keys in their bins, its open handles in the order of their numbers, and its
--- watches: those that are pending, and of each session what it was told, with how much of that it took
+-- a hive: the tree that its journal begins with, the number of the journal's first entry, what each session was told before that, the
+-- journal, its keys in their bins, its open handles in the order of their numbers, and its watches: those that are pending, and of each
+-- session what it was told, with how much of that it took
 pub record View : Type 0 where
   pub origin : Tree
+  pub base : ℕ
+  pub before : List (List Notice)
   pub journal : List Entry
   pub keys : Keys
   pub handles : List Handle
@@ -42,41 +45,74 @@ pub record View : Type 0 where
 
 abbrev pub coded_view : Coded View
 coded_view =
-    code_by ((Tree × List Entry) × (Keys × (List Handle × Table)))
-    (coded× (coded× coded_tree (coded_list the_row.coded)) (coded× coded_keys (coded× (coded_list coded_handle) coded_table)))
-    (λ v. ((v.origin, v.journal), (v.keys, (v.handles, v.watches))))
-    (λ p. record { origin = p.0.0; journal = p.0.1; keys = p.1.0; handles = p.1.1.0; watches = p.1.1.1 }) (λ _. refl)
+    code_by (((Tree × ℕ) × (List (List Notice) × List Entry)) × (Keys × (List Handle × Table)))
+    (coded× (coded× (coded× coded_tree coded_ℕ) (coded× (coded_list (coded_list coded_notice)) (coded_list the_row.coded)))
+    (coded× coded_keys (coded× (coded_list coded_handle) coded_table)))
+    (λ v. (((v.origin, v.base), (v.before, v.journal)), (v.keys, (v.handles, v.watches))))
+    (λ p. record {
+      origin = p.0.0.0;
+      base = p.0.0.1;
+      before = p.0.1.0;
+      journal = p.0.1.1;
+      keys = p.1.0;
+      handles = p.1.1.0;
+      watches = p.1.1.1;
+    }) (λ _. refl)
+
+-- how many entries the hive has had, those before its journal among them: the number of the next one
+abbrev pub next_of : View → ℕ
+next_of v = v.base + length v.journal
 
 -- where a call finds the hive
 abbrev pub state : View → State
-state v = state_of v.origin v.journal
+state v = state_of v.base v.origin v.journal
+
+-- all that a session was told: before the journal began, and by its entries
+abbrev pub told_in : View → ℕ → List Notice
+told_in v session = slice_index_or v.before session [] ++ fired v.origin v.journal session
 
 -- what is true of every hive: its origin is a tree, its journal is legal, of sessions below 64, and leaves room for the closings;
--- the tree and the handles are those of the replay; the pending watches are the journal's, each session was told just what the
--- journal tells it, and took no more than that; and its bins are sound (cells tile them, and the free lists hold precisely the free
+-- the tree and the handles are those of the replay; the pending watches are the journal's, each session was told just what it was told
+-- before and what the journal tells it, and took no more than that; and its bins are sound (cells tile them, and the free lists hold precisely the free
 -- ones) and whole: each allocated cell is reached from the root exactly as often as its references say, and they spell the tree
 pub record IsHive (v : View) : Type 0 where
   pub origin : IsTree v.origin
   pub limits : IsWithinLimits v.origin
-  pub legal : IsLegal v.origin v.journal
+  pub legal : IsLegal v.base v.origin v.journal
   pub sessions : AllByRecursion (λ (e : Entry). e.session < SESSIONS_LIMIT) v.journal
   pub small : length v.journal + length v.handles ≤ JOURNAL_LIMIT
   pub tree : v.keys.tree ≡ (replay v.origin v.journal).tree
   pub handles : v.handles ≡ (replay v.origin v.journal).handles
   pub pending : v.watches.pending ≡ pending v.origin v.journal
-  pub told : (s : ℕ) → told_to v.watches s ≡ fired v.origin v.journal s
-  pub taken : (s : ℕ) → taken_by v.watches s ≤ length (fired v.origin v.journal s)
+  pub told : (s : ℕ) → told_to v.watches s ≡ told_in v s
+  pub taken : (s : ℕ) → taken_by v.watches s ≤ length (told_in v s)
   pub sound : IsSound v.keys.bins.bytes v.keys.bins.heads
   pub whole : IsWholeTree v.keys.bins.bytes v.keys.root v.keys.tree
 
 -- the view of a hive's parts
-abbrev pub view_with : Tree → List Entry → Store → View
-view_with origin journal store =
-    record { origin = origin; journal = journal; keys = store.tree; handles = store.handles.handles; watches = store.watches }
+abbrev pub view_with : Tree → ℕ → List (List Notice) → List Entry → Store → View
+view_with origin base before journal store = record {
+  origin = origin;
+  base = base;
+  before = before;
+  journal = journal;
+  keys = store.tree;
+  handles = store.handles.handles;
+  watches = store.watches;
+}
+
+-- a hive with its book: of each session that has a seat, how many entries it had before the journal began
+pub record Booked : Type 0 where
+  pub view : View
+  pub noted : List ℕ
+
+abbrev pub coded_booked : Coded Booked
+coded_booked =
+    code_by (View × List ℕ) (coded× coded_view (coded_list coded_ℕ)) (λ b. (b.view, b.noted)) (λ p. record { view = p.0; noted = p.1 }) (λ _. refl)
 
 -- the same of a hive's parts; room is kept for the closing of each open handle; and each node that is kept is that of its key
-pub record HiveInvariant (origin : Tree) (journal : List Entry) (store : Store) (room : ℕ) : Type 0 where
-  pub hive : IsHive (view_with origin journal store)
+pub record HiveInvariant (origin : Tree) (base : ℕ) (before : List (List Notice)) (journal : List Entry) (store : Store) (room : ℕ) : Type 0 where
+  pub hive : IsHive (view_with origin base before journal store)
   pub room_kept : length store.handles.handles ≤ room
   pub known : KnowsKeys store
 
@@ -90,6 +126,8 @@ pub record IsAccepted (old new : View) (session moment : ℕ) (change : Change) 
   pub says : reply ≡ reply_to (state old) session change
   pub journal : new.journal ≡ old.journal ++ entry_of old session moment change ∷ []
   pub origin : new.origin ≡ old.origin
+  pub base : new.base ≡ old.base
+  pub before : new.before ≡ old.before
   pub taken : new.watches.taken ≡ old.watches.taken
   pub kept_keys : changes_keys change reply ≡ false → new.keys ≡ old.keys
   pub kept : length old.keys.bins.bytes ≤ length new.keys.bins.bytes
@@ -148,12 +186,14 @@ IsReadBy c s session query body = IsTold (is_told (query_cause s session query c
 abbrev pub IsRead : Callbacks → State → ℕ → Query → AnswerBody → Type 0
 IsRead callbacks s session query body = IsReadBy (query_status callbacks s.world session query) s session query body
 
--- a session was handed the next notice of all that the journal tells it, or none where it took them all; one more is then counted as
+-- a session was handed the next notice of all that it was told, or none where it took them all; one more is then counted as
 -- taken, and nothing else changed
 pub record IsNoticeTaken (old new : View) (session : ℕ) (notice : Option Notice) : Type 0 where
-  pub next : notice ≡ slice_get (fired old.origin old.journal session) (taken_by old.watches session)
+  pub next : notice ≡ slice_get (told_in old session) (taken_by old.watches session)
   pub taken : (s : ℕ) → taken_by new.watches s ≡ (if s == session && is_some notice then taken_by old.watches s + 1 else taken_by old.watches s)
   pub origin : new.origin ≡ old.origin
+  pub base : new.base ≡ old.base
+  pub before : new.before ≡ old.before
   pub journal : new.journal ≡ old.journal
   pub keys : new.keys ≡ old.keys
   pub handles : new.handles ≡ old.handles

@@ -12,11 +12,12 @@ ghost use Rattle.reg_calls.specs.Internal.Admissions.{Admits};
 ghost use Rattle.reg_calls.specs.Internal.Announcements.{ending_in, HasKinds, IsAnnounced};
 ghost use Rattle.reg_calls.specs.Internal.QuietKeys.{AreUnhit, IsOwnEvent};
 ghost use Rattle.reg_calls.specs.declared.store.Store.{Store as StoreOf};
+ghost use Rattle.reg_calls.specs.declared.store.JournalEnd.{JournalEnd};
 
 use crate::changes::Admitted;
 use crate::lack::Lack;
 use crate::quiet::{OwnEvent, Quiet, REMEMBERED};
-use crate::store::Store;
+use crate::store::{JournalEnd, Store};
 use reg_model::ChangeReply;
 use reg_model::filters::{LAST_SET, SECURITY};
 use reg_notify::{Event, Place, Removed};
@@ -55,8 +56,8 @@ pub fn one_event(
 
 /// The event of the key of its handle that an admitted change is; of no kind where it is none, or not that alone.
 fn own_event(admitted: &Admitted<'_>) -> OwnEvent
-    ensures { (entries session : ℕ) → (store : StoreOf) → (change : TheChange) → Admits entries store session change admitted.now →
-        0 < result.bits → IsOwnEvent entries store session change result }
+    ensures { (end : JournalEnd) → (session : ℕ) → (store : StoreOf) → (change : TheChange) → Admits end store session change admitted.now →
+        0 < result.bits → IsOwnEvent end store session change result }
 {
     match admitted {
         Admitted::SetValue(found) => OwnEvent {
@@ -123,11 +124,11 @@ impl Store {
         session: u8,
         admitted: &Admitted<'_>,
     ) -> Result<Announced, AllocError>
-        requires admitted { (entries : ℕ) × (change : TheChange) × Admits entries self.now session change admitted.now }
+        requires admitted { (end : JournalEnd) × (change : TheChange) × Admits end self.now session change admitted.now }
         requires rows { vec_len quiet.now.rows ≡ REMEMBERED }
-        ensures ok { (entries : ℕ) → (change : TheChange) → Admits entries self.now session change admitted.now →
-            AreUnhit entries self.now quiet.now → IfOk result (λ announced. IsAnnounced entries self.now session change announced) }
-        ensures err { (entries : ℕ) → (change : TheChange) → Admits entries self.now session change admitted.now →
+        ensures ok { (end : JournalEnd) → (change : TheChange) → Admits end self.now session change admitted.now →
+            AreUnhit end.next self.now quiet.now → IfOk result (λ announced. IsAnnounced end self.now session change announced) }
+        ensures err { (end : JournalEnd) → (change : TheChange) → Admits end self.now session change admitted.now →
             OnErr result (is_closing change ≡ false) }
     {
         if self.watches.len() == 0 {
@@ -172,19 +173,19 @@ impl Store {
         alloc: Global,
         session: u8,
         moment: u64,
-        number: u64,
+        end: JournalEnd,
         admitted: Admitted<'_>,
     ) -> Result<ChangeReply, Lack>
         requires session { session < SESSIONS_LIMIT }
-        requires ready { IsReady number self.old }
-        requires admitted { (change : TheChange) × Admits number self.old session change admitted }
+        requires ready { IsReady end self.old }
+        requires admitted { (change : TheChange) × Admits end self.old session change admitted }
         requires rows { vec_len quiet.old.rows ≡ REMEMBERED }
-        requires unhit { AreUnhit number self.old quiet.old }
+        requires unhit { AreUnhit end.next self.old quiet.old }
         ensures rows { vec_len quiet.new.rows ≡ REMEMBERED }
-        ensures unhit { OnOk result (AreUnhit (number + 1) self.new quiet.new) }
+        ensures unhit { OnOk result (AreUnhit (end.next + 1) self.new quiet.new) }
         ensures quiet { OnErr result (quiet.new ≡ quiet.old) }
-        ensures carried { (change : TheChange) → Admits number self.old session change admitted.entry →
-            IsCarried self.old self.new session moment number change result }
+        ensures carried { (change : TheChange) → Admits end self.old session change admitted.entry →
+            IsCarried self.old self.new session moment end change result }
     {
         let announced = match self.announce(quiet, alloc, session, &admitted) {
             Ok(announced) => announced,
@@ -192,10 +193,10 @@ impl Store {
         };
         let event = own_event(&admitted);
         let before = self.watches.len();
-        match self.commit(alloc, session, moment, number, admitted) {
+        match self.commit(alloc, session, moment, end, admitted) {
             Ok(reply) => {
-                self.tell(announced, number);
-                quiet.follow(event, number, before, self.watches.len());
+                self.tell(announced, end.next);
+                quiet.follow(event, end.next, before, self.watches.len());
                 Ok(reply)
             }
             Err(lack) => Err(lack),

@@ -21,7 +21,7 @@ use crate::open_root::OpenRoot;
 use crate::refusal::Refusal;
 use crate::set_security::SetSecurity;
 use crate::set_value::SetValue;
-use crate::store::Store;
+use crate::store::{JournalEnd, Store};
 use reg_callbacks::{Callback, Callbacks, Seen};
 use reg_model::{Bytes, Change, ChangeReply};
 use std::alloc::Global;
@@ -52,21 +52,21 @@ fn slice_given(descriptor: &Option<Bytes>) -> Option<&[u8]>
 }
 
 impl Store {
-    /// Admits a change, when the journal has so many entries: what its commit takes, or why it is refused, by the first cause in
+    /// Admits a change, where the journal ends so: what its commit takes, or why it is refused, by the first cause in
     /// the order of the rules, in which the callbacks are asked. Where nothing refuses it, memory may yet be wanting for its path's text.
     pub fn admit<'a, C: Callback>(
         &self,
         callbacks: &Callbacks<C>,
         alloc: Global,
-        entries: usize,
+        end: JournalEnd,
         session: u8,
         moment: u64,
         change: &'a Change,
     ) -> Result<Admitted<'a>, Refusal>
         requires session { session < SESSIONS_LIMIT }
-        requires ready { IsReady entries self.now }
+        requires ready { IsReady end self.now }
         ensures { IsAdmission (change_status (asks (answers_of C.answers callbacks.now)) (world_of self.now) session moment change.now)
-            entries self.now session change.now result }
+            end self.now session change.now result }
     {
         let asking = Asking {
             callbacks,
@@ -76,7 +76,7 @@ impl Store {
         };
         match change {
             Change::OpenRoot { mask } => {
-                match OpenRoot::admit(self, &asking, entries, session, *mask) {
+                match OpenRoot::admit(self, &asking, end, session, *mask) {
                     Ok(found) => Ok(Admitted::OpenRoot(found)),
                     Err(status) => Err(Refusal::Cause(status)),
                 }
@@ -86,7 +86,7 @@ impl Store {
                     self,
                     &asking,
                     alloc,
-                    entries,
+                    end,
                     session,
                     *handle,
                     path.as_slice(),
@@ -106,7 +106,7 @@ impl Store {
                     self,
                     &asking,
                     alloc,
-                    entries,
+                    end,
                     session,
                     *handle,
                     path.as_slice(),
@@ -126,7 +126,7 @@ impl Store {
                 match SetValue::admit(
                     self,
                     &asking,
-                    entries,
+                    end,
                     session,
                     *handle,
                     name.as_slice(),
@@ -138,14 +138,7 @@ impl Store {
                 }
             }
             Change::DeleteValue { handle, name } => {
-                match DeleteValue::admit(
-                    self,
-                    &asking,
-                    entries,
-                    session,
-                    *handle,
-                    name.as_slice(),
-                ) {
+                match DeleteValue::admit(self, &asking, end, session, *handle, name.as_slice()) {
                     Ok(found) => Ok(Admitted::DeleteValue(found)),
                     Err(status) => Err(Refusal::Cause(status)),
                 }
@@ -155,7 +148,7 @@ impl Store {
                     self,
                     &asking,
                     alloc,
-                    entries,
+                    end,
                     session,
                     *handle,
                     path.as_slice(),
@@ -169,7 +162,7 @@ impl Store {
                     self,
                     &asking,
                     alloc,
-                    entries,
+                    end,
                     session,
                     *handle,
                     path.as_slice(),
@@ -182,7 +175,7 @@ impl Store {
                 match SetSecurity::admit(
                     self,
                     &asking,
-                    entries,
+                    end,
                     session,
                     *handle,
                     descriptor.as_slice(),
@@ -196,7 +189,7 @@ impl Store {
                 filter,
                 subtree,
             } => {
-                match Notify::admit(self, &asking, entries, session, *handle, *filter, *subtree) {
+                match Notify::admit(self, &asking, end, session, *handle, *filter, *subtree) {
                     Ok(found) => Ok(Admitted::Notify(found)),
                     Err(status) => Err(Refusal::Cause(status)),
                 }
@@ -217,26 +210,26 @@ impl Store {
         alloc: Global,
         session: u8,
         moment: u64,
-        number: u64,
+        end: JournalEnd,
         admitted: Admitted<'_>,
     ) -> Result<ChangeReply, Lack>
         requires session { session < SESSIONS_LIMIT }
-        requires ready { IsReady number self.old }
-        requires admitted { (change : TheChange) × Admits number self.old session change admitted }
-        ensures { (change : TheChange) → Admits number self.old session change admitted.entry →
-            IsMade self.old self.new session moment number change result }
+        requires ready { IsReady end self.old }
+        requires admitted { (change : TheChange) × Admits end self.old session change admitted }
+        ensures { (change : TheChange) → Admits end self.old session change admitted.entry →
+            IsMade self.old self.new session moment end change result }
     {
         match admitted {
-            Admitted::OpenRoot(found) => found.commit(self, alloc, session, number),
-            Admitted::OpenKey(found) => found.commit(self, session, number),
-            Admitted::CreateKey(found) => found.commit(self, alloc, session, moment, number),
-            Admitted::SetValue(found) => found.commit(self, alloc, moment, number),
-            Admitted::DeleteValue(found) => Ok(found.commit(self, moment, number)),
-            Admitted::DeleteKey(found) => Ok(found.commit(self, moment, number)),
-            Admitted::DeleteTree(found) => Ok(found.commit(self, moment, number)),
-            Admitted::SetSecurity(found) => found.commit(self, alloc, moment, number),
-            Admitted::Notify(found) => found.commit(self, alloc, session, number),
-            Admitted::Close(found) => Ok(found.commit(self, session, number)),
+            Admitted::OpenRoot(found) => found.commit(self, alloc, session, end),
+            Admitted::OpenKey(found) => found.commit(self, session, end),
+            Admitted::CreateKey(found) => found.commit(self, alloc, session, moment, end),
+            Admitted::SetValue(found) => found.commit(self, alloc, moment, end),
+            Admitted::DeleteValue(found) => Ok(found.commit(self, moment, end)),
+            Admitted::DeleteKey(found) => Ok(found.commit(self, moment, end)),
+            Admitted::DeleteTree(found) => Ok(found.commit(self, moment, end)),
+            Admitted::SetSecurity(found) => found.commit(self, alloc, moment, end),
+            Admitted::Notify(found) => found.commit(self, alloc, session, end),
+            Admitted::Close(found) => Ok(found.commit(self, session, end)),
         }
     }
 }

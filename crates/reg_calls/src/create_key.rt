@@ -8,6 +8,7 @@ ghost use Rattle.reg_calls.specs.Internal.Askings.{status_by};
 ghost use Rattle.reg_calls.specs.Internal.Stores.{IsReady, IsMade};
 ghost use Rattle.reg_calls.specs.Internal.Admissions.{AdmitsCreateKey, IsNotAdmitted};
 ghost use Rattle.reg_calls.specs.Internal.Announcements.{IsAnnounced};
+ghost use Rattle.reg_calls.specs.declared.store.JournalEnd.{JournalEnd};
 
 use crate::announced::{Announced, one_event};
 use crate::asking::Asking;
@@ -15,7 +16,7 @@ use crate::fronts::without_names;
 use crate::lack::Lack;
 use crate::refusal::Refusal;
 use crate::replies::opened;
-use crate::store::{Store, is_bad_descriptor, is_bad_open, path_below};
+use crate::store::{JournalEnd, Store, is_bad_descriptor, is_bad_open, path_below};
 use reg_callbacks::Callback;
 use reg_model::ChangeReply;
 use reg_model::dispositions::{MADE, THERE};
@@ -64,7 +65,7 @@ impl<'a> CreateKey<'a> {
         store: &Store,
         asking: &Asking<'_, C>,
         alloc: Global,
-        entries: usize,
+        end: JournalEnd,
         session: u8,
         handle: u64,
         path: &'a [u8],
@@ -72,17 +73,17 @@ impl<'a> CreateKey<'a> {
         descriptor: Option<&'a [u8]>,
     ) -> Result<CreateKey<'a>, Refusal>
         requires session { session < SESSIONS_LIMIT }
-        requires ready { IsReady entries store.now }
+        requires ready { IsReady end store.now }
         ensures refused { IfErr result (λ refusal.
-            IsNotAdmitted (status_by C.answers asking.now store.now session handle) entries store.now session
+            IsNotAdmitted (status_by C.answers asking.now store.now session handle) end store.now session
             (KeyCreated handle path.now mask (option_copied descriptor.entry)) refusal) }
-        ensures admitted { IfOk result (λ found. AdmitsCreateKey entries store.now session handle path.now found) }
+        ensures admitted { IfOk result (λ found. AdmitsCreateKey end store.now session handle path.now found) }
         ensures asked { OnOk result (asked (status_by C.answers asking.now store.now session handle) ≡ None) }
         ensures mask { IfOk result (λ found. found.mask ≡ mask) }
         ensures descriptor { IfOk result (λ found. option_copied found.descriptor ≡ option_copied descriptor.entry) }
     {
         let is_bad = is_bad_create(path, mask, descriptor);
-        let key = match store.key_to_open_at(entries, session, handle, is_bad) {
+        let key = match store.key_to_open_at(end, session, handle, is_bad) {
             Ok(key) => key,
             Err(status) => return Err(Refusal::Cause(status)),
         };
@@ -110,9 +111,9 @@ impl<'a> CreateKey<'a> {
     /// What it does to the watches: an event of the key above the first that is made, if one is. Its one fault is that memory was
     /// refused.
     pub fn announce(&self, store: &Store, alloc: Global) -> Result<Announced, AllocError>
-        requires { (entries session handle : ℕ) × (path : List ℕ) × AdmitsCreateKey entries store.now session handle path self.now }
-        ensures { (entries session handle : ℕ) → (path : List ℕ) → AdmitsCreateKey entries store.now session handle path self.now →
-            IfOk result (λ announced. IsAnnounced entries store.now session
+        requires { (end : JournalEnd) × (session handle : ℕ) × (path : List ℕ) × AdmitsCreateKey end store.now session handle path self.now }
+        ensures { (end : JournalEnd) → (session handle : ℕ) → (path : List ℕ) → AdmitsCreateKey end store.now session handle path self.now →
+            IfOk result (λ announced. IsAnnounced end store.now session
             (KeyCreated handle path self.now.mask (option_copied self.now.descriptor)) announced) }
     {
         let missing = self.reached.missing;
@@ -131,13 +132,13 @@ impl<'a> CreateKey<'a> {
         alloc: Global,
         session: u8,
         moment: u64,
-        number: u64,
+        end: JournalEnd,
     ) -> Result<ChangeReply, Lack>
         requires session { session < SESSIONS_LIMIT }
-        requires ready { IsReady number store.old }
-        requires admitted { (handle : ℕ) × (path : List ℕ) × AdmitsCreateKey number store.old session handle path self }
-        ensures { (handle : ℕ) → (path : List ℕ) → AdmitsCreateKey number store.old session handle path self.entry →
-            IsMade store.old store.new session moment number (KeyCreated handle path self.entry.mask (option_copied self.entry.descriptor)) result }
+        requires ready { IsReady end store.old }
+        requires admitted { (handle : ℕ) × (path : List ℕ) × AdmitsCreateKey end store.old session handle path self }
+        ensures { (handle : ℕ) → (path : List ℕ) → AdmitsCreateKey end store.old session handle path self.entry →
+            IsMade store.old store.new session moment end (KeyCreated handle path self.entry.mask (option_copied self.entry.descriptor)) result }
     {
         let CreateKey {
             mask,
@@ -149,20 +150,23 @@ impl<'a> CreateKey<'a> {
         let _ = store.handles.len();
         // The handle first: it can be taken back, and keys that are made can't. Where the key is there, its node is known; where it
         // is made, that is put in afterwards, and until then the last key that is there holds its place.
-        match store.handles.add(session, number, mask, text, reached.node) {
+        match store
+            .handles
+            .add(session, end.next, mask, text, reached.node)
+        {
             Ok(()) => {}
             Err(_) => return Err(Lack::Memory),
         }
         if reached.missing.is_empty() {
-            return Ok(opened(number, Some(THERE)));
+            return Ok(opened(end.next, Some(THERE)));
         }
         match store.tree.create_at(alloc, reached, descriptor, moment) {
             Ok(node) => {
-                store.handles.set_payload(number, node);
-                Ok(opened(number, Some(MADE)))
+                store.handles.set_payload(end.next, node);
+                Ok(opened(end.next, Some(MADE)))
             }
             Err(fault) => {
-                store.handles.close(session, number);
+                store.handles.close(session, end.next);
                 Err(Lack::from(fault))
             }
         }

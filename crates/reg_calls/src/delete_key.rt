@@ -10,13 +10,14 @@ ghost use Rattle.reg_calls.specs.Internal.Askings.{status_by};
 ghost use Rattle.reg_calls.specs.Internal.Stores.{IsReady, IsMade};
 ghost use Rattle.reg_calls.specs.Internal.Admissions.{AdmitsDeleteKey, IsNotAdmitted};
 ghost use Rattle.reg_calls.specs.Internal.Announcements.{IsAnnounced};
+ghost use Rattle.reg_calls.specs.declared.store.JournalEnd.{JournalEnd};
 
 use crate::announced::{Announced, one_event};
 use crate::asking::Asking;
 use crate::fronts::without_last;
 use crate::refusal::Refusal;
 use crate::replies::accepted;
-use crate::store::{Store, path_below};
+use crate::store::{JournalEnd, Store, path_below};
 use reg_callbacks::Callback;
 use reg_heap::marks::NO_DELETE;
 use reg_model::ChangeReply;
@@ -61,14 +62,14 @@ impl<'a> DeleteKey<'a> {
         store: &Store,
         asking: &Asking<'_, C>,
         alloc: Global,
-        entries: usize,
+        end: JournalEnd,
         session: u8,
         handle: u64,
         path: &'a [u8],
     ) -> Result<DeleteKey<'a>, Refusal>
-        requires { IsReady entries store.now }
-        ensures refused { IfErr result (λ refusal. IsNotAdmitted (status_by C.answers asking.now store.now session handle) entries store.now session (KeyDeleted handle path.now) refusal) }
-        ensures admitted { IfOk result (λ found. AdmitsDeleteKey entries store.now session handle path.now found) }
+        requires { IsReady end store.now }
+        ensures refused { IfErr result (λ refusal. IsNotAdmitted (status_by C.answers asking.now store.now session handle) end store.now session (KeyDeleted handle path.now) refusal) }
+        ensures admitted { IfOk result (λ found. AdmitsDeleteKey end store.now session handle path.now found) }
         ensures asked { OnOk result (asked (status_by C.answers asking.now store.now session handle) ≡ None) }
     {
         let key = match store.key_of(session, handle) {
@@ -78,7 +79,7 @@ impl<'a> DeleteKey<'a> {
         if is_bad_target(path) {
             return Err(Refusal::Cause(INVALID_PARAMETER));
         }
-        if store.is_full(entries) {
+        if store.is_full(end) {
             return Err(Refusal::Cause(NO_SYSTEM_RESOURCES));
         }
         match asking.ask(key.path) {
@@ -102,9 +103,9 @@ impl<'a> DeleteKey<'a> {
 
     /// What it does to the watches: an event of the key above, and the key removed. Its one fault is that memory was refused.
     pub fn announce(&self, store: &Store, alloc: Global) -> Result<Announced, AllocError>
-        requires { (entries session handle : ℕ) × (path : List ℕ) × AdmitsDeleteKey entries store.now session handle path self.now }
-        ensures { (entries session handle : ℕ) → (path : List ℕ) → AdmitsDeleteKey entries store.now session handle path self.now →
-            IfOk result (λ announced. IsAnnounced entries store.now session (KeyDeleted handle path) announced) }
+        requires { (end : JournalEnd) × (session handle : ℕ) × (path : List ℕ) × AdmitsDeleteKey end store.now session handle path self.now }
+        ensures { (end : JournalEnd) → (session handle : ℕ) → (path : List ℕ) → AdmitsDeleteKey end store.now session handle path self.now →
+            IfOk result (λ announced. IsAnnounced end store.now session (KeyDeleted handle path) announced) }
     {
         let key = Place::new(alloc, self.text.as_slice())?;
         let above = Place::new(alloc, without_last(self.text.as_slice()))?;
@@ -112,14 +113,14 @@ impl<'a> DeleteKey<'a> {
     }
 
     /// Deletes the key, and turns the handles off that lead to it.
-    pub fn commit(self, store: &mut Store, moment: u64, number: u64) -> ChangeReply
-        requires ready { IsReady number store.old }
-        requires admitted { (session handle : ℕ) × (path : List ℕ) × AdmitsDeleteKey number store.old session handle path self }
-        ensures { (session handle : ℕ) → (path : List ℕ) → AdmitsDeleteKey number store.old session handle path self.entry →
-            IsMade store.old store.new session moment number (KeyDeleted handle path) (Ok result) }
+    pub fn commit(self, store: &mut Store, moment: u64, end: JournalEnd) -> ChangeReply
+        requires ready { IsReady end store.old }
+        requires admitted { (session handle : ℕ) × (path : List ℕ) × AdmitsDeleteKey end store.old session handle path self }
+        ensures { (session handle : ℕ) → (path : List ℕ) → AdmitsDeleteKey end store.old session handle path self.entry →
+            IsMade store.old store.new session moment end (KeyDeleted handle path) (Ok result) }
     {
         store.tree.delete_at(self.reached, moment);
         store.handles.mark_deleted(self.text.as_slice());
-        accepted(number)
+        accepted(end.next)
     }
 }

@@ -17,13 +17,14 @@ ghost use Rattle.reg_calls.specs.Internal.Stores.{IsReady, IsMade};
 ghost use Rattle.reg_calls.specs.Internal.Admissions.{AdmitsDeleteTree, IsNotAdmitted};
 ghost use Rattle.reg_calls.specs.Internal.Announcements.{ending_in, HasKinds, IsAnnounced};
 ghost use Rattle.reg_calls.specs.Internal.DeletedTrees.{keeps_tree, IsTreeFound};
+ghost use Rattle.reg_calls.specs.declared.store.JournalEnd.{JournalEnd};
 
 use crate::announced::{Announced, one_event};
 use crate::asking::Asking;
 use crate::fronts::without_last;
 use crate::refusal::Refusal;
 use crate::replies::accepted;
-use crate::store::{Store, path_below};
+use crate::store::{JournalEnd, Store, path_below};
 use reg_callbacks::Callback;
 use reg_model::ChangeReply;
 use reg_model::filters::{LAST_SET, NAME};
@@ -157,14 +158,14 @@ impl<'a> DeleteTree<'a> {
         store: &Store,
         asking: &Asking<'_, C>,
         alloc: Global,
-        entries: usize,
+        end: JournalEnd,
         session: u8,
         handle: u64,
         path: &'a [u8],
     ) -> Result<DeleteTree<'a>, Refusal>
-        requires { IsReady entries store.now }
-        ensures refused { IfErr result (λ refusal. IsNotAdmitted (status_by C.answers asking.now store.now session handle) entries store.now session (TreeDeleted handle path.now) refusal) }
-        ensures admitted { IfOk result (λ found. AdmitsDeleteTree entries store.now session handle path.now found) }
+        requires { IsReady end store.now }
+        ensures refused { IfErr result (λ refusal. IsNotAdmitted (status_by C.answers asking.now store.now session handle) end store.now session (TreeDeleted handle path.now) refusal) }
+        ensures admitted { IfOk result (λ found. AdmitsDeleteTree end store.now session handle path.now found) }
         ensures asked { OnOk result (asked (status_by C.answers asking.now store.now session handle) ≡ None) }
     {
         let key = match store.key_of(session, handle) {
@@ -178,7 +179,7 @@ impl<'a> DeleteTree<'a> {
         if key.mask & asked != asked {
             return Err(Refusal::Cause(ACCESS_DENIED));
         }
-        if store.is_full(entries) {
+        if store.is_full(end) {
             return Err(Refusal::Cause(NO_SYSTEM_RESOURCES));
         }
         match asking.ask(key.path) {
@@ -200,9 +201,9 @@ impl<'a> DeleteTree<'a> {
     /// What it does to the watches: where a key goes, an event of the key above it; where it stays, one of that key for the keys below
     /// it and one for its values; and these keys removed. Its one fault is that memory was refused.
     pub fn announce(&self, store: &Store, alloc: Global) -> Result<Announced, AllocError>
-        requires { (entries session handle : ℕ) × (path : List ℕ) × AdmitsDeleteTree entries store.now session handle path self.now }
-        ensures { (entries session handle : ℕ) → (path : List ℕ) → AdmitsDeleteTree entries store.now session handle path self.now →
-            IfOk result (λ announced. IsAnnounced entries store.now session (TreeDeleted handle path) announced) }
+        requires { (end : JournalEnd) × (session handle : ℕ) × (path : List ℕ) × AdmitsDeleteTree end store.now session handle path self.now }
+        ensures { (end : JournalEnd) → (session handle : ℕ) → (path : List ℕ) → AdmitsDeleteTree end store.now session handle path self.now →
+            IfOk result (λ announced. IsAnnounced end store.now session (TreeDeleted handle path) announced) }
     {
         let text = self.text.as_slice();
         match self.target {
@@ -216,23 +217,23 @@ impl<'a> DeleteTree<'a> {
     }
 
     /// Deletes what goes, and turns the handles off that lead to a key of it.
-    pub fn commit(self, store: &mut Store, moment: u64, number: u64) -> ChangeReply
-        requires ready { IsReady number store.old }
-        requires admitted { (session handle : ℕ) × (path : List ℕ) × AdmitsDeleteTree number store.old session handle path self }
-        ensures { (session handle : ℕ) → (path : List ℕ) → AdmitsDeleteTree number store.old session handle path self.entry →
-            IsMade store.old store.new session moment number (TreeDeleted handle path) (Ok result) }
+    pub fn commit(self, store: &mut Store, moment: u64, end: JournalEnd) -> ChangeReply
+        requires ready { IsReady end store.old }
+        requires admitted { (session handle : ℕ) × (path : List ℕ) × AdmitsDeleteTree end store.old session handle path self }
+        ensures { (session handle : ℕ) → (path : List ℕ) → AdmitsDeleteTree end store.old session handle path self.entry →
+            IsMade store.old store.new session moment end (TreeDeleted handle path) (Ok result) }
     {
         let DeleteTree { text, target } = self;
         match target {
             Target::Branch(reached) => {
                 store.tree.delete_tree_at(reached, moment);
                 store.handles.mark_deleted_within(text);
-                accepted(number)
+                accepted(end.next)
             }
             Target::Contents(node) => {
                 store.tree.empty(node, moment);
                 store.handles.mark_deleted_under(text);
-                accepted(number)
+                accepted(end.next)
             }
         }
     }

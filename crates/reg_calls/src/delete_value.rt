@@ -7,11 +7,12 @@ ghost use Rattle.reg_calls.specs.Internal.Askings.{status_by};
 ghost use Rattle.reg_calls.specs.Internal.Stores.{at, IsReady, IsMade};
 ghost use Rattle.reg_calls.specs.Internal.Admissions.{AdmitsDeleteValue};
 ghost use Rattle.reg_calls.specs.Internal.Announcements.{IsAnnounced};
+ghost use Rattle.reg_calls.specs.declared.store.JournalEnd.{JournalEnd};
 
 use crate::announced::Announced;
 use crate::asking::Asking;
 use crate::replies::accepted;
-use crate::store::Store;
+use crate::store::{JournalEnd, Store};
 use reg_callbacks::Callback;
 use reg_model::ChangeReply;
 use reg_model::filters::LAST_SET;
@@ -40,15 +41,15 @@ impl DeleteValue {
     pub fn admit<C: Callback>(
         store: &Store,
         asking: &Asking<'_, C>,
-        entries: usize,
+        end: JournalEnd,
         session: u8,
         handle: u64,
         name: &[u8],
     ) -> Result<DeleteValue, u32>
-        requires { IsReady entries store.now }
+        requires { IsReady end store.now }
         ensures refused { IfErr result (λ status.
-            change_cause (at entries store.now) session (ValueDeleted handle name.now) (status_by C.answers asking.now store.now session handle) ≡ Some status) }
-        ensures admitted { IfOk result (λ found. AdmitsDeleteValue entries store.now session handle name.now found) }
+            change_cause (at end store.now) session (ValueDeleted handle name.now) (status_by C.answers asking.now store.now session handle) ≡ Some status) }
+        ensures admitted { IfOk result (λ found. AdmitsDeleteValue end store.now session handle name.now found) }
         ensures asked { OnOk result (asked (status_by C.answers asking.now store.now session handle) ≡ None) }
     {
         let key = match store.key_of(session, handle) {
@@ -61,7 +62,7 @@ impl DeleteValue {
         if key.mask & SET_VALUE != SET_VALUE {
             return Err(ACCESS_DENIED);
         }
-        if store.is_full(entries) {
+        if store.is_full(end) {
             return Err(NO_SYSTEM_RESOURCES);
         }
         match asking.ask(key.path) {
@@ -85,21 +86,21 @@ impl DeleteValue {
         alloc: Global,
         session: u8,
     ) -> Result<Announced, AllocError>
-        requires { (entries handle : ℕ) × (name : List ℕ) × AdmitsDeleteValue entries store.now session handle name self.now }
-        ensures { (entries handle : ℕ) → (name : List ℕ) → AdmitsDeleteValue entries store.now session handle name self.now →
-            IfOk result (λ announced. IsAnnounced entries store.now session (ValueDeleted handle name) announced) }
+        requires { (end : JournalEnd) × (handle : ℕ) × (name : List ℕ) × AdmitsDeleteValue end store.now session handle name self.now }
+        ensures { (end : JournalEnd) → (handle : ℕ) → (name : List ℕ) → AdmitsDeleteValue end store.now session handle name self.now →
+            IfOk result (λ announced. IsAnnounced end store.now session (ValueDeleted handle name) announced) }
     {
         store.event_of(alloc, session, self.handle, LAST_SET)
     }
 
     /// Removes the value.
-    pub fn commit(self, store: &mut Store, moment: u64, number: u64) -> ChangeReply
-        requires ready { IsReady number store.old }
-        requires admitted { (session handle : ℕ) × (name : List ℕ) × AdmitsDeleteValue number store.old session handle name self }
-        ensures { (session handle : ℕ) → (name : List ℕ) → AdmitsDeleteValue number store.old session handle name self →
-            IsMade store.old store.new session moment number (ValueDeleted handle name) (Ok result) }
+    pub fn commit(self, store: &mut Store, moment: u64, end: JournalEnd) -> ChangeReply
+        requires ready { IsReady end store.old }
+        requires admitted { (session handle : ℕ) × (name : List ℕ) × AdmitsDeleteValue end store.old session handle name self }
+        ensures { (session handle : ℕ) → (name : List ℕ) → AdmitsDeleteValue end store.old session handle name self →
+            IsMade store.old store.new session moment end (ValueDeleted handle name) (Ok result) }
     {
         store.tree.remove_at(self.node, self.index, moment);
-        accepted(number)
+        accepted(end.next)
     }
 }

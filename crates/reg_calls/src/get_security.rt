@@ -11,6 +11,7 @@ ghost use Rattle.reg_tree.specs.TreeKeys.{IsAt, IsThere};
 ghost use Rattle.reg_calls.specs.Internal.Stores.{at, KnowsKeys};
 ghost use Rattle.reg_calls.specs.Internal.Askings.{status_by};
 ghost use Rattle.reg_calls.specs.Views.{IsReadBy, IsTold};
+ghost use Rattle.reg_calls.specs.declared.store.JournalEnd.{JournalEnd};
 
 use crate::asking::Asking;
 use crate::store::Store;
@@ -55,7 +56,7 @@ pub fn answer<C: Callback>(
     room: u32,
 ) -> AnswerBody
     requires { KnowsKeys store.now }
-    ensures { (n : ℕ) → IsReadBy (status_by C.answers asking.now store.now session handle) (at n store.now) session (GetSecurity handle room) result }
+    ensures { (end : JournalEnd) → IsReadBy (status_by C.answers asking.now store.now session handle) (at end store.now) session (GetSecurity handle room) result }
 {
     let key = match store.key_of(session, handle) {
         Ok(key) => key,

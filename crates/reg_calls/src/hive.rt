@@ -1,23 +1,35 @@
-ghost use Rattle.std.specs.Prelude.{◌≡◌, ◌<◌, ◌≤◌, ◌↔◌, ◌⊎◌, ◌+◌, [], true, false, length, slice_get, option_copied, vec_len, ℕ, IfOk, IfErr, OnErr, IsErrOf, All};
+ghost use Rattle.std.specs.Prelude.{◌≡◌, ◌≢◌, ◌<◌, ◌≤◌, ◌↔◌, ◌⊎◌, ◌+◌, ◌-◌, [], Some, None, true, false, length, map, nat_lt, replicate, slice_get, option_copied, vec_len, ℕ, if◌then◌else◌};
+ghost use Rattle.std.specs.Prelude.{IfOk, IfErr, IfSome, OnErr, OnOk, IsErrOf, IsTrue, All};
+ghost use Rattle.std.specs.List.{range_with_len};
 ghost use Rattle.std.specs.FinMap.{insert, empty};
 ghost use Rattle.reg_names.specs.Names.{is_key_name};
 ghost use Rattle.reg_model.specs.declared.limits.TheConstants.{SESSIONS_LIMIT};
 ghost use Rattle.reg_arena.specs.Arena.{IsSound};
 ghost use Rattle.reg_arena.specs.Cells.{cell_at};
-ghost use Rattle.reg_model.specs.Histories.{IsLegal, replay, pending, fired};
+ghost use Rattle.reg_model.specs.declared.statuses.TheConstants.{BAD_DATABASE};
+ghost use Rattle.reg_model.specs.declared.answer.AnswerBody.TheVariants.{Refused};
+ghost use Rattle.reg_model.specs.Callbacks.{change_status};
+ghost use Rattle.reg_model.specs.Causes.{change_cause};
+ghost use Rattle.reg_model.specs.Histories.{IsLegal, count_of, replay, pending};
+ghost use Rattle.reg_model.specs.Replies.{refusal};
+ghost use Rattle.reg_journal.specs.Kept.{IsCurrent, row_of, seat};
 ghost use Rattle.reg_tree.specs.TreeKeys.{made_root, IsWholeTree};
 ghost use Rattle.reg_tree.specs.NewHive.{IsNewHive};
 ghost use Rattle.reg_notify.specs.Tables.{told_to, taken_by};
 ghost use Rattle.reg_callbacks.specs.declared.callbacks.TheConstants.{REGISTRATIONS_LIMIT};
 ghost use Rattle.reg_callbacks.specs.Rows.{is_falling, is_among, IsOneMore};
 ghost use Rattle.reg_callbacks.specs.Lists.{rows_of, altitudes_of, cookies_of, made_of};
-ghost use Rattle.reg_calls.specs.Views.{state, IsApplied, IsRead, IsHive, IsNoticeTaken};
+ghost use Rattle.reg_calls.specs.Views.{next_of, state, told_in, IsApplied, IsRead, IsHive, IsNoticeTaken};
 
-use crate::hive_core::Core;
+use crate::hive_core::{Core, refuse};
 use reg_arena::Arena;
 use reg_callbacks::{Callback, CallbackFault, Callbacks, Cookie};
 use reg_heap::limits::DESCRIPTOR_LIMIT;
-use reg_model::{Answer, Call, Change, ChangeReply, Entry, Notice, Outcome, Query, Step};
+use reg_journal::{SeatFault, Share};
+use reg_model::statuses::BAD_DATABASE;
+use reg_model::{
+    Answer, AnswerBody, Call, Change, ChangeReply, Entry, Notice, Outcome, Query, Step,
+};
 use reg_names::check_key_name;
 use reg_tree::Tree;
 use std::alloc::{AllocError, Global};
@@ -37,9 +49,12 @@ pub enum NewFault {
     Memory,
 }
 
-/// Why a run wasn't begun.
+/// Why a run wasn't begun; the first that holds.
 #[derive(Clone, Copy, Debug, PartialEq, Eq, Error)]
 pub enum RunFault {
+    /// A step's session has no share in its place, or one whose count isn't the session's row.
+    #[error("a session of the steps has no share in its place, or one that isn't current")]
+    Session,
     /// There is no memory for the list of outcomes.
     #[error("no memory for the outcomes")]
     Memory,
@@ -54,11 +69,12 @@ pub struct Hive<C = Box<dyn Callback + Send>> {
 }
 
 impl<C: Callback> Hive<C> {
-    ghost use Rattle.reg_calls.specs.HiveView.{view_of, callbacks_of, asks_of, new_size};
+    ghost use Rattle.reg_calls.specs.HiveView.{view_of, noted_of, callbacks_of, asks_of, new_size};
     ghost use Rattle.reg_calls.specs.Runs.{Run, IsStep};
+    ghost use Rattle.reg_calls.specs.Seats.{share_at, IsSeated, HaveSeats, HaveCounted};
 
     /// A hive of one root: the name as given, mark 8 (no delete), no class, the descriptor, the moment (100 ns units
-    /// since 1601) and no values. No handle is open, no watch is pending, and the journal is empty. `Name` where the name is none that a key may
+    /// since 1601) and no values. No handle is open, no watch is pending, no session has a seat, and the journal is empty. `Name` where the name is none that a key may
     /// have, else `Descriptor` where that is empty or above 65,535 bytes, else `Memory`. It has one bin, of the least size that
     /// holds its root's key node and security, and these two stand there (clause `cells`).
     pub fn new(
@@ -69,6 +85,9 @@ impl<C: Callback> Hive<C> {
     ) -> Result<Hive<C>, NewFault>
         ensures origin { IfOk result (λ h. (view_of h).origin ≡ insert empty [] (made_root root_name.now descriptor.now moment)) }
         ensures journal { IfOk result (λ h. (view_of h).journal ≡ []) }
+        ensures base { IfOk result (λ h. (view_of h).base ≡ 0) }
+        ensures before { IfOk result (λ h. (view_of h).before ≡ []) }
+        ensures noted { IfOk result (λ h. noted_of h ≡ []) }
         ensures hive { IfOk result (λ h. IsHive (view_of h)) }
         ensures taken { IfOk result (λ h. (s : ℕ) → taken_by (view_of h).watches s ≡ 0) }
         ensures callbacks { IfOk result (λ h. (rows_of (callbacks_of h) ≡ []) × (made_of (callbacks_of h) ≡ 0)) }
@@ -94,11 +113,14 @@ impl<C: Callback> Hive<C> {
         }
     }
 
-    /// A hive of a tree that was built elsewhere: its keys in their bins as they are. No handle is open, no watch is pending, and the
-    /// journal is empty. `Memory` is its only fault.
+    /// A hive of a tree that was built elsewhere: its keys in their bins as they are. No handle is open, no watch is pending, no
+    /// session has a seat, and the journal is empty. `Memory` is its only fault.
     pub fn from_tree(alloc: Global, tree: Tree) -> Result<Hive<C>, NewFault>
         ensures origin { IfOk result (λ h. (view_of h).origin ≡ tree.tree) }
         ensures journal { IfOk result (λ h. (view_of h).journal ≡ []) }
+        ensures base { IfOk result (λ h. (view_of h).base ≡ 0) }
+        ensures before { IfOk result (λ h. (view_of h).before ≡ []) }
+        ensures noted { IfOk result (λ h. noted_of h ≡ []) }
         ensures keys { IfOk result (λ h. (view_of h).keys ≡ tree) }
         ensures hive { IfOk result (λ h. IsHive (view_of h)) }
         ensures taken { IfOk result (λ h. (s : ℕ) → taken_by (view_of h).watches s ≡ 0) }
@@ -116,11 +138,11 @@ impl<C: Callback> Hive<C> {
         }
     }
 
-    /// How many entries the journal has. They are legal: each was accepted after those before it (clause `legal`); and all else
-    /// that is true of every hive is so of this one (clause `hive`).
+    /// How many changes the hive accepted: the number of the next entry. Those of the journal are legal: each was accepted after those
+    /// before it (clause `legal`); and all else that is true of every hive is so of this one (clause `hive`).
     pub fn len(&self) -> usize
-        ensures len { result ≡ length (view_of self.now).journal }
-        ensures legal { IsLegal (view_of self.now).origin (view_of self.now).journal }
+        ensures len { result ≡ next_of (view_of self.now) }
+        ensures legal { IsLegal (view_of self.now).base (view_of self.now).origin (view_of self.now).journal }
         ensures hive { IsHive (view_of self.now) }
     {
         self.core.len()
@@ -135,27 +157,29 @@ impl<C: Callback> Hive<C> {
     }
 
     /// How many watches are pending, of all sessions. They are those that the journal leaves pending (clause `replayed`), and each
-    /// session was told just the notices that the journal tells it (clause `told`).
+    /// session was told just what it was told before the journal began and the notices that this tells it (clause `told`).
     pub fn pending(&self) -> usize
         ensures number { result ≡ length (view_of self.now).watches.pending }
         ensures replayed { (view_of self.now).watches.pending ≡ pending (view_of self.now).origin (view_of self.now).journal }
-        ensures told { (s : ℕ) → told_to (view_of self.now).watches s ≡ fired (view_of self.now).origin (view_of self.now).journal s }
+        ensures told { (s : ℕ) → told_to (view_of self.now).watches s ≡ told_in (view_of self.now) s }
     {
         self.core.pending()
     }
 
-    /// Hands a session its next notice: the first of those that the journal tells it that wasn't handed out yet. `None` exactly where
+    /// Hands a session its next notice: the first of those that it was told that wasn't handed out yet. `None` exactly where
     /// all were, as for a session that never asked for any. Takes no memory, and changes nothing but what is handed out next.
     pub fn take_notice(&mut self, session: u8) -> Option<Notice>
         ensures notice { IsNoticeTaken (view_of self.old) (view_of self.new) session result }
+        ensures noted { noted_of self.new ≡ noted_of self.old }
         ensures callbacks { callbacks_of self.new ≡ callbacks_of self.old }
     {
         self.core.take_notice(session)
     }
 
-    /// The journal's entry of that number, counted from 0; `None` where there are not so many.
+    /// The entry of that number, counted from 0; `None` where the journal keeps none of it.
     pub fn entry(&self, number: usize) -> Option<&Entry>
-        ensures { option_copied result ≡ slice_get (view_of self.now).journal number }
+        ensures { option_copied result ≡ (if nat_lt number (view_of self.now).base then None else
+            slice_get (view_of self.now).journal (number - (view_of self.now).base)) }
     {
         self.core.entry(number)
     }
@@ -183,58 +207,157 @@ impl<C: Callback> Hive<C> {
         self.core.tree()
     }
 
-    /// Answers a change of a session, below 64, at a moment (100 ns units since 1601). An accepted change becomes the
-    /// journal's next entry; after a refusal, by the rules or by a callback, the hive is as before. 8 and 1450 for space come only
-    /// in place of an acceptance, or where a callback answers them.
-    pub fn apply(&mut self, session: u8, moment: u64, change: Change) -> ChangeReply
-        requires { session < SESSIONS_LIMIT }
+    /// Gives the sessions below `n` their seats, once: a share of each, in order, that has counted no call. `Seated` where seats were
+    /// given before, else `Count` where `n` is 0 or above 64, else `Memory`; then nothing changed. The calls of a session take its share.
+    pub fn seat(&mut self, n: u8) -> Result<Vec<Share>, SeatFault>
+        ensures callbacks { callbacks_of self.new ≡ callbacks_of self.old }
+        ensures view { view_of self.new ≡ view_of self.old }
+        ensures shares { IfOk result (λ shares. shares.items ≡ map (λ s. seat s 0) (range_with_len 0 n)) }
+        ensures seated { OnOk result (noted_of self.new ≡ replicate n 0) }
+        ensures first { OnOk result ((view_of self.old).journal ≡ []) }
+        ensures err { OnErr result (self.new ≡ self.old) }
+        ensures again { IsErrOf result SeatFault.Seated ↔ (noted_of self.old ≢ []) }
+        ensures count { IsErrOf result SeatFault.Count ↔ ((noted_of self.old ≡ []) × ((n ≡ 0) ⊎ (SESSIONS_LIMIT < n))) }
+    {
+        self.core.seat(n)
+    }
+
+    /// How many changes of a session were accepted: its row in the journal's book, which is the number of its entries (clause `kept`).
+    /// `None` where it has no seat.
+    pub fn row(&self, session: u8) -> Option<u64>
+        ensures row { result ≡
+            (if nat_lt session (length (noted_of self.now)) then Some (row_of (noted_of self.now) (view_of self.now).journal session) else None) }
+        ensures kept { IfSome result (λ row. row ≡ count_of session (view_of self.now).journal) }
+    {
+        self.core.row(session)
+    }
+
+    /// Answers a change of a share's session at a moment (100 ns units since 1601). An accepted change becomes the journal's next
+    /// entry, and the share counts it; after a refusal, by the rules or by a callback, hive and share are as before. 1009 comes before all
+    /// other refusals, exactly where the share's count isn't its session's row: at a hive that didn't give the share. 8 and 1450 for space
+    /// come only in place of an acceptance, or where a callback answers them.
+    pub fn apply(&mut self, share: &mut Share, moment: u64, change: Change) -> ChangeReply
         ensures order { is_falling (altitudes_of (callbacks_of self.old)) ≡ true }
         ensures callbacks { callbacks_of self.new ≡ callbacks_of self.old }
-        ensures applied { IsApplied (asks_of C.answers self.old) (view_of self.old) (view_of self.new) session moment change result }
+        ensures noted { noted_of self.new ≡ noted_of self.old }
+        ensures applied { IsCurrent (noted_of self.old) (view_of self.old).journal share.old →
+            IsApplied (asks_of C.answers self.old) (view_of self.old) (view_of self.new) share.old.session moment change result }
+        ensures current { IsCurrent (noted_of self.old) (view_of self.old).journal share.old →
+            IsCurrent (noted_of self.new) (view_of self.new).journal share.new }
+        ensures session { share.new.session ≡ share.old.session }
+        ensures stale { (IsCurrent (noted_of self.old) (view_of self.old).journal share.old → ⊥) →
+            (result ≡ refusal BAD_DATABASE) × (view_of self.new ≡ view_of self.old) × (share.new ≡ share.old) }
     {
-        self.core.apply(&self.callbacks, session, moment, change)
+        if !self.core.is_current(share) {
+            return refuse(BAD_DATABASE);
+        }
+        self.core.apply(&self.callbacks, share, moment, change)
     }
 
-    /// Answers a question of a session. 8 comes only in place of an answer that holds a byte of a name, of data or of a descriptor, or
-    /// where a callback answers it.
-    pub fn read(&self, session: u8, query: &Query) -> Answer
+    /// Answers a question of a share's session. 1009 comes as of `apply`, before all other refusals. 8 comes only in place of an answer
+    /// that holds a byte of a name, of data or of a descriptor, or where a callback answers it.
+    pub fn read(&self, share: &Share, query: &Query) -> Answer
         ensures order { is_falling (altitudes_of (callbacks_of self.now)) ≡ true }
-        ensures at { result.at ≡ length (view_of self.now).journal }
-        ensures body { IsRead (asks_of C.answers self.now) (state (view_of self.now)) session query.now result.body }
+        ensures at { result.at ≡ next_of (view_of self.now) }
+        ensures body { IsCurrent (noted_of self.now) (view_of self.now).journal share.now →
+            IsRead (asks_of C.answers self.now) (state (view_of self.now)) share.now.session query.now result.body }
+        ensures stale { (IsCurrent (noted_of self.now) (view_of self.now).journal share.now → ⊥) → result.body ≡ Refused BAD_DATABASE }
     {
-        self.core.read(&self.callbacks, session, query)
+        if !self.core.is_current(share) {
+            return Answer {
+                at: self.core.len() as u64,
+                body: AnswerBody::Refused {
+                    status: BAD_DATABASE,
+                },
+            };
+        }
+        self.core.read(&self.callbacks, share.session(), query)
     }
 
-    fn answer(&mut self, step: Step) -> Outcome
-        requires { step.session < SESSIONS_LIMIT }
+    /// The refusal that a change of a share's session would meet at this moment (100 ns units since 1601), if there is one: 1009 as of
+    /// `apply`, or the first cause in the order of the rules, in which the callbacks are asked. Takes no memory.
+    pub fn cause(&self, share: &Share, moment: u64, change: &Change) -> Option<u32>
+        ensures order { is_falling (altitudes_of (callbacks_of self.now)) ≡ true }
+        ensures cause { IsCurrent (noted_of self.now) (view_of self.now).journal share.now →
+            result ≡ change_cause (state (view_of self.now)) share.now.session change.now
+            (change_status (asks_of C.answers self.now) (state (view_of self.now)).world share.now.session moment change.now) }
+        ensures stale { (IsCurrent (noted_of self.now) (view_of self.now).journal share.now → ⊥) → result ≡ Some BAD_DATABASE }
+    {
+        if !self.core.is_current(share) {
+            return Some(BAD_DATABASE);
+        }
+        self.core.cause(&self.callbacks, share, moment, change)
+    }
+
+    /// Whether a session has a share in its place whose count is the session's row.
+    fn is_seated(&self, shares: &[Share], session: u8) -> bool
+        ensures { IsTrue result ↔ IsSeated (noted_of self.now) (view_of self.now).journal shares.now session }
+    {
+        let place = session as usize;
+        if place >= shares.len() {
+            return false;
+        }
+        let share = &shares[place];
+        share.session() == session && self.core.is_current(share)
+    }
+
+    /// Whether all sessions of some steps have.
+    fn have_seats(&self, shares: &[Share], steps: &[Step]) -> bool
+        ensures { IsTrue result ↔ HaveSeats (noted_of self.now) (view_of self.now).journal shares.now steps.now }
+    {
+        for step in steps {
+            if !self.is_seated(shares, step.session) {
+                return false;
+            }
+        }
+        true
+    }
+
+    /// Answers a step by the share in its session's place.
+    fn answer(&mut self, shares: &mut Vec<Share>, step: Step) -> Outcome
+        requires { IsSeated (noted_of self.old) (view_of self.old).journal shares.old.items step.session }
         ensures callbacks { callbacks_of self.new ≡ callbacks_of self.old }
+        ensures noted { noted_of self.new ≡ noted_of self.old }
         ensures step { IsStep (asks_of C.answers self.old) (view_of self.old) step result (view_of self.new) }
+        ensures counted { HaveCounted (view_of self.old).journal (view_of self.new).journal shares.old.items shares.new.items }
     {
         let Step {
             session,
             moment,
             call,
         } = step;
+        let share = &mut shares[session as usize];
         match call {
-            Call::Change(change) => Outcome::Changed(self.apply(session, moment, change)),
-            Call::Query(query) => Outcome::Answered(self.read(session, &query)),
+            Call::Change(change) => Outcome::Changed(self.apply(share, moment, change)),
+            Call::Query(query) => Outcome::Answered(self.read(share, &query)),
         }
     }
 
-    /// Answers calls in order, and tells of each what `apply` or `read` would. Its one fault is that memory for the answers was
-    /// refused, before the first call; then the hive is as before.
-    pub fn run(&mut self, steps: Vec<Step>) -> Result<Vec<Outcome>, RunFault>
-        requires { All (λ s. s.session < SESSIONS_LIMIT) steps.items }
+    /// Answers calls in order, each by the share in its session's place, and tells of each what `apply` or `read` would. Each share
+    /// counts the entries of the session of its place (clause `counted`). `Session` exactly where a step's session has no share in its
+    /// place, or one whose count isn't the session's row; else `Memory` where there is none for the answers: both before the first call,
+    /// and nothing changed.
+    pub fn run(
+        &mut self,
+        shares: &mut Vec<Share>,
+        steps: Vec<Step>,
+    ) -> Result<Vec<Outcome>, RunFault>
         ensures order { is_falling (altitudes_of (callbacks_of self.old)) ≡ true }
         ensures callbacks { callbacks_of self.new ≡ callbacks_of self.old }
+        ensures noted { noted_of self.new ≡ noted_of self.old }
         ensures ok { IfOk result (λ outcomes. Run (asks_of C.answers self.old) (view_of self.old) steps.items outcomes.items (view_of self.new)) }
-        ensures err { OnErr result (self.new ≡ self.old) }
+        ensures counted { OnOk result (HaveCounted (view_of self.old).journal (view_of self.new).journal shares.old.items shares.new.items) }
+        ensures session { IsErrOf result RunFault.Session ↔ (HaveSeats (noted_of self.old) (view_of self.old).journal shares.old.items steps.items → ⊥) }
+        ensures err { OnErr result ((self.new ≡ self.old) × (shares.new.items ≡ shares.old.items)) }
     {
+        if !self.have_seats(shares.as_slice(), steps.as_slice()) {
+            return Err(RunFault::Session);
+        }
         let Ok(mut outcomes) = Vec::with_capacity(self.core.alloc(), steps.len()) else {
             return Err(RunFault::Memory);
         };
         for step in steps {
-            let outcome = self.answer(step);
+            let outcome = self.answer(shares, step);
             match outcomes.push(outcome) {
                 Ok(()) => {}
                 Err(_) => unreachable!(),
@@ -249,6 +372,7 @@ impl<C: Callback> Hive<C> {
     /// `AltitudeTaken` where a callback is at that altitude, else `Memory`; then nothing changed, and the callback comes back.
     pub fn register(&mut self, callback: C, altitude: u32) -> Result<Cookie, CallbackFault<C>>
         ensures view { view_of self.new ≡ view_of self.old }
+        ensures noted { noted_of self.new ≡ noted_of self.old }
         ensures added { IfOk result (λ cookie. IsOneMore (record { altitude = altitude; cookie = cookie.number; callback = callback })
             (rows_of (callbacks_of self.old)) (rows_of (callbacks_of self.new))) }
         ensures order { is_falling (altitudes_of (callbacks_of self.new)) ≡ true }
@@ -270,6 +394,7 @@ impl<C: Callback> Hive<C> {
     /// changed. Takes no memory.
     pub fn unregister(&mut self, cookie: Cookie) -> Result<C, CallbackFault<C>>
         ensures view { view_of self.new ≡ view_of self.old }
+        ensures noted { noted_of self.new ≡ noted_of self.old }
         ensures taken { IfOk result (λ callback. (altitude : ℕ)
             × IsOneMore (record { altitude = altitude; cookie = cookie.number; callback = callback })
             (rows_of (callbacks_of self.new)) (rows_of (callbacks_of self.old))) }

@@ -1,21 +1,26 @@
 //! A hive without its callbacks.
-ghost use Rattle.std.specs.Prelude.{ℕ, ◌≡◌, ◌<◌, ◌≤◌, [], Some, None, IsSome, length, slice_get, option_copied, ◌+◌, false, IfOk, OnOk, OnErr};
+ghost use Rattle.std.specs.Prelude.{ℕ, ◌≡◌, ◌≢◌, ◌<◌, ◌≤◌, ◌↔◌, ◌⊎◌, [], Some, None, IsSome, length, map, nat_lt, replicate, slice_get, option_copied, ◌+◌, ◌-◌, false, if◌then◌else◌, IfOk, IfSome, IsErrOf, IsTrue, OnOk, OnErr};
+ghost use Rattle.std.specs.List.{range_with_len};
 ghost use Rattle.reg_heap.specs.Trees.{IsTree, IsWithinLimits};
 ghost use Rattle.reg_arena.specs.Arena.{IsSound};
 ghost use Rattle.reg_model.specs.declared.limits.TheConstants.{JOURNAL_LIMIT, SESSIONS_LIMIT};
+ghost use Rattle.reg_model.specs.Causes.{change_cause};
+ghost use Rattle.reg_model.specs.Callbacks.{change_status};
+ghost use Rattle.reg_model.specs.Histories.{count_of};
 ghost use Rattle.reg_model.specs.Replies.{refusal};
 ghost use Rattle.reg_tree.specs.TreeKeys.{IsWholeTree};
+ghost use Rattle.reg_journal.specs.Kept.{IsCurrent, row_of, seat};
 ghost use Rattle.reg_callbacks.specs.Asking.{asks};
 ghost use Rattle.reg_callbacks.specs.Lists.{answers_of};
 ghost use Rattle.reg_calls.specs.Shortages.{is_closing};
-ghost use Rattle.reg_calls.specs.Views.{state, IsApplied, IsRead, IsHive, IsNoticeTaken};
+ghost use Rattle.reg_calls.specs.Views.{next_of, state, told_in, IsApplied, IsRead, IsHive, IsNoticeTaken};
 
 use crate::quiet::Quiet;
-use crate::store::Store;
+use crate::store::{JournalEnd, Store};
 use reg_arena::Arena;
 use reg_callbacks::{Callback, Callbacks};
 use reg_handles::Handles;
-use reg_journal::Journal;
+use reg_journal::{Journal, SeatFault, Share};
 use reg_model::statuses::NOT_ENOUGH_MEMORY;
 use reg_model::{Answer, Change, ChangeReply, Entry, Notice, Query};
 use reg_notify::Watches;
@@ -24,7 +29,7 @@ use std::alloc::{AllocError, Global};
 use std::marker::Model;
 use std::snapshot::Snapshot;
 
-/// What a hive is without its callbacks: the tree, the open handles, the watches and the journal.
+/// What a hive is without its callbacks: the tree, the open handles, the watches, and the journal with its book.
 #[derive(Drop)]
 pub struct Core {
     alloc: Global,
@@ -35,22 +40,26 @@ pub struct Core {
 }
 
 impl Model for Core {
-    ghost use Rattle.std.specs.Prelude.{◌≡◌, length, vec_len};
+    ghost use Rattle.std.specs.Prelude.{◌≡◌, ◌+◌, [], length, vec_len};
     ghost use Rattle.reg_calls.specs.declared.quiet.TheConstants.{REMEMBERED};
     ghost use Rattle.reg_calls.specs.Internal.QuietKeys.{AreUnhit};
-    ghost use Rattle.reg_calls.specs.Views.{View, HiveInvariant, coded_view, view_with};
+    ghost use Rattle.reg_calls.specs.Views.{Booked, HiveInvariant, coded_booked, view_with};
 
-    ghost Value = { View };
+    ghost Value = { Booked };
 
-    ghost coded = { coded_view };
+    ghost coded = { coded_booked };
 
-    ghost view = { λ h. view_with h.origin.value.tree h.journal.entries h.store };
+    ghost view = { λ h. record {
+      view = view_with h.origin.value.tree h.journal.base [] h.journal.entries h.store;
+      noted = h.journal.noted;
+    } };
 
-    ghost invariant = { λ h. (h.journal.base ≡ 0) × (vec_len h.quiet.rows ≡ REMEMBERED) × AreUnhit (length h.journal.entries) h.store h.quiet
-        × HiveInvariant h.origin.value.tree h.journal.entries h.store h.journal.room };
+    ghost invariant = { λ h. (vec_len h.quiet.rows ≡ REMEMBERED) × AreUnhit (h.journal.base + length h.journal.entries) h.store h.quiet
+        × HiveInvariant h.origin.value.tree h.journal.base [] h.journal.entries h.store h.journal.room };
 }
 
-fn refuse(status: u32) -> ChangeReply
+/// The reply of a refusal.
+pub fn refuse(status: u32) -> ChangeReply
     ensures { result ≡ refusal status }
 {
     ChangeReply {
@@ -82,6 +91,7 @@ fn closes(change: &Change) -> bool
 /// Keeps room in the journal for a change's entry, and for the closing of each handle that is open then.
 fn keep_room(journal: &mut Journal, handles: usize, change: &Change) -> Result<(), AllocError>
     requires { handles ≤ JOURNAL_LIMIT }
+    ensures noted { journal.new.noted ≡ journal.old.noted }
     ensures base { journal.new.base ≡ journal.old.base }
     ensures entries { journal.new.entries ≡ journal.old.entries }
     ensures room { journal.old.room ≤ journal.new.room }
@@ -94,6 +104,17 @@ fn keep_room(journal: &mut Journal, handles: usize, change: &Change) -> Result<(
     journal.reserve(handles + 2)
 }
 
+/// Where a journal ends.
+fn end_of(journal: &Journal) -> JournalEnd
+    ensures kept { result.kept ≡ length journal.now.entries }
+    ensures next { result.next ≡ journal.now.base + length journal.now.entries }
+{
+    JournalEnd {
+        kept: journal.kept(),
+        next: journal.len() as u64,
+    }
+}
+
 impl Core {
     ghost use Rattle.reg_model.specs.Histories.{IsLegal, replay, pending, fired};
     ghost use Rattle.reg_notify.specs.Tables.{told_to, taken_by};
@@ -103,14 +124,17 @@ impl Core {
     pub fn new(alloc: Global, tree: Tree) -> Result<Core, AllocError>
         requires tree { IsTree tree.tree }
         requires limits { IsWithinLimits tree.tree }
-        ensures origin { IfOk result (λ core. core.origin ≡ tree.tree) }
-        ensures journal { IfOk result (λ core. core.journal ≡ []) }
-        ensures keys { IfOk result (λ core. core.keys ≡ tree) }
-        ensures hive { IfOk result (λ core. IsHive core) }
-        ensures handles { IfOk result (λ core. core.handles ≡ []) }
-        ensures pending { IfOk result (λ core. core.watches.pending ≡ []) }
-        ensures told { IfOk result (λ core. (s : ℕ) → told_to core.watches s ≡ []) }
-        ensures taken { IfOk result (λ core. (s : ℕ) → taken_by core.watches s ≡ 0) }
+        ensures origin { IfOk result (λ core. core.view.origin ≡ tree.tree) }
+        ensures journal { IfOk result (λ core. core.view.journal ≡ []) }
+        ensures base { IfOk result (λ core. core.view.base ≡ 0) }
+        ensures before { IfOk result (λ core. core.view.before ≡ []) }
+        ensures noted { IfOk result (λ core. core.noted ≡ []) }
+        ensures keys { IfOk result (λ core. core.view.keys ≡ tree) }
+        ensures hive { IfOk result (λ core. IsHive core.view) }
+        ensures handles { IfOk result (λ core. core.view.handles ≡ []) }
+        ensures pending { IfOk result (λ core. core.view.watches.pending ≡ []) }
+        ensures told { IfOk result (λ core. (s : ℕ) → told_to core.view.watches s ≡ []) }
+        ensures taken { IfOk result (λ core. (s : ℕ) → taken_by core.view.watches s ≡ 0) }
     {
         // Only for its clauses: what is true of every tree's cells.
         let _ = tree.arena();
@@ -135,80 +159,114 @@ impl Core {
         self.alloc
     }
 
-    /// How many entries the journal has.
+    /// How many entries the hive has had: the number of the next one.
     pub fn len(&self) -> usize
-        ensures len { result ≡ length self.now.journal }
-        ensures legal { IsLegal self.now.origin self.now.journal }
-        ensures hive { IsHive self.now }
+        ensures len { result ≡ next_of self.now.view }
+        ensures legal { IsLegal self.now.view.base self.now.view.origin self.now.view.journal }
+        ensures hive { IsHive self.now.view }
     {
         self.journal.len()
     }
 
     /// How many handles are open, of all sessions.
     pub fn open_handles(&self) -> usize
-        ensures number { result ≡ length self.now.handles }
-        ensures replayed { self.now.handles ≡ (replay self.now.origin self.now.journal).handles }
+        ensures number { result ≡ length self.now.view.handles }
+        ensures replayed { self.now.view.handles ≡ (replay self.now.view.origin self.now.view.journal).handles }
     {
         self.store.handles.len()
     }
 
     /// How many watches are pending, of all sessions.
     pub fn pending(&self) -> usize
-        ensures number { result ≡ length self.now.watches.pending }
-        ensures replayed { self.now.watches.pending ≡ pending self.now.origin self.now.journal }
-        ensures told { (s : ℕ) → told_to self.now.watches s ≡ fired self.now.origin self.now.journal s }
+        ensures number { result ≡ length self.now.view.watches.pending }
+        ensures replayed { self.now.view.watches.pending ≡ pending self.now.view.origin self.now.view.journal }
+        ensures told { (s : ℕ) → told_to self.now.view.watches s ≡ told_in self.now.view s }
     {
         self.store.watches.len()
     }
 
     /// The session's next notice, if it was told one more than it took.
     pub fn take_notice(&mut self, session: u8) -> Option<Notice>
-        ensures { IsNoticeTaken self.old self.new session result }
+        ensures notice { IsNoticeTaken self.old.view self.new.view session result }
+        ensures noted { self.new.noted ≡ self.old.noted }
     {
         self.store.watches.take(session)
     }
 
-    /// The journal's entry of that number, if there are so many.
+    /// The journal's entry of that number, if it keeps one.
     pub fn entry(&self, number: usize) -> Option<&Entry>
-        ensures { option_copied result ≡ slice_get self.now.journal number }
+        ensures { option_copied result ≡
+            (if nat_lt number self.now.view.base then None else slice_get self.now.view.journal (number - self.now.view.base)) }
     {
         self.journal.entry(number)
     }
 
     /// The bins with their cells: whole, and spelling the tree of the journal's replay.
     pub fn arena(&self) -> &Arena
-        ensures bins { result.now ≡ self.now.keys.bins }
-        ensures tree { self.now.keys.tree ≡ (replay self.now.origin self.now.journal).tree }
-        ensures whole { IsWholeTree self.now.keys.bins.bytes self.now.keys.root self.now.keys.tree }
-        ensures sound { IsSound self.now.keys.bins.bytes self.now.keys.bins.heads }
+        ensures bins { result.now ≡ self.now.view.keys.bins }
+        ensures tree { self.now.view.keys.tree ≡ (replay self.now.view.origin self.now.view.journal).tree }
+        ensures whole { IsWholeTree self.now.view.keys.bins.bytes self.now.view.keys.root self.now.view.keys.tree }
+        ensures sound { IsSound self.now.view.keys.bins.bytes self.now.view.keys.bins.heads }
     {
         self.store.tree.arena()
     }
 
     /// The keys of the journal's replay.
     pub fn tree(&self) -> &Tree
-        ensures keys { result.now ≡ self.now.keys }
-        ensures tree { self.now.keys.tree ≡ (replay self.now.origin self.now.journal).tree }
+        ensures keys { result.now ≡ self.now.view.keys }
+        ensures tree { self.now.view.keys.tree ≡ (replay self.now.view.origin self.now.view.journal).tree }
     {
         &self.store.tree
     }
 
-    /// Answers a change: refused by its cause; or made, its watches told, and noted as the journal's next entry; or given up for want
-    /// of memory or space.
+    /// Gives the sessions below `n` their seats, once.
+    pub fn seat(&mut self, n: u8) -> Result<Vec<Share>, SeatFault>
+        ensures shares { IfOk result (λ shares. shares.items ≡ map (λ s. seat s 0) (range_with_len 0 n)) }
+        ensures seated { OnOk result (self.new.noted ≡ replicate n 0) }
+        ensures view { self.new.view ≡ self.old.view }
+        ensures first { OnOk result (self.old.view.journal ≡ []) }
+        ensures err { OnErr result (self.new ≡ self.old) }
+        ensures again { IsErrOf result SeatFault.Seated ↔ (self.old.noted ≢ []) }
+        ensures count { IsErrOf result SeatFault.Count ↔ ((self.old.noted ≡ []) × ((n ≡ 0) ⊎ (SESSIONS_LIMIT < n))) }
+    {
+        self.journal.seat(n)
+    }
+
+    /// How many entries a session has had; `None` where it has no seat.
+    pub fn row(&self, session: u8) -> Option<u64>
+        ensures row { result ≡ (if nat_lt session (length self.now.noted) then Some (row_of self.now.noted self.now.view.journal session) else None) }
+        ensures kept { IfSome result (λ row. row ≡ count_of session self.now.view.journal) }
+    {
+        self.journal.row(session)
+    }
+
+    /// Whether the share's session has a seat whose row is the share's count.
+    pub fn is_current(&self, share: &Share) -> bool
+        ensures { IsTrue result ↔ IsCurrent self.now.noted self.now.view.journal share.now }
+    {
+        self.journal.is_current(share)
+    }
+
+    /// Answers a change of a share whose count is its row: refused by its cause; or made, its watches told, noted as the journal's next
+    /// entry and counted in the share; or given up for want of memory or space.
     pub fn apply<C: Callback>(
         &mut self,
         callbacks: &Callbacks<C>,
-        session: u8,
+        share: &mut Share,
         moment: u64,
         change: Change,
     ) -> ChangeReply
-        requires { session < SESSIONS_LIMIT }
-        ensures { IsApplied (asks (answers_of C.answers callbacks.now)) self.old self.new session moment change result }
+        requires { IsCurrent self.old.noted self.old.view.journal share.old }
+        ensures applied { IsApplied (asks (answers_of C.answers callbacks.now)) self.old.view self.new.view share.old.session moment change result }
+        ensures noted { self.new.noted ≡ self.old.noted }
+        ensures current { IsCurrent self.new.noted self.new.view.journal share.new }
+        ensures session { share.new.session ≡ share.old.session }
     {
-        let number = self.journal.len();
+        let session = share.session();
+        let end = end_of(&self.journal);
         let admitted = match self
             .store
-            .admit(callbacks, self.alloc, number, session, moment, &change)
+            .admit(callbacks, self.alloc, end, session, moment, &change)
         {
             Ok(admitted) => admitted,
             Err(refusal) => return refuse(refusal.status()),
@@ -218,25 +276,18 @@ impl Core {
             Ok(()) => {}
             Err(_) => return refuse(NOT_ENOUGH_MEMORY),
         }
-        let number = number as u64;
-        match self.store.carry_out(
-            &mut self.quiet,
-            self.alloc,
-            session,
-            moment,
-            number,
-            admitted,
-        ) {
+        match self.store.carry_out(&mut self.quiet, self.alloc, session, moment, end, admitted) {
             Ok(reply) => {
                 // Only for its clauses: what is true of every tree's cells.
                 let _ = self.store.tree.arena();
-                self.journal.append(Entry {
-                    number,
+                let entry = Entry {
+                    number: end.next,
                     session,
                     moment,
                     change,
                     reply,
-                });
+                };
+                self.journal.append(share, entry);
                 reply
             }
             Err(lack) => {
@@ -247,10 +298,26 @@ impl Core {
         }
     }
 
+    /// The first cause for which a change of a share's session is refused, if there is one; the callbacks are asked. Takes no memory.
+    pub fn cause<C: Callback>(
+        &self,
+        callbacks: &Callbacks<C>,
+        share: &Share,
+        moment: u64,
+        change: &Change,
+    ) -> Option<u32>
+        ensures { result ≡ change_cause (state self.now.view) share.now.session change.now
+            (change_status (asks (answers_of C.answers callbacks.now)) (state self.now.view).world share.now.session moment change.now) }
+    {
+        let end = end_of(&self.journal);
+        self.store
+            .cause(callbacks, end, share.session(), moment, change)
+    }
+
     /// Answers a question, with the number of entries at which it was answered.
     pub fn read<C: Callback>(&self, callbacks: &Callbacks<C>, session: u8, query: &Query) -> Answer
-        ensures at { result.at ≡ length self.now.journal }
-        ensures body { IsRead (asks (answers_of C.answers callbacks.now)) (state self.now) session query.now result.body }
+        ensures at { result.at ≡ next_of self.now.view }
+        ensures body { IsRead (asks (answers_of C.answers callbacks.now)) (state self.now.view) session query.now result.body }
     {
         let body = self.store.answer(callbacks, self.alloc, session, query);
         Answer {

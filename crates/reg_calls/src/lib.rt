@@ -3,7 +3,10 @@
 //! Its one contract: a change is refused exactly by the rules and then changes nothing, or is told what is due and is one entry of
 //! the journal more; tree, handles and pending watches are the journal's replay, the bytes spell that tree, and each session is handed
 //! just the notices that the journal tells it. It stands on reg_tree, reg_handles, reg_notify, reg_journal, reg_callbacks and
-//! reg_model. Its type is [`Hive`]; its faults are [`NewFault`] and [`RunFault`].
+//! reg_model. Its types are [`Hive`] and, with the shares of all sessions, [`SeatedHive`]; its faults are [`NewFault`] and [`RunFault`].
+//!
+//! A session calls by its share ([`Hive::seat`]). 1009 comes before all else, where the share's count isn't the session's row in the
+//! journal's book, as at a hive that didn't give the share.
 //!
 //! Each call but Close asks the hive's callbacks ([`Hive::register`]): after its refusals by 6, 1018, 87, 5 for a right and 1450
 //! for what is counted, and before all others. What the first of them answers that isn't 0 is then the answer.
@@ -65,8 +68,10 @@ mod query_value;
 mod quiet;
 mod refusal;
 mod replies;
+mod seated;
 mod set_security;
 mod set_value;
 mod store;
 
 pub use hive::{Hive, NewFault, RunFault};
+pub use seated::{SeatedHive, apply_by, read_by};

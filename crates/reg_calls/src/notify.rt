@@ -11,7 +11,7 @@ ghost use Rattle.reg_calls.specs.Internal.Admissions.{AdmitsNotify};
 use crate::asking::Asking;
 use crate::lack::Lack;
 use crate::replies::accepted;
-use crate::store::Store;
+use crate::store::{JournalEnd, Store};
 use reg_callbacks::Callback;
 use reg_model::ChangeReply;
 use reg_model::filters::{EVENTS, NO_FILTER};
@@ -41,12 +41,12 @@ fn is_filter(filter: u32) -> bool
 
 impl Store {
     /// Whether the session has as many pending watches as there may be, or the journal is full.
-    fn has_no_watch_room(&self, entries: usize, session: u8) -> bool
+    fn has_no_watch_room(&self, end: JournalEnd, session: u8) -> bool
         requires session { session < SESSIONS_LIMIT }
-        requires ready { IsReady entries self.now }
-        ensures { result ≡ no_watch_room session (at entries self.now) }
+        requires ready { IsReady end self.now }
+        ensures { result ≡ no_watch_room session (at end self.now) }
     {
-        self.watches.count(session) >= WATCHES_LIMIT || self.is_full(entries)
+        self.watches.count(session) >= WATCHES_LIMIT || self.is_full(end)
     }
 }
 
@@ -58,17 +58,17 @@ impl Notify {
     pub fn admit<C: Callback>(
         store: &Store,
         asking: &Asking<'_, C>,
-        entries: usize,
+        end: JournalEnd,
         session: u8,
         handle: u64,
         filter: u32,
         subtree: bool,
     ) -> Result<Notify, u32>
         requires session { session < SESSIONS_LIMIT }
-        requires ready { IsReady entries store.now }
+        requires ready { IsReady end store.now }
         ensures refused { IfErr result (λ status.
-            change_cause (at entries store.now) session (Notified handle filter subtree) (status_by C.answers asking.now store.now session handle) ≡ Some status) }
-        ensures admitted { IfOk result (λ found. AdmitsNotify entries store.now session found) }
+            change_cause (at end store.now) session (Notified handle filter subtree) (status_by C.answers asking.now store.now session handle) ≡ Some status) }
+        ensures admitted { IfOk result (λ found. AdmitsNotify end store.now session found) }
         ensures asked { OnOk result (asked (status_by C.answers asking.now store.now session handle) ≡ None) }
         ensures handle { IfOk result (λ found. found.handle ≡ handle) }
         ensures filter { IfOk result (λ found. found.filter ≡ filter) }
@@ -84,7 +84,7 @@ impl Notify {
         if key.mask & NOTIFY != NOTIFY {
             return Err(ACCESS_DENIED);
         }
-        if store.has_no_watch_room(entries, session) {
+        if store.has_no_watch_room(end, session) {
             return Err(NO_SYSTEM_RESOURCES);
         }
         match asking.ask(key.path) {
@@ -104,20 +104,20 @@ impl Notify {
         store: &mut Store,
         alloc: Global,
         session: u8,
-        number: u64,
+        end: JournalEnd,
     ) -> Result<ChangeReply, Lack>
         requires session { session < SESSIONS_LIMIT }
-        requires ready { IsReady number store.old }
-        requires admitted { AdmitsNotify number store.old session self }
-        ensures { (moment : ℕ) → AdmitsNotify number store.old session self →
-            IsMade store.old store.new session moment number (Notified self.handle self.filter self.subtree) result }
+        requires ready { IsReady end store.old }
+        requires admitted { AdmitsNotify end store.old session self }
+        ensures { (moment : ℕ) → AdmitsNotify end store.old session self →
+            IsMade store.old store.new session moment end (Notified self.handle self.filter self.subtree) result }
     {
         let place = match store.place_of(alloc, session, self.handle) {
             Ok(place) => place,
             Err(_) => return Err(Lack::Memory),
         };
         let asked = Registration {
-            number,
+            end.next,
             session,
             handle: self.handle,
             place,
@@ -125,7 +125,7 @@ impl Notify {
             subtree: self.subtree,
         };
         match store.watches.add(alloc, asked) {
-            Ok(()) => Ok(accepted(number)),
+            Ok(()) => Ok(accepted(end.next)),
             Err(_) => Err(Lack::Memory),
         }
     }

@@ -12,7 +12,7 @@ use crate::asking::Asking;
 use crate::lack::Lack;
 use crate::refusal::Refusal;
 use crate::replies::opened;
-use crate::store::{Store, is_bad_open, path_below};
+use crate::store::{JournalEnd, Store, is_bad_open, path_below};
 use reg_callbacks::Callback;
 use reg_model::ChangeReply;
 use reg_model::statuses::FILE_NOT_FOUND;
@@ -41,20 +41,20 @@ impl OpenKey {
         store: &Store,
         asking: &Asking<'_, C>,
         alloc: Global,
-        entries: usize,
+        end: JournalEnd,
         session: u8,
         handle: u64,
         path: &[u8],
         mask: u32,
     ) -> Result<OpenKey, Refusal>
         requires session { session < SESSIONS_LIMIT }
-        requires ready { IsReady entries store.now }
-        ensures refused { IfErr result (λ refusal. IsNotAdmitted (status_by C.answers asking.now store.now session handle) entries store.now session (KeyOpened handle path.now mask) refusal) }
-        ensures admitted { IfOk result (λ found. AdmitsOpenKey entries store.now session handle path.now found) }
+        requires ready { IsReady end store.now }
+        ensures refused { IfErr result (λ refusal. IsNotAdmitted (status_by C.answers asking.now store.now session handle) end store.now session (KeyOpened handle path.now mask) refusal) }
+        ensures admitted { IfOk result (λ found. AdmitsOpenKey end store.now session handle path.now found) }
         ensures asked { OnOk result (asked (status_by C.answers asking.now store.now session handle) ≡ None) }
         ensures mask { IfOk result (λ found. found.mask ≡ mask) }
     {
-        let key = match store.key_to_open_at(entries, session, handle, is_bad_open(path, mask)) {
+        let key = match store.key_to_open_at(end, session, handle, is_bad_open(path, mask)) {
             Ok(key) => key,
             Err(status) => return Err(Refusal::Cause(status)),
         };
@@ -87,12 +87,17 @@ impl OpenKey {
     }
 
     /// Opens the key as the handle of a number. `Err` says that memory was lacking; then keys and handles are as they were.
-    pub fn commit(self, store: &mut Store, session: u8, number: u64) -> Result<ChangeReply, Lack>
+    pub fn commit(
+        self,
+        store: &mut Store,
+        session: u8,
+        end: JournalEnd,
+    ) -> Result<ChangeReply, Lack>
         requires session { session < SESSIONS_LIMIT }
-        requires ready { IsReady number store.old }
-        requires admitted { (handle : ℕ) × (path : List ℕ) × AdmitsOpenKey number store.old session handle path self }
-        ensures { (moment handle : ℕ) → (path : List ℕ) → AdmitsOpenKey number store.old session handle path self →
-            IsMade store.old store.new session moment number (KeyOpened handle path self.mask) result }
+        requires ready { IsReady end store.old }
+        requires admitted { (handle : ℕ) × (path : List ℕ) × AdmitsOpenKey end store.old session handle path self }
+        ensures { (moment handle : ℕ) → (path : List ℕ) → AdmitsOpenKey end store.old session handle path self →
+            IsMade store.old store.new session moment end (KeyOpened handle path self.mask) result }
     {
         let OpenKey {
             mask,
@@ -101,13 +106,13 @@ impl OpenKey {
             node,
         } = self;
         let Some(text) = text else {
-            return match store.handles.add_beside(session, number, mask, by) {
-                Ok(()) => Ok(opened(number, None)),
+            return match store.handles.add_beside(session, end.next, mask, by) {
+                Ok(()) => Ok(opened(end.next, None)),
                 Err(_) => Err(Lack::Memory),
             };
         };
-        match store.handles.add(session, number, mask, text, node) {
-            Ok(()) => Ok(opened(number, None)),
+        match store.handles.add(session, end.next, mask, text, node) {
+            Ok(()) => Ok(opened(end.next, None)),
             Err(_) => Err(Lack::Memory),
         }
     }

@@ -11,7 +11,7 @@ ghost use Rattle.reg_calls.specs.Internal.Admissions.{IsClear};
 use crate::asking::Asking;
 use crate::lack::Lack;
 use crate::replies::opened;
-use crate::store::Store;
+use crate::store::{JournalEnd, Store};
 use reg_callbacks::Callback;
 use reg_model::ChangeReply;
 use reg_model::rights::NO_RIGHTS;
@@ -33,21 +33,21 @@ impl OpenRoot {
     pub fn admit<C: Callback>(
         store: &Store,
         asking: &Asking<'_, C>,
-        entries: usize,
+        end: JournalEnd,
         session: u8,
         mask: u32,
     ) -> Result<OpenRoot, u32>
         requires session { session < SESSIONS_LIMIT }
-        requires ready { IsReady entries store.now }
-        ensures refused { IfErr result (λ status. change_cause (at entries store.now) session (RootOpened mask) (status_at C.answers asking.now []) ≡ Some status) }
-        ensures clear { IfOk result (λ found. IsClear entries store.now session (RootOpened mask)) }
+        requires ready { IsReady end store.now }
+        ensures refused { IfErr result (λ status. change_cause (at end store.now) session (RootOpened mask) (status_at C.answers asking.now []) ≡ Some status) }
+        ensures clear { IfOk result (λ found. IsClear end store.now session (RootOpened mask)) }
         ensures asked { OnOk result (asked (status_at C.answers asking.now []) ≡ None) }
         ensures mask { IfOk result (λ found. found.mask ≡ mask) }
     {
         if mask & NO_RIGHTS != 0 {
             return Err(INVALID_PARAMETER);
         }
-        if store.has_no_handle_room(entries, session) {
+        if store.has_no_handle_room(end, session) {
             return Err(NO_SYSTEM_RESOURCES);
         }
         match asking.ask(b"") {
@@ -63,19 +63,19 @@ impl OpenRoot {
         store: &mut Store,
         alloc: Global,
         session: u8,
-        number: u64,
+        end: JournalEnd,
     ) -> Result<ChangeReply, Lack>
         requires session { session < SESSIONS_LIMIT }
-        requires ready { IsReady number store.old }
-        requires clear { IsClear number store.old session (RootOpened self.mask) }
-        ensures { (moment : ℕ) → IsMade store.old store.new session moment number (RootOpened self.mask) result }
+        requires ready { IsReady end store.old }
+        requires clear { IsClear end store.old session (RootOpened self.mask) }
+        ensures { (moment : ℕ) → IsMade store.old store.new session moment end (RootOpened self.mask) result }
     {
         let root = store.tree.root();
         match store
             .handles
-            .add(session, number, self.mask, Vec::new(alloc), root)
+            .add(session, end.next, self.mask, Vec::new(alloc), root)
         {
-            Ok(()) => Ok(opened(number, None)),
+            Ok(()) => Ok(opened(end.next, None)),
             Err(_) => Err(Lack::Memory),
         }
     }

@@ -4,6 +4,7 @@ ghost use Rattle.reg_calls.specs.Internal.Stores.{at, KnowsKeys};
 ghost use Rattle.reg_callbacks.specs.Asking.{asks};
 ghost use Rattle.reg_callbacks.specs.Lists.{answers_of};
 ghost use Rattle.reg_calls.specs.Views.{IsRead};
+ghost use Rattle.reg_calls.specs.declared.store.JournalEnd.{JournalEnd};
 
 use crate::asking::Asking;
 use crate::store::Store;
@@ -22,7 +23,7 @@ impl Store {
         query: &Query,
     ) -> AnswerBody
         requires { KnowsKeys self.now }
-        ensures { (n : ℕ) → IsRead (asks (answers_of C.answers callbacks.now)) (at n self.now) session query.now result }
+        ensures { (end : JournalEnd) → IsRead (asks (answers_of C.answers callbacks.now)) (at end self.now) session query.now result }
     {
         let asking = Asking {
             callbacks,

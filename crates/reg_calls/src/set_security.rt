@@ -7,12 +7,13 @@ ghost use Rattle.reg_calls.specs.Internal.Askings.{status_by};
 ghost use Rattle.reg_calls.specs.Internal.Stores.{at, IsReady, IsMade};
 ghost use Rattle.reg_calls.specs.Internal.Admissions.{AdmitsSetSecurity};
 ghost use Rattle.reg_calls.specs.Internal.Announcements.{IsAnnounced};
+ghost use Rattle.reg_calls.specs.declared.store.JournalEnd.{JournalEnd};
 
 use crate::announced::Announced;
 use crate::asking::Asking;
 use crate::lack::Lack;
 use crate::replies::accepted;
-use crate::store::{Store, is_bad_descriptor};
+use crate::store::{JournalEnd, Store, is_bad_descriptor};
 use reg_callbacks::Callback;
 use reg_model::ChangeReply;
 use reg_model::filters::SECURITY;
@@ -40,15 +41,15 @@ impl<'a> SetSecurity<'a> {
     pub fn admit<C: Callback>(
         store: &Store,
         asking: &Asking<'_, C>,
-        entries: usize,
+        end: JournalEnd,
         session: u8,
         handle: u64,
         descriptor: &'a [u8],
     ) -> Result<SetSecurity<'a>, u32>
-        requires { IsReady entries store.now }
+        requires { IsReady end store.now }
         ensures refused { IfErr result (λ status.
-            change_cause (at entries store.now) session (SecuritySet handle descriptor.now) (status_by C.answers asking.now store.now session handle) ≡ Some status) }
-        ensures admitted { IfOk result (λ found. AdmitsSetSecurity entries store.now session handle found) }
+            change_cause (at end store.now) session (SecuritySet handle descriptor.now) (status_by C.answers asking.now store.now session handle) ≡ Some status) }
+        ensures admitted { IfOk result (λ found. AdmitsSetSecurity end store.now session handle found) }
         ensures asked { OnOk result (asked (status_by C.answers asking.now store.now session handle) ≡ None) }
         ensures descriptor { IfOk result (λ found. found.descriptor.now ≡ descriptor.now) }
     {
@@ -62,7 +63,7 @@ impl<'a> SetSecurity<'a> {
         if key.mask & WRITE_DAC != WRITE_DAC {
             return Err(ACCESS_DENIED);
         }
-        if store.is_full(entries) {
+        if store.is_full(end) {
             return Err(NO_SYSTEM_RESOURCES);
         }
         match asking.ask(key.path) {
@@ -83,9 +84,9 @@ impl<'a> SetSecurity<'a> {
         alloc: Global,
         session: u8,
     ) -> Result<Announced, AllocError>
-        requires { (entries handle : ℕ) × AdmitsSetSecurity entries store.now session handle self.now }
-        ensures { (entries handle : ℕ) → AdmitsSetSecurity entries store.now session handle self.now →
-            IfOk result (λ announced. IsAnnounced entries store.now session (SecuritySet handle self.now.descriptor.now) announced) }
+        requires { (end : JournalEnd) × (handle : ℕ) × AdmitsSetSecurity end store.now session handle self.now }
+        ensures { (end : JournalEnd) → (handle : ℕ) → AdmitsSetSecurity end store.now session handle self.now →
+            IfOk result (λ announced. IsAnnounced end store.now session (SecuritySet handle self.now.descriptor.now) announced) }
     {
         store.event_of(alloc, session, self.handle, SECURITY)
     }
@@ -97,18 +98,18 @@ impl<'a> SetSecurity<'a> {
         store: &mut Store,
         alloc: Global,
         moment: u64,
-        number: u64,
+        end: JournalEnd,
     ) -> Result<ChangeReply, Lack>
-        requires ready { IsReady number store.old }
-        requires admitted { (session handle : ℕ) × AdmitsSetSecurity number store.old session handle self }
-        ensures { (session handle : ℕ) → AdmitsSetSecurity number store.old session handle self.entry →
-            IsMade store.old store.new session moment number (SecuritySet handle self.entry.descriptor.now) result }
+        requires ready { IsReady end store.old }
+        requires admitted { (session handle : ℕ) × AdmitsSetSecurity end store.old session handle self }
+        ensures { (session handle : ℕ) → AdmitsSetSecurity end store.old session handle self.entry →
+            IsMade store.old store.new session moment end (SecuritySet handle self.entry.descriptor.now) result }
     {
         match store
             .tree
             .set_security(alloc, self.node, self.descriptor, moment)
         {
-            Ok(()) => Ok(accepted(number)),
+            Ok(()) => Ok(accepted(end.next)),
             Err(fault) => Err(Lack::from(fault)),
         }
     }

@@ -11,12 +11,13 @@ ghost use Rattle.reg_calls.specs.Internal.Askings.{status_by};
 ghost use Rattle.reg_calls.specs.Internal.Stores.{at, IsReady, IsMade};
 ghost use Rattle.reg_calls.specs.Internal.Admissions.{AdmitsSetValue};
 ghost use Rattle.reg_calls.specs.Internal.Announcements.{IsAnnounced};
+ghost use Rattle.reg_calls.specs.declared.store.JournalEnd.{JournalEnd};
 
 use crate::announced::Announced;
 use crate::asking::Asking;
 use crate::lack::Lack;
 use crate::replies::accepted;
-use crate::store::Store;
+use crate::store::{JournalEnd, Store};
 use reg_callbacks::Callback;
 use reg_heap::limits::{DATA_LIMIT, VALUES_LIMIT};
 use reg_model::ChangeReply;
@@ -67,17 +68,17 @@ impl<'a> SetValue<'a> {
     pub fn admit<C: Callback>(
         store: &Store,
         asking: &Asking<'_, C>,
-        entries: usize,
+        end: JournalEnd,
         session: u8,
         handle: u64,
         name: &'a [u8],
         kind: u32,
         bytes: &'a [u8],
     ) -> Result<SetValue<'a>, u32>
-        requires { IsReady entries store.now }
+        requires { IsReady end store.now }
         ensures refused { IfErr result (λ status.
-            change_cause (at entries store.now) session (ValueSet handle name.now kind bytes.now) (status_by C.answers asking.now store.now session handle) ≡ Some status) }
-        ensures admitted { IfOk result (λ found. AdmitsSetValue entries store.now session handle found) }
+            change_cause (at end store.now) session (ValueSet handle name.now kind bytes.now) (status_by C.answers asking.now store.now session handle) ≡ Some status) }
+        ensures admitted { IfOk result (λ found. AdmitsSetValue end store.now session handle found) }
         ensures asked { OnOk result (asked (status_by C.answers asking.now store.now session handle) ≡ None) }
         ensures name { IfOk result (λ found. found.name.now ≡ name.now) }
         ensures kind { IfOk result (λ found. found.kind ≡ kind) }
@@ -95,7 +96,7 @@ impl<'a> SetValue<'a> {
         }
         let place = store.tree.value_index(key.node, name);
         // Not `||`: the rules name both limits as one cause, and without a branch the proof has one equation for it.
-        if store.is_full(entries) | has_no_value_room(&store.tree, key.node, place) {
+        if store.is_full(end) | has_no_value_room(&store.tree, key.node, place) {
             return Err(NO_SYSTEM_RESOURCES);
         }
         match asking.ask(key.path) {
@@ -119,9 +120,9 @@ impl<'a> SetValue<'a> {
         alloc: Global,
         session: u8,
     ) -> Result<Announced, AllocError>
-        requires { (entries handle : ℕ) × AdmitsSetValue entries store.now session handle self.now }
-        ensures { (entries handle : ℕ) → AdmitsSetValue entries store.now session handle self.now →
-            IfOk result (λ announced. IsAnnounced entries store.now session (ValueSet handle self.now.name.now self.now.kind self.now.bytes.now) announced) }
+        requires { (end : JournalEnd) × (handle : ℕ) × AdmitsSetValue end store.now session handle self.now }
+        ensures { (end : JournalEnd) → (handle : ℕ) → AdmitsSetValue end store.now session handle self.now →
+            IfOk result (λ announced. IsAnnounced end store.now session (ValueSet handle self.now.name.now self.now.kind self.now.bytes.now) announced) }
     {
         store.event_of(alloc, session, self.handle, LAST_SET)
     }
@@ -132,17 +133,17 @@ impl<'a> SetValue<'a> {
         store: &mut Store,
         alloc: Global,
         moment: u64,
-        number: u64,
+        end: JournalEnd,
     ) -> Result<ChangeReply, Lack>
-        requires ready { IsReady number store.old }
-        requires admitted { (session handle : ℕ) × AdmitsSetValue number store.old session handle self }
-        ensures { (session handle : ℕ) → AdmitsSetValue number store.old session handle self.entry →
-            IsMade store.old store.new session moment number (ValueSet handle self.entry.name.now self.entry.kind self.entry.bytes.now) result }
+        requires ready { IsReady end store.old }
+        requires admitted { (session handle : ℕ) × AdmitsSetValue end store.old session handle self }
+        ensures { (session handle : ℕ) → AdmitsSetValue end store.old session handle self.entry →
+            IsMade store.old store.new session moment end (ValueSet handle self.entry.name.now self.entry.kind self.entry.bytes.now) result }
     {
         match store.tree.set_at(
             alloc, self.node, self.place, self.name, self.kind, self.bytes, moment,
         ) {
-            Ok(()) => Ok(accepted(number)),
+            Ok(()) => Ok(accepted(end.next)),
             Err(fault) => Err(Lack::from(fault)),
         }
     }

@@ -27,6 +27,13 @@ pub struct Store {
     pub watches: Watches,
 }
 
+/// Where the journal ends: how many entries it keeps, and the number of the next one.
+#[derive(Clone, Copy)]
+pub struct JournalEnd {
+    pub kept: usize,
+    pub next: u64,
+}
+
 /// An open handle that leads to a key.
 #[derive(Clone, Copy)]
 pub struct KeyHandle<'a> {
@@ -87,42 +94,42 @@ impl Store {
     }
 
     /// Whether the journal has no room for one more entry beside the closings of the open handles.
-    pub fn is_full(&self, entries: usize) -> bool
-        requires { entries + length self.now.handles.handles ≤ JOURNAL_LIMIT }
-        ensures { result ≡ is_full_of 1 (at entries self.now) }
+    pub fn is_full(&self, end: JournalEnd) -> bool
+        requires { end.kept + length self.now.handles.handles ≤ JOURNAL_LIMIT }
+        ensures { result ≡ is_full_of 1 (at end self.now) }
     {
-        entries + 1 + self.handles.len() > JOURNAL_LIMIT
+        end.kept + 1 + self.handles.len() > JOURNAL_LIMIT
     }
 
     /// Whether the session has as many handles as there may be, or the journal has no room for an entry and the closing of
     /// the handle that it opens.
-    pub fn has_no_handle_room(&self, entries: usize, session: u8) -> bool
+    pub fn has_no_handle_room(&self, end: JournalEnd, session: u8) -> bool
         requires session { session < SESSIONS_LIMIT }
-        requires small { entries + length self.now.handles.handles ≤ JOURNAL_LIMIT }
-        ensures { result ≡ no_handle_room session (at entries self.now) }
+        requires small { end.kept + length self.now.handles.handles ≤ JOURNAL_LIMIT }
+        ensures { result ≡ no_handle_room session (at end self.now) }
     {
         self.handles.count(session) >= HANDLES_LIMIT
-            || entries + 2 + self.handles.len() > JOURNAL_LIMIT
+            || end.kept + 2 + self.handles.len() > JOURNAL_LIMIT
     }
 
     /// What is asked first by the two calls that open a handle by another: that handle's key, or why both are refused, whatever the callbacks would answer: for the
     /// handle, for bad arguments (`is_bad` says whether some are), or for want of room for one more handle.
     pub fn key_to_open_at(
         &self,
-        entries: usize,
+        end: JournalEnd,
         session: u8,
         handle: u64,
         is_bad: bool,
     ) -> Result<KeyHandle<'_>, u32>
         requires session { session < SESSIONS_LIMIT }
-        requires ready { IsReady entries self.now }
+        requires ready { IsReady end self.now }
         ensures open { (path : List ℕ) → (mask c : ℕ) → is_bad ≡ is_bad_open_of path mask →
-            IfErr result (λ status. change_cause (at entries self.now) session (OpenKey handle path mask) c ≡ Some status) }
+            IfErr result (λ status. change_cause (at end self.now) session (OpenKey handle path mask) c ≡ Some status) }
         ensures create { (path : List ℕ) → (mask c : ℕ) → (given : Option (List ℕ)) → is_bad ≡ (is_bad_open_of path mask || is_bad_given given) →
-            IfErr result (λ status. change_cause (at entries self.now) session (CreateKey handle path mask given) c ≡ Some status) }
+            IfErr result (λ status. change_cause (at end self.now) session (CreateKey handle path mask given) c ≡ Some status) }
         ensures key { IfOk result (λ key. IsOpened self.now session handle key) }
         ensures good { OnOk result (is_bad ≡ false) }
-        ensures room { OnOk result (no_handle_room session (at entries self.now) ≡ false) }
+        ensures room { OnOk result (no_handle_room session (at end self.now) ≡ false) }
     {
         let key = match self.key_of(session, handle) {
             Ok(key) => key,
@@ -131,7 +138,7 @@ impl Store {
         if is_bad {
             return Err(INVALID_PARAMETER);
         }
-        if self.has_no_handle_room(entries, session) {
+        if self.has_no_handle_room(end, session) {
             return Err(NO_SYSTEM_RESOURCES);
         }
         Ok(key)

@@ -165,20 +165,26 @@ accepted s session change c e =
     (none, rw (fronts.0, before-none change c fronts.1, parts.1) refl)
 
 -- a change that is told status 0 leaves the hive after one entry more, which fits, and it is told the entry's reply
-pub record Grows (origin : Tree) (past : List Entry) (session moment : ℕ) (change : Change) (c : ℕ) (e : Entry) : Type 0 where
-  pub fit : IsFit origin past e
-  pub reply : reply_given (state_of origin past) session change c ≡ e.reply
-  pub after : state_after (state_of origin past) session moment change c ≡ state_of origin (past ++ e ∷ [])
+pub record Grows (base : ℕ) (origin : Tree) (past : List Entry) (session moment : ℕ) (change : Change) (c : ℕ) (e : Entry) : Type 0 where
+  pub fit : IsFit base origin past e
+  pub reply : reply_given (state_of base origin past) session change c ≡ e.reply
+  pub after : state_after (state_of base origin past) session moment change c ≡ state_of base origin (past ++ e ∷ [])
 
-pub grows : (origin : Tree) (past : List Entry) (session moment : ℕ) (change : Change) (c : ℕ) →
-    (reply_given (state_of origin past) session change c).status ≡ 0 →
-    Grows origin past session moment change c (entry_due (state_of origin past) session moment change)
+pub grows : (base : ℕ) (origin : Tree) (past : List Entry) (session moment : ℕ) (change : Change) (c : ℕ) →
+    (reply_given (state_of base origin past) session change c).status ≡ 0 →
+    Grows base origin past session moment change c (entry_due (state_of base origin past) session moment change)
 unfolding reply_given state_after
-grows origin past session moment change c e =
-    let a = accepted (state_of origin past) session change c e in
-    let entry = entry_due (state_of origin past) session moment change in
+grows base origin past session moment change c e =
+    let a = accepted (state_of base origin past) session change c e in
+    let entry = entry_due (state_of base origin past) session moment change in
+    let long = length-append past (entry ∷ []) in
     record {
       fit = record { number = refl; accepted = a.1; reply = refl };
       reply = rw a.0 refl;
-      after = rw (a.0, replay-push origin past entry, pending-push origin past entry, length-append past (entry ∷ [])) refl;
+      after = rw a.0 (λ i. record {
+        kept = sym long i;
+        next = (let n : base + length past + 1 ≡ base + length (past ++ entry ∷ []) = omega (arith, long) in n) i;
+        world = sym (replay-push origin past entry) i;
+        pending = sym (pending-push origin past entry) i;
+      });
     }

@@ -132,22 +132,22 @@ open-after s e n h l o = elim e.change as (λ (change : Change). change_cause s 
 abbrev pub NoneCloses : ℕ → ℕ → List Entry → Type 0
 NoneCloses session number es = AllByRecursion (λ (e : Entry). e.session ≡ session → e.change ≡ Close number → ⊥) es
 
-record StaysOpen (n : ℕ) (h : Handle) (origin : Tree) (past : List Entry) : Type 0 where
-  below : n < length past
+record StaysOpen (n : ℕ) (h : Handle) (base : ℕ) (origin : Tree) (past : List Entry) : Type 0 where
+  below : n < base + length past
   stands : IsOpen n h (replay origin past).handles
 
-open-all : (origin : Tree) (past more : List Entry) (n : ℕ) (h : Handle) → StaysOpen n h origin past → IsLegalAfter origin past more → NoneCloses h.session n more →
-    StaysOpen n h origin (past ++ more)
-open-all origin past [] n h s l c = subst (StaysOpen n h origin) (sym (append-nil past)) s
-open-all origin past (e ∷ more) n h s l c =
+open-all : (base : ℕ) (origin : Tree) (past more : List Entry) (n : ℕ) (h : Handle) → StaysOpen n h base origin past → IsLegalAfter base origin past more → NoneCloses h.session n more →
+    StaysOpen n h base origin (past ++ more)
+open-all base origin past [] n h s l c = subst (StaysOpen n h base origin) (sym (append-nil past)) s
+open-all base origin past (e ∷ more) n h s l c =
     let a = length-append past (e ∷ []) in
     let b = s.below in
     let f = l.0 in
-    let next : StaysOpen n h origin (past ++ e ∷ []) = record {
+    let next : StaysOpen n h base origin (past ++ e ∷ []) = record {
       below = omega (arith, a, b);
-      stands = subst (λ (w : World). IsOpen n h w.handles) (sym (replay-push origin past e)) (open-after (state_of origin past) e n h (rw f.number b) s.stands f.accepted c.0);
+      stands = subst (λ (w : World). IsOpen n h w.handles) (sym (replay-push origin past e)) (open-after (state_of base origin past) e n h (rw f.number b) s.stands f.accepted c.0);
     } in
-    subst (StaysOpen n h origin) (append_assoc past (e ∷ []) more) (open-all origin (past ++ e ∷ []) more n h next l.1 c.1)
+    subst (StaysOpen n h base origin) (append_assoc past (e ∷ []) more) (open-all base origin (past ++ e ∷ []) more n h next l.1 c.1)
 
 -- ---- a number that finds nothing
 
@@ -177,13 +177,13 @@ none-after w e n l none = elim e.change as (λ (change : Change). numbered n (af
     by k true e = subst (λ (m : ℕ). numbered n (closed m w.handles) ≡ None) (eqb-true n k e) (numbered-closed n w.handles)
     by k false e = numbered-others n k w.handles e ∙ none
 
-record StaysNone (n : ℕ) (origin : Tree) (past : List Entry) : Type 0 where
-  below : n < length past
+record StaysNone (n : ℕ) (base : ℕ) (origin : Tree) (past : List Entry) : Type 0 where
+  below : n < base + length past
   none : numbered n (replay origin past).handles ≡ None
 
-none-all : (origin : Tree) (past more : List Entry) (n : ℕ) → StaysNone n origin past → IsLegalAfter origin past more → StaysNone n origin (past ++ more)
-none-all origin past more n s l =
-    by_entries origin (StaysNone n origin) (λ es e f before. (let a = length-append es (e ∷ []) in let b = before.below in record {
+none-all : (base : ℕ) (origin : Tree) (past more : List Entry) (n : ℕ) → StaysNone n base origin past → IsLegalAfter base origin past more → StaysNone n base origin (past ++ more)
+none-all base origin past more n s l =
+    by_entries base origin (StaysNone n base origin) (λ es e f before. (let a = length-append es (e ∷ []) in let b = before.below in record {
       below = omega (arith, a, b);
       none = ap (λ (w : World). numbered n w.handles) (replay-push origin es e) ∙ none-after (replay origin es) e n (rw f.number b) before.none;
     })) past more s l
@@ -214,26 +214,26 @@ found session n hs h e = by (numbered n hs) refl e
     by (Some x) e is = let both = own x (eqb x.session session) refl is in
         record { number = e ∙ both.0; owner = subst (λ (o : Option Handle). owned session o ≡ o) both.0 both.1 }
 
-legal_after-rest : (origin : Tree) (before past more : List Entry) → IsLegalAfter origin before (past ++ more) → IsLegalAfter origin (before ++ past) more
-legal_after-rest origin before [] more l = subst (λ (p : List Entry). IsLegalAfter origin p more) (sym (append-nil before)) l
-legal_after-rest origin before (x ∷ past) more l =
-    subst (λ (p : List Entry). IsLegalAfter origin p more) (append_assoc before (x ∷ []) past) (legal_after-rest origin (before ++ x ∷ []) past more l.1)
+legal_after-rest : (base : ℕ) (origin : Tree) (before past more : List Entry) → IsLegalAfter base origin before (past ++ more) → IsLegalAfter base origin (before ++ past) more
+legal_after-rest base origin before [] more l = subst (λ (p : List Entry). IsLegalAfter base origin p more) (sym (append-nil before)) l
+legal_after-rest base origin before (x ∷ past) more l =
+    subst (λ (p : List Entry). IsLegalAfter base origin p more) (append_assoc before (x ∷ []) past) (legal_after-rest base origin (before ++ x ∷ []) past more l.1)
 
 owns : (session : ℕ) (h : Handle) → owned session (Some h) ≡ Some h → h.session ≡ session
 owns session h o = owner-is session h (eqb h.session session) refl (ap is_some o)
 
 -- a session's handle stays until the session closes it
-pub handle-stays : (origin : Tree) (past more : List Entry) (session number : ℕ) (h : Handle) → IsLegal origin (past ++ more) →
+pub handle-stays : (base : ℕ) (origin : Tree) (past more : List Entry) (session number : ℕ) (h : Handle) → IsLegal base origin (past ++ more) →
     look session number (replay origin past).handles ≡ Some h → AllByRecursion (λ (e : Entry). e.session ≡ session → e.change ≡ Close number → ⊥) more →
     (now : Handle) × (look session number (replay origin (past ++ more)).handles ≡ Some now) × (now.mask ≡ h.mask) × (h.destination ≡ Deleted → now ≡ h)
-handle-stays origin past more session number h l is other =
+handle-stays base origin past more session number h l is other =
     let f = found session number (replay origin past).handles h is in
-    let r = rising-all origin past (legal-front origin past more l) in
+    let r = rising-all base origin past (legal-front base origin past more l) in
     let mine = owns session h f.owner in
-    let all = open-all origin past more number h (record {
-      below = numbered-below number (length past) (replay origin past).handles h r.below f.number;
+    let all = open-all base origin past more number h (record {
+      below = numbered-below number (base + length past) (replay origin past).handles h r.below f.number;
       stands = record { now = h; found = f.number; session = refl; mask = refl; gone = λ d. refl };
-    }) (legal_after-rest origin [] past more l) (subst (λ (s : ℕ). NoneCloses s number more) (sym mine) other) in
+    }) (legal_after-rest base origin [] past more l) (subst (λ (s : ℕ). NoneCloses s number more) (sym mine) other) in
     let o = all.stands in (
       o.now,
       ap (owned session) o.found ∙ ap (λ (b : Bool). cond b (Some o.now) None) (eq-eqb o.now.session session (o.session ∙ mine)),
@@ -253,17 +253,17 @@ unfolding after
 closed-now w e number is = rw is (numbered-closed number w.handles)
 
 -- once it is closed, its number finds nothing, of any session
-pub number-closed : (origin : Tree) (past : List Entry) (e : Entry) (more : List Entry) (session number : ℕ) → IsLegal origin (past ++ e ∷ more) → e.change ≡ Close number →
+pub number-closed : (base : ℕ) (origin : Tree) (past : List Entry) (e : Entry) (more : List Entry) (session number : ℕ) → IsLegal base origin (past ++ e ∷ more) → e.change ≡ Close number →
     look session number (replay origin (past ++ e ∷ more)).handles ≡ None
-number-closed origin past e more session number l is =
-    let f = legal-at origin past e more l in
-    let none = subst (λ (change : Change). change_cause (state_of origin past) e.session change 0 ≡ None) is f.accepted in
-    let there = some-there e.session number (replay origin past).handles (close-met (state_of origin past) e.session number 0 none) in
-    let r = rising-all origin past (legal-front origin past (e ∷ more) l) in
-    let below = numbered-below number (length past) (replay origin past).handles there.0 r.below there.1 in
+number-closed base origin past e more session number l is =
+    let f = legal-at base origin past e more l in
+    let none = subst (λ (change : Change). change_cause (state_of base origin past) e.session change 0 ≡ None) is f.accepted in
+    let there = some-there e.session number (replay origin past).handles (close-met (state_of base origin past) e.session number 0 none) in
+    let r = rising-all base origin past (legal-front base origin past (e ∷ more) l) in
+    let below = numbered-below number (base + length past) (replay origin past).handles there.0 r.below there.1 in
     let a = length-append past (e ∷ []) in
-    let rest = legal_after-rest origin [] past (e ∷ more) l in
-    let all = none-all origin (past ++ e ∷ []) more number (record {
+    let rest = legal_after-rest base origin [] past (e ∷ more) l in
+    let all = none-all base origin (past ++ e ∷ []) more number (record {
       below = omega (arith, a, below);
       none = ap (λ (w : World). numbered number w.handles) (replay-push origin past e) ∙ closed-now (replay origin past) e number is;
     }) rest.1 in

@@ -19,15 +19,15 @@ replay_from-push w (x ∷ es) e = replay_from-push (after w x) es e
 pub replay-push : (origin : Tree) (es : List Entry) (e : Entry) → replay origin (es ++ e ∷ []) ≡ after (replay origin es) e
 replay-push origin es e = replay_from-push (opening origin) es e
 
-legal_after-push : (origin : Tree) (past es : List Entry) (e : Entry) → IsLegalAfter origin past es → IsFit origin (past ++ es) e → IsLegalAfter origin past (es ++ e ∷ [])
-legal_after-push origin past [] e l f = let P : List Entry → Type 0 = λ p. IsFit origin p e in (subst P (append-nil past) f, tt)
-legal_after-push origin past (x ∷ es) e l f =
-    let P : List Entry → Type 0 = λ p. IsFit origin p e in
-    (l.0, legal_after-push origin (past ++ x ∷ []) es e l.1 (subst P (sym (append_assoc past (x ∷ []) es)) f))
+legal_after-push : (base : ℕ) (origin : Tree) (past es : List Entry) (e : Entry) → IsLegalAfter base origin past es → IsFit base origin (past ++ es) e → IsLegalAfter base origin past (es ++ e ∷ [])
+legal_after-push base origin past [] e l f = let P : List Entry → Type 0 = λ p. IsFit base origin p e in (subst P (append-nil past) f, tt)
+legal_after-push base origin past (x ∷ es) e l f =
+    let P : List Entry → Type 0 = λ p. IsFit base origin p e in
+    (l.0, legal_after-push base origin (past ++ x ∷ []) es e l.1 (subst P (sym (append_assoc past (x ∷ []) es)) f))
 
 -- a legal journal with a fit entry more is legal
-pub legal-push : (origin : Tree) (es : List Entry) (e : Entry) → IsLegal origin es → IsFit origin es e → IsLegal origin (es ++ e ∷ [])
-legal-push origin es e l f = legal_after-push origin [] es e l f
+pub legal-push : (base : ℕ) (origin : Tree) (es : List Entry) (e : Entry) → IsLegal base origin es → IsFit base origin es e → IsLegal base origin (es ++ e ∷ [])
+legal-push base origin es e l f = legal_after-push base origin [] es e l f
 
 -- ---- notifications
 

@@ -21,33 +21,33 @@ use Rattle.reg_model.specs.declared.reply.Entry.{Entry}
 use Rattle.reg_model.proofs.JournalGrowth.{replay-push}
 use Rattle.reg_model.proofs.HandleInvariant.{Has, Stands, Upright, standing-after, in-either}
 
-legal_after-front : (origin : Tree) (past es more : List Entry) → IsLegalAfter origin past (es ++ more) → IsLegalAfter origin past es
-legal_after-front origin past [] more l = tt
-legal_after-front origin past (e ∷ es) more l = (l.0, legal_after-front origin (past ++ e ∷ []) es more l.1)
+legal_after-front : (base : ℕ) (origin : Tree) (past es more : List Entry) → IsLegalAfter base origin past (es ++ more) → IsLegalAfter base origin past es
+legal_after-front base origin past [] more l = tt
+legal_after-front base origin past (e ∷ es) more l = (l.0, legal_after-front base origin (past ++ e ∷ []) es more l.1)
 
 -- the front of a legal journal is legal
-pub legal-front : (origin : Tree) (past more : List Entry) → IsLegal origin (past ++ more) → IsLegal origin past
-legal-front origin past more l = legal_after-front origin [] past more l
+pub legal-front : (base : ℕ) (origin : Tree) (past more : List Entry) → IsLegal base origin (past ++ more) → IsLegal base origin past
+legal-front base origin past more l = legal_after-front base origin [] past more l
 
-legal_after-at : (origin : Tree) (past es : List Entry) (e : Entry) (more : List Entry) → IsLegalAfter origin past (es ++ e ∷ more) → IsFit origin (past ++ es) e
-legal_after-at origin past [] e more l = subst (λ (p : List Entry). IsFit origin p e) (sym (append-nil past)) l.0
-legal_after-at origin past (x ∷ es) e more l =
-    subst (λ (p : List Entry). IsFit origin p e) (append_assoc past (x ∷ []) es) (legal_after-at origin (past ++ x ∷ []) es e more l.1)
+legal_after-at : (base : ℕ) (origin : Tree) (past es : List Entry) (e : Entry) (more : List Entry) → IsLegalAfter base origin past (es ++ e ∷ more) → IsFit base origin (past ++ es) e
+legal_after-at base origin past [] e more l = subst (λ (p : List Entry). IsFit base origin p e) (sym (append-nil past)) l.0
+legal_after-at base origin past (x ∷ es) e more l =
+    subst (λ (p : List Entry). IsFit base origin p e) (append_assoc past (x ∷ []) es) (legal_after-at base origin (past ++ x ∷ []) es e more l.1)
 
 -- each entry of a legal journal fits those before it
-pub legal-at : (origin : Tree) (past : List Entry) (e : Entry) (more : List Entry) → IsLegal origin (past ++ e ∷ more) → IsFit origin past e
-legal-at origin past e more l = legal_after-at origin [] past e more l
+pub legal-at : (base : ℕ) (origin : Tree) (past : List Entry) (e : Entry) (more : List Entry) → IsLegal base origin (past ++ e ∷ more) → IsFit base origin past e
+legal-at base origin past e more l = legal_after-at base origin [] past e more l
 
 -- its number is its index
-pub number-is : (origin : Tree) (past : List Entry) (e : Entry) (more : List Entry) → IsLegal origin (past ++ e ∷ more) → e.number ≡ length past
-number-is origin past e more l = let f = legal-at origin past e more l in f.number
+pub number-is : (base : ℕ) (origin : Tree) (past : List Entry) (e : Entry) (more : List Entry) → IsLegal base origin (past ++ e ∷ more) → e.number ≡ base + length past
+number-is base origin past e more l = let f = legal-at base origin past e more l in f.number
 
 -- what holds of no entries, and of one fit entry more, holds of every legal journal
-pub by_entries : (origin : Tree) (P : List Entry → Type 0) → ((past : List Entry) (e : Entry) → IsFit origin past e → P past → P (past ++ e ∷ [])) →
-    (past es : List Entry) → P past → IsLegalAfter origin past es → P (past ++ es)
-by_entries origin P more past [] p l = subst P (sym (append-nil past)) p
-by_entries origin P more past (e ∷ es) p l =
-    subst P (append_assoc past (e ∷ []) es) (by_entries origin P more (past ++ e ∷ []) es (more past e l.0 p) l.1)
+pub by_entries : (base : ℕ) (origin : Tree) (P : List Entry → Type 0) → ((past : List Entry) (e : Entry) → IsFit base origin past e → P past → P (past ++ e ∷ [])) →
+    (past es : List Entry) → P past → IsLegalAfter base origin past es → P (past ++ es)
+by_entries base origin P more past [] p l = subst P (sym (append-nil past)) p
+by_entries base origin P more past (e ∷ es) p l =
+    subst P (append_assoc past (e ∷ []) es) (by_entries base origin P more (past ++ e ∷ []) es (more past e l.0 p) l.1)
 
 -- ---- handles
 
@@ -79,9 +79,9 @@ unfolding IsStrictlySortedBy
 rising-push n [] h e b r = (tt, tt)
 rising-push n (x ∷ hs) h e b r = (all-push x.number n hs h e b.0 r.0, rising-push n hs h e b.1 r.1)
 
-rising-none : AreRising 0 []
+rising-none : (n : ℕ) → AreRising n []
 unfolding IsStrictlySortedBy
-rising-none = record { below = tt; rising = tt }
+rising-none n = record { below = tt; rising = tt }
 
 -- a handle closed
 below-cond : (b : Bool) (n : ℕ) (h : Handle) (hs : List Handle) → h.number < n → AllByRecursion (λ (x : Handle). x.number < n) hs → AllByRecursion (λ (x : Handle). x.number < n) (cond b (h ∷ hs) hs)
@@ -148,20 +148,23 @@ rising-after w n e number r = elim e.change as (λ (change : Change). AreRising 
   | Close h ↦ record { below = rising-weaker n (closed h w.handles) (below-closed n h w.handles r.below); rising = rising-closed h w.handles r.rising }
 ]
 
-pub rising-all : (origin : Tree) (es : List Entry) → IsLegal origin es → AreRising (length es) (replay origin es).handles
-rising-all origin es l =
-    by_entries origin (λ past. AreRising (length past) (replay origin past).handles)
-    (λ past e f r. rw (replay-push origin past e, length-append past (e ∷ [])) (rising-after (replay origin past) (length past) e f.number r)) [] es rising-none l
+pub rising-all : (base : ℕ) (origin : Tree) (es : List Entry) → IsLegal base origin es → AreRising (base + length es) (replay origin es).handles
+rising-all base origin es l =
+    by_entries base origin (λ past. AreRising (base + length past) (replay origin past).handles)
+    (λ past e f r. let long = length-append past (e ∷ []) in
+    subst (λ (n : ℕ). AreRising n (replay origin (past ++ e ∷ [])).handles) (omega (arith, long))
+    (subst (λ (w : World). AreRising (base + length past + 1) w.handles) (sym (replay-push origin past e))
+    (rising-after (replay origin past) (base + length past) e f.number r))) [] es (rising-none (base + 0)) l
 
 -- the handles of a legal journal have numbers of its entries
-pub handles-below : (origin : Tree) (es : List Entry) → IsLegal origin es → All (λ (h : Handle). h.number < length es) (replay origin es).handles
-handles-below origin es l =
-    All-from_recursion (λ (h : Handle). h.number < length es) (replay origin es).handles (rising-all origin es l).below
+pub handles-below : (base : ℕ) (origin : Tree) (es : List Entry) → IsLegal base origin es → All (λ (h : Handle). h.number < base + length es) (replay origin es).handles
+handles-below base origin es l =
+    All-from_recursion (λ (h : Handle). h.number < base + length es) (replay origin es).handles (rising-all base origin es l).below
 
 -- and these rise
-pub handles-rise : (origin : Tree) (es : List Entry) → IsLegal origin es → IsStrictlyIncreasing (map (λ (h : Handle). h.number) (replay origin es).handles)
-handles-rise origin es l =
-    IsStrictlyIncreasing-from_sorted (map (λ (h : Handle). h.number) (replay origin es).handles) (rising-all origin es l).rising
+pub handles-rise : (base : ℕ) (origin : Tree) (es : List Entry) → IsLegal base origin es → IsStrictlyIncreasing (map (λ (h : Handle). h.number) (replay origin es).handles)
+handles-rise base origin es l =
+    IsStrictlyIncreasing-from_sorted (map (λ (h : Handle). h.number) (replay origin es).handles) (rising-all base origin es l).rising
 
 -- a handle whose number none has is found by it
 pub numbered-push : (n : ℕ) (hs : List Handle) (h : Handle) → h.number ≡ n → AllByRecursion (λ (x : Handle). x.number < n) hs → numbered n (hs ++ h ∷ []) ≡ Some h
@@ -198,37 +201,37 @@ opened-after w e o r = elim e.change as (Opens w e o) [
 ]
 
 -- the session of an entry that opens a handle finds it by the entry's number
-pub handle-opened : (origin : Tree) (past : List Entry) (e : Entry) (o : Opening) → IsLegal origin past → IsFit origin past e →
+pub handle-opened : (base : ℕ) (origin : Tree) (past : List Entry) (e : Entry) (o : Opening) → IsLegal base origin past → IsFit base origin past e →
     (rule_of e.change).opens ≡ Some o → look e.session e.number (replay origin (past ++ e ∷ [])).handles ≡
     Some (opened e (path_asked (replay origin past) e.session (rule_of e.change).of ++ folded_path o.path) o.mask)
-handle-opened origin past e o l f is =
-    let r : AreRising e.number (replay origin past).handles = rw f.number (rising-all origin past l) in
+handle-opened base origin past e o l f is =
+    let r : AreRising e.number (replay origin past).handles = rw f.number (rising-all base origin past l) in
     rw (replay-push origin past e) (opened-after (replay origin past) e o r is)
 
 -- and the reply names it
-pub handle-told : (origin : Tree) (past : List Entry) (e : Entry) (o : Opening) → IsFit origin past e → (rule_of e.change).opens ≡ Some o → e.reply.handle ≡ Some e.number
+pub handle-told : (base : ℕ) (origin : Tree) (past : List Entry) (e : Entry) (o : Opening) → IsFit base origin past e → (rule_of e.change).opens ≡ Some o → e.reply.handle ≡ Some e.number
 unfolding reply_to
-handle-told origin past e o f is = rw (f.reply, is, f.number) refl
+handle-told base origin past e o f is = rw (f.reply, is, f.number) refl
 
 -- ---- the root, and the keys that handles lead to
 
-pub standing-all : (origin : Tree) (es : List Entry) → IsLegal origin es → Has origin [] → Upright (replay origin es).tree (replay origin es).handles
-standing-all origin es l h =
-    by_entries origin (λ past. Upright (replay origin past).tree (replay origin past).handles)
-    (λ past e f r. subst (λ (w : World). Upright w.tree w.handles) (sym (replay-push origin past e)) (standing-after (state_of origin past) e r 0 f.accepted)) [] es (record { root = h; stand = tt }) l
+pub standing-all : (base : ℕ) (origin : Tree) (es : List Entry) → IsLegal base origin es → Has origin [] → Upright (replay origin es).tree (replay origin es).handles
+standing-all base origin es l h =
+    by_entries base origin (λ past. Upright (replay origin past).tree (replay origin past).handles)
+    (λ past e f r. subst (λ (w : World). Upright w.tree w.handles) (sym (replay-push origin past e)) (standing-after (state_of base origin past) e r 0 f.accepted)) [] es (record { root = h; stand = tt }) l
 
 -- a tree that holds its root holds it after a legal journal
-pub root-stays : (origin : Tree) (es : List Entry) → IsLegal origin es → Has origin [] → Has (replay origin es).tree []
-root-stays origin es l h = let r = standing-all origin es l h in r.root
+pub root-stays : (base : ℕ) (origin : Tree) (es : List Entry) → IsLegal base origin es → Has origin [] → Has (replay origin es).tree []
+root-stays base origin es l h = let r = standing-all base origin es l h in r.root
 
 -- every handle that leads to a key leads to one that is there
-pub handles-stand : (origin : Tree) (es : List Entry) → IsLegal origin es → Has origin [] → Stands (replay origin es).tree (replay origin es).handles
-handles-stand origin es l h = let r = standing-all origin es l h in r.stand
+pub handles-stand : (base : ℕ) (origin : Tree) (es : List Entry) → IsLegal base origin es → Has origin [] → Stands (replay origin es).tree (replay origin es).handles
+handles-stand base origin es l h = let r = standing-all base origin es l h in r.stand
 
-pub all-stand : (origin : Tree) (es : List Entry) → IsLegal origin es → Has origin [] → All (λ (h : Handle). StandsIn (replay origin es).tree h.destination) (replay origin es).handles
-all-stand origin es l h =
-    All-from_recursion (λ (h : Handle). StandsIn (replay origin es).tree h.destination) (replay origin es).handles (handles-stand origin es l h)
+pub all-stand : (base : ℕ) (origin : Tree) (es : List Entry) → IsLegal base origin es → Has origin [] → All (λ (h : Handle). StandsIn (replay origin es).tree h.destination) (replay origin es).handles
+all-stand base origin es l h =
+    All-from_recursion (λ (h : Handle). StandsIn (replay origin es).tree h.destination) (replay origin es).handles (handles-stand base origin es l h)
 
 -- a legal journal's replay stands
-pub is_standing : (origin : Tree) (es : List Entry) → IsLegal origin es → Has origin [] → IsStanding (replay origin es).tree (replay origin es).handles
-is_standing origin es l h = record { root = root-stays origin es l h; stand = all-stand origin es l h }
+pub is_standing : (base : ℕ) (origin : Tree) (es : List Entry) → IsLegal base origin es → Has origin [] → IsStanding (replay origin es).tree (replay origin es).handles
+is_standing base origin es l h = record { root = root-stays base origin es l h; stand = all-stand base origin es l h }

@@ -270,25 +270,25 @@ counted-past s e session (Some v) asked vs fewer few = by (eqb v.session session
 -- ---- after every legal journal
 
 -- what holds of the pending watches
-pub record AreWatches (origin : Tree) (es : List Entry) : Type 0 where
+pub record AreWatches (base : ℕ) (origin : Tree) (es : List Entry) : Type 0 where
   pub watching : Each (IsWatching (replay origin es).handles) (pending origin es)
-  pub below : Each (λ (v : Watch). v.number < length es) (pending origin es)
+  pub below : Each (λ (v : Watch). v.number < base + length es) (pending origin es)
   pub rises : Rises (pending origin es)
   pub few : (session : ℕ) → counted session (pending origin es) ≤ WATCHES_LIMIT
 
-watches-none : (origin : Tree) → AreWatches origin []
+watches-none : (base : ℕ) (origin : Tree) → AreWatches base origin []
 unfolding IsStrictlySortedBy
-watches-none origin = record { watching = tt; below = tt; rises = tt; few = λ session. omega arith }
+watches-none base origin = record { watching = tt; below = tt; rises = tt; few = λ session. omega arith }
 
-watches-push : (origin : Tree) (past : List Entry) (e : Entry) → IsLegal origin past → IsFit origin past e → AreWatches origin past → AreWatches origin
+watches-push : (base : ℕ) (origin : Tree) (past : List Entry) (e : Entry) → IsLegal base origin past → IsFit base origin past e → AreWatches base origin past → AreWatches base origin
     (past ++ e ∷ [])
 unfolding ending
-watches-push origin past e l f a =
-    let s = state_of origin past in
+watches-push base origin past e l f a =
+    let s = state_of base origin past in
     let x = ending s.world e in
     let new = watch_of s.world e in
     let asked : (v : Watch) → new ≡ Some v → IsAsked s e v = λ v is. asked-is s e v f.accepted is in
-    let rising = rising-all origin past l in
+    let rising = rising-all base origin past l in
     let world = sym (replay-push origin past e) in
     let all = sym (pending-push origin past e) in
     let long = length-append past (e ∷ []) in
@@ -298,34 +298,34 @@ watches-push origin past e l f a =
           (subst (λ (w : World). Each (IsWatching w.handles) (pending_past x new s.pending)) world
           (each-past (IsWatching s.world.handles) (IsWatching (after s.world e).handles) x new s.pending
           (λ v stay is. watching-after s.world e v
-          (subst (λ (n : ℕ). v.handle < n) (sym number) (numbered-below v.handle (length past) s.world.handles is.handle rising.below is.found))
+          (subst (λ (n : ℕ). v.handle < n) (sym number) (numbered-below v.handle (base + length past) s.world.handles is.handle rising.below is.found))
           (staying x v stay) is)
           (λ v is. let k = asked v is in k.watching) a.watching));
-      below = subst (λ (vs : List Watch). Each (λ (v : Watch). v.number < length (past ++ e ∷ [])) vs) all
-          (each-past (λ (v : Watch). v.number < length past) (λ (v : Watch). v.number < length (past ++ e ∷ [])) x new s.pending
+      below = subst (λ (vs : List Watch). Each (λ (v : Watch). v.number < base + length (past ++ e ∷ [])) vs) all
+          (each-past (λ (v : Watch). v.number < base + length past) (λ (v : Watch). v.number < base + length (past ++ e ∷ [])) x new s.pending
           (λ v stay is. omega (arith, is, long)) (λ v is. let k = asked v is in let n = k.number in omega (arith, n, number, long)) a.below);
-      rises = subst Rises all (rises-more (length past) (filter (stays x) s.pending) new
-          (each-left (λ (v : Watch). v.number < length past) (λ (v : Watch). v.number < length past) (stays x) (λ v stay is. is) s.pending a.below)
+      rises = subst Rises all (rises-more (base + length past) (filter (stays x) s.pending) new
+          (each-left (λ (v : Watch). v.number < base + length past) (λ (v : Watch). v.number < base + length past) (stays x) (λ v stay is. is) s.pending a.below)
           (λ v is. let k = asked v is in k.number ∙ number) (rises-left (stays x) s.pending a.rises));
       few = λ session. subst (λ (vs : List Watch). counted session vs ≤ WATCHES_LIMIT) all
           (counted-past s e session new asked (filter (stays x) s.pending) (counted-left session (stays x) s.pending) (a.few session));
     }
 
-record LegalWatches (origin : Tree) (es : List Entry) : Type 0 where
-  legal : IsLegal origin es
-  are : AreWatches origin es
+record LegalWatches (base : ℕ) (origin : Tree) (es : List Entry) : Type 0 where
+  legal : IsLegal base origin es
+  are : AreWatches base origin es
 
-pub watches-all : (origin : Tree) (es : List Entry) → IsLegal origin es → AreWatches origin es
-watches-all origin es l =
-    let all = by_entries origin (LegalWatches origin) (λ past e f p. record {
-      legal = legal-push origin past e p.legal f;
-      are = watches-push origin past e p.legal f p.are;
-    }) [] es (record { legal = tt; are = watches-none origin }) l in all.are
+pub watches-all : (base : ℕ) (origin : Tree) (es : List Entry) → IsLegal base origin es → AreWatches base origin es
+watches-all base origin es l =
+    let all = by_entries base origin (LegalWatches base origin) (λ past e f p. record {
+      legal = legal-push base origin past e p.legal f;
+      are = watches-push base origin past e p.legal f p.are;
+    }) [] es (record { legal = tt; are = watches-none base origin }) l in all.are
 
 -- ---- the laws
 
-pub watches-watch : (origin : Tree) (es : List Entry) → IsLegal origin es → All (IsWatching (replay origin es).handles) (pending origin es)
-watches-watch origin es l = let a = watches-all origin es l in All-from_recursion _ (pending origin es) a.watching
+pub watches-watch : (base : ℕ) (origin : Tree) (es : List Entry) → IsLegal base origin es → All (IsWatching (replay origin es).handles) (pending origin es)
+watches-watch base origin es l = let a = watches-all base origin es l in All-from_recursion _ (pending origin es) a.watching
 
 has-all : (t : Tree) (hs : List Handle) → Stands t hs → (vs : List Watch) → Each (IsWatching hs) vs → Each (λ (v : Watch). Has t v.path) vs
 has-all t hs stand [] ws = tt
@@ -333,25 +333,25 @@ has-all t hs stand (v ∷ vs) ws =
     let w = ws.0 in
     (subst (StandsIn t) w.destination (stands-numbered t v.handle hs w.handle stand w.found), has-all t hs stand vs ws.1)
 
-pub keys-stand : (origin : Tree) (es : List Entry) → IsLegal origin es → IsSome (get origin []) → Each (λ (v : Watch). Has (replay origin es).tree v.path)
+pub keys-stand : (base : ℕ) (origin : Tree) (es : List Entry) → IsLegal base origin es → IsSome (get origin []) → Each (λ (v : Watch). Has (replay origin es).tree v.path)
     (pending origin es)
-keys-stand origin es l h =
-    let a = watches-all origin es l in
-    let s = standing-all origin es l h in
+keys-stand base origin es l h =
+    let a = watches-all base origin es l in
+    let s = standing-all base origin es l h in
     has-all (replay origin es).tree (replay origin es).handles s.stand (pending origin es) a.watching
 
-pub watches-stand : (origin : Tree) (es : List Entry) → IsLegal origin es → IsSome (get origin []) → All
+pub watches-stand : (base : ℕ) (origin : Tree) (es : List Entry) → IsLegal base origin es → IsSome (get origin []) → All
     (λ (v : Watch). IsSome (get (replay origin es).tree v.path)) (pending origin es)
-watches-stand origin es l h = All-from_recursion _ (pending origin es) (keys-stand origin es l h)
+watches-stand base origin es l h = All-from_recursion _ (pending origin es) (keys-stand base origin es l h)
 
-pub watches-below : (origin : Tree) (es : List Entry) → IsLegal origin es → All (λ (v : Watch). v.number < length es) (pending origin es)
-watches-below origin es l = let a = watches-all origin es l in All-from_recursion _ (pending origin es) a.below
+pub watches-below : (base : ℕ) (origin : Tree) (es : List Entry) → IsLegal base origin es → All (λ (v : Watch). v.number < base + length es) (pending origin es)
+watches-below base origin es l = let a = watches-all base origin es l in All-from_recursion _ (pending origin es) a.below
 
-pub watches-rise : (origin : Tree) (es : List Entry) → IsLegal origin es → IsStrictlyIncreasing (map (λ (v : Watch). v.number) (pending origin es))
-watches-rise origin es l = let a = watches-all origin es l in IsStrictlyIncreasing-from_sorted (map (λ (v : Watch). v.number) (pending origin es)) a.rises
+pub watches-rise : (base : ℕ) (origin : Tree) (es : List Entry) → IsLegal base origin es → IsStrictlyIncreasing (map (λ (v : Watch). v.number) (pending origin es))
+watches-rise base origin es l = let a = watches-all base origin es l in IsStrictlyIncreasing-from_sorted (map (λ (v : Watch). v.number) (pending origin es)) a.rises
 
-pub watches-few : (origin : Tree) (es : List Entry) (session : ℕ) → IsLegal origin es → watches_of session (pending origin es) ≤ WATCHES_LIMIT
-watches-few origin es session l = let a = watches-all origin es l in subst (λ (n : ℕ). n ≤ WATCHES_LIMIT) (counted-is session (pending origin es))
+pub watches-few : (base : ℕ) (origin : Tree) (es : List Entry) (session : ℕ) → IsLegal base origin es → watches_of session (pending origin es) ≤ WATCHES_LIMIT
+watches-few base origin es session l = let a = watches-all base origin es l in subst (λ (n : ℕ). n ≤ WATCHES_LIMIT) (counted-is session (pending origin es))
     (a.few session)
 
 -- ---- few events
@@ -359,18 +359,18 @@ watches-few origin es session l = let a = watches-all origin es l in subst (λ (
 abbrev Alike : Tree → List Entry → Entry → Watch → Type 0
 Alike origin past e v = reason (few_ending (replay origin past) e) v ≡ reason (ending (replay origin past) e) v
 
-few-each : (origin : Tree) (past : List Entry) (e : Entry) → IsTree (replay origin past).tree → IsFit origin past e → (vs : List Watch) →
+few-each : (base : ℕ) (origin : Tree) (past : List Entry) (e : Entry) → IsTree (replay origin past).tree → IsFit base origin past e → (vs : List Watch) →
     Each (λ (v : Watch). Has (replay origin past).tree v.path) vs → Each (Alike origin past e) vs
-few-each origin past e i f [] hs = tt
-few-each origin past e i f (v ∷ vs) hs = (few-reason (state_of origin past) e v i hs.0 0 f.accepted, few-each origin past e i f vs hs.1)
+few-each base origin past e i f [] hs = tt
+few-each base origin past e i f (v ∷ vs) hs = (few-reason (state_of base origin past) e v i hs.0 0 f.accepted, few-each base origin past e i f vs hs.1)
 
-few-all : (origin : Tree) (past : List Entry) (e : Entry) → IsTree origin → IsLegal origin past → IsFit origin past e → Each (Alike origin past e)
+few-all : (base : ℕ) (origin : Tree) (past : List Entry) (e : Entry) → IsTree origin → IsLegal base origin past → IsFit base origin past e → Each (Alike origin past e)
     (pending origin past)
-few-all origin past e i l f = few-each origin past e (tree-stays origin past l i) f (pending origin past) (keys-stand origin past l i.root)
+few-all base origin past e i l f = few-each base origin past e (tree-stays base origin past l i) f (pending origin past) (keys-stand base origin past l i.root)
 
-pub few-suffice : (origin : Tree) (past : List Entry) (e : Entry) → IsTree origin → IsLegal origin past → IsFit origin past e →
+pub few-suffice : (base : ℕ) (origin : Tree) (past : List Entry) (e : Entry) → IsTree origin → IsLegal base origin past → IsFit base origin past e →
     All (λ (v : Watch). reason (few_ending (replay origin past) e) v ≡ reason (ending (replay origin past) e) v) (pending origin past)
-few-suffice origin past e i l f = All-from_recursion _ (pending origin past) (few-all origin past e i l f)
+few-suffice base origin past e i l f = All-from_recursion _ (pending origin past) (few-all base origin past e i l f)
 
 left-alike : (x y : Ending) (vs : List Watch) → Each (λ (v : Watch). reason x v ≡ reason y v) vs → filter (stays x) vs ≡ filter (stays y) vs
 left-alike x y [] same = refl
@@ -388,15 +388,15 @@ told-alike session x y by (v ∷ vs) same =
     let rest = told-alike session x y by vs same.1 in
     rw (one, rest) refl
 
-pub few-pending : (origin : Tree) (past : List Entry) (e : Entry) → IsTree origin → IsLegal origin past → IsFit origin past e →
+pub few-pending : (base : ℕ) (origin : Tree) (past : List Entry) (e : Entry) → IsTree origin → IsLegal base origin past → IsFit base origin past e →
     pending origin (past ++ e ∷ []) ≡ pending_past (few_ending (replay origin past) e) (watch_of (replay origin past) e) (pending origin past)
-few-pending origin past e i l f =
+few-pending base origin past e i l f =
     pending-push origin past e ∙ ap (λ (vs : List Watch). vs ++ option_to_list (watch_of (replay origin past) e))
-    (sym (left-alike (few_ending (replay origin past) e) (ending (replay origin past) e) (pending origin past) (few-all origin past e i l f)))
+    (sym (left-alike (few_ending (replay origin past) e) (ending (replay origin past) e) (pending origin past) (few-all base origin past e i l f)))
 
-pub few-fired : (origin : Tree) (past : List Entry) (e : Entry) (session : ℕ) → IsTree origin → IsLegal origin past → IsFit origin past e →
+pub few-fired : (base : ℕ) (origin : Tree) (past : List Entry) (e : Entry) (session : ℕ) → IsTree origin → IsLegal base origin past → IsFit base origin past e →
     fired origin (past ++ e ∷ []) session ≡ fired origin past session ++ notices session (few_ending (replay origin past) e) (pending origin past)
 unfolding ending few_ending
-few-fired origin past e session i l f =
+few-fired base origin past e session i l f =
     fired-push origin past e session ∙ ap (λ (ns : List Notice). fired origin past session ++ ns)
-    (sym (told-alike session (few_ending (replay origin past) e) (ending (replay origin past) e) refl (pending origin past) (few-all origin past e i l f)))
+    (sym (told-alike session (few_ending (replay origin past) e) (ending (replay origin past) e) refl (pending origin past) (few-all base origin past e i l f)))

@@ -35,11 +35,11 @@ origin = insert empty [] root
 
 -- ---- `root 983103` by session 0: status 0, number 0, handle 0
 
-opened_cause : change_cause (state_of origin []) 0 (OpenRoot 983103) 0 ≡ None
+opened_cause : change_cause (state_of 0 origin []) 0 (OpenRoot 983103) 0 ≡ None
 unfolding early_cause late_cause
 opened_cause = refl
 
-opened_reply : reply_to (state_of origin []) 0 (OpenRoot 983103) ≡ record { status = 0; number = Some 0; handle = Some 0; disposition = None }
+opened_reply : reply_to (state_of 0 origin []) 0 (OpenRoot 983103) ≡ record { status = 0; number = Some 0; handle = Some 0; disposition = None }
 unfolding reply_to
 opened_reply = refl
 
@@ -52,11 +52,11 @@ opened_world = refl
 
 -- ---- `set 0 = 4 x01000000` at moment 7: status 0, number 1, no handle
 
-set_cause : change_cause (state_of origin (opening_entry ∷ [])) 0 (SetValue 0 [] 4 (1 ∷ 0 ∷ 0 ∷ 0 ∷ [])) 0 ≡ None
+set_cause : change_cause (state_of 0 origin (opening_entry ∷ [])) 0 (SetValue 0 [] 4 (1 ∷ 0 ∷ 0 ∷ 0 ∷ [])) 0 ≡ None
 unfolding early_cause late_cause after
 set_cause = rw root_put refl
 
-set_reply : reply_to (state_of origin (opening_entry ∷ [])) 0 (SetValue 0 [] 4 (1 ∷ 0 ∷ 0 ∷ 0 ∷ [])) ≡ record { status = 0; number = Some 1; handle = None; disposition = None }
+set_reply : reply_to (state_of 0 origin (opening_entry ∷ [])) 0 (SetValue 0 [] 4 (1 ∷ 0 ∷ 0 ∷ 0 ∷ [])) ≡ record { status = 0; number = Some 1; handle = None; disposition = None }
 unfolding reply_to
 set_reply = refl
 
@@ -76,54 +76,54 @@ set_root = rw (set_world, root_put) refl
 
 -- ---- `query 0 = 4`: after 2 entries, type 4, size 4 and the bytes
 
-asked_cause : query_cause (state_of origin (opening_entry ∷ setting_entry ∷ [])) 0 (QueryValue 0 [] (Some 4)) 0 ≡ None
+asked_cause : query_cause (state_of 0 origin (opening_entry ∷ setting_entry ∷ [])) 0 (QueryValue 0 [] (Some 4)) 0 ≡ None
 unfolding early_query_cause late_query_cause
 asked_cause = rw (set_world, root_put) refl
 
-asked_count : (state_of origin (opening_entry ∷ setting_entry ∷ [])).next ≡ 2
+asked_count : (state_of 0 origin (opening_entry ∷ setting_entry ∷ [])).next ≡ 2
 asked_count = refl
 
-asked_body : body_of (state_of origin (opening_entry ∷ setting_entry ∷ [])) 0 (QueryValue 0 [] (Some 4)) ≡ Value 4 4 (Some (1 ∷ 0 ∷ 0 ∷ 0 ∷ []))
+asked_body : body_of (state_of 0 origin (opening_entry ∷ setting_entry ∷ [])) 0 (QueryValue 0 [] (Some 4)) ≡ Value 4 4 (Some (1 ∷ 0 ∷ 0 ∷ 0 ∷ []))
 unfolding body_of
 asked_body = rw (set_world, root_put) refl
 
 -- a room that is too small; the size alone
-short_body : body_of (state_of origin (opening_entry ∷ setting_entry ∷ [])) 0 (QueryValue 0 [] (Some 3)) ≡ Short 234 4 4
+short_body : body_of (state_of 0 origin (opening_entry ∷ setting_entry ∷ [])) 0 (QueryValue 0 [] (Some 3)) ≡ Short 234 4 4
 unfolding body_of
 short_body = rw (set_world, root_put) refl
 
-no_room_body : body_of (state_of origin (opening_entry ∷ setting_entry ∷ [])) 0 (QueryValue 0 [] (Some 0)) ≡ Short 234 4 4
+no_room_body : body_of (state_of 0 origin (opening_entry ∷ setting_entry ∷ [])) 0 (QueryValue 0 [] (Some 0)) ≡ Short 234 4 4
 unfolding body_of
 no_room_body = rw (set_world, root_put) refl
 
-size_body : body_of (state_of origin (opening_entry ∷ setting_entry ∷ [])) 0 (QueryValue 0 [] None) ≡ Value 4 4 None
+size_body : body_of (state_of 0 origin (opening_entry ∷ setting_entry ∷ [])) 0 (QueryValue 0 [] None) ≡ Value 4 4 None
 unfolding body_of
 size_body = rw (set_world, root_put) refl
 
 -- ---- the journal of the two entries is legal
 
-script_legal : IsLegal origin (opening_entry ∷ setting_entry ∷ [])
+script_legal : IsLegal 0 origin (opening_entry ∷ setting_entry ∷ [])
 script_legal = ((record { number = refl; accepted = opened_cause; reply = sym opened_reply }), ((record { number = refl; accepted = set_cause; reply = sym set_reply }), tt))
 
 -- ---- what a call is told, and where it leaves the hive
 
-opened_told : reply_given (state_of origin []) 0 (OpenRoot 983103) 0 ≡ record { status = 0; number = Some 0; handle = Some 0; disposition = None }
+opened_told : reply_given (state_of 0 origin []) 0 (OpenRoot 983103) 0 ≡ record { status = 0; number = Some 0; handle = Some 0; disposition = None }
 unfolding reply_given early_cause late_cause reply_to
 opened_told = refl
 
-opened_after : state_after (state_of origin []) 0 0 (OpenRoot 983103) 0 ≡ state_of origin (opening_entry ∷ [])
+opened_after : state_after (state_of 0 origin []) 0 0 (OpenRoot 983103) 0 ≡ state_of 0 origin (opening_entry ∷ [])
 unfolding state_after early_cause late_cause reply_to watch_of
 opened_after = refl
 
-set_after : state_after (state_of origin (opening_entry ∷ [])) 0 7 (SetValue 0 [] 4 (1 ∷ 0 ∷ 0 ∷ 0 ∷ [])) 0 ≡ state_of origin (opening_entry ∷ setting_entry ∷ [])
+set_after : state_after (state_of 0 origin (opening_entry ∷ [])) 0 7 (SetValue 0 [] 4 (1 ∷ 0 ∷ 0 ∷ 0 ∷ [])) 0 ≡ state_of 0 origin (opening_entry ∷ setting_entry ∷ [])
 unfolding state_after early_cause late_cause reply_to after watch_of
 set_after = rw root_put refl
 
 -- a callback that answers 31
-refused_told : reply_given (state_of origin (opening_entry ∷ [])) 0 (SetValue 0 [] 4 (1 ∷ 0 ∷ 0 ∷ 0 ∷ [])) 31 ≡ record { status = 31; number = None; handle = None; disposition = None }
+refused_told : reply_given (state_of 0 origin (opening_entry ∷ [])) 0 (SetValue 0 [] 4 (1 ∷ 0 ∷ 0 ∷ 0 ∷ [])) 31 ≡ record { status = 31; number = None; handle = None; disposition = None }
 unfolding reply_given early_cause late_cause after
 refused_told = rw root_put refl
 
-refused_after : state_after (state_of origin (opening_entry ∷ [])) 0 7 (SetValue 0 [] 4 (1 ∷ 0 ∷ 0 ∷ 0 ∷ [])) 31 ≡ state_of origin (opening_entry ∷ [])
+refused_after : state_after (state_of 0 origin (opening_entry ∷ [])) 0 7 (SetValue 0 [] 4 (1 ∷ 0 ∷ 0 ∷ 0 ∷ [])) 31 ≡ state_of 0 origin (opening_entry ∷ [])
 unfolding state_after early_cause late_cause after
 refused_after = rw root_put refl

@@ -119,13 +119,13 @@ record Grown (t : Tree) (hs : List Handle) : Type 0 where
   upright : Upright t hs
   tree : IsTree t
 
-grown-all : (origin : Tree) (es : List Entry) → IsLegal origin es → IsTree origin → Grown (replay origin es).tree (replay origin es).handles
-grown-all origin es l i =
-    by_entries origin (λ past. Grown (replay origin past).tree (replay origin past).handles)
+grown-all : (base : ℕ) (origin : Tree) (es : List Entry) → IsLegal base origin es → IsTree origin → Grown (replay origin es).tree (replay origin es).handles
+grown-all base origin es l i =
+    by_entries base origin (λ past. Grown (replay origin past).tree (replay origin past).handles)
     (λ past e f g. subst (λ (w : World). Grown w.tree w.handles) (sym (replay-push origin past e)) (record {
-      upright = standing-after (state_of origin past) e g.upright 0 f.accepted;
-      tree = tree-after (state_of origin past) e g.upright g.tree 0 f.accepted;
+      upright = standing-after (state_of base origin past) e g.upright 0 f.accepted;
+      tree = tree-after (state_of base origin past) e g.upright g.tree 0 f.accepted;
     })) [] es (record { upright = record { root = i.root; stand = tt }; tree = i }) l
 
-pub tree-stays : (origin : Tree) (es : List Entry) → IsLegal origin es → IsTree origin → IsTree (replay origin es).tree
-tree-stays origin es l i = let g = grown-all origin es l i in g.tree
+pub tree-stays : (base : ℕ) (origin : Tree) (es : List Entry) → IsLegal base origin es → IsTree origin → IsTree (replay origin es).tree
+tree-stays base origin es l i = let g = grown-all base origin es l i in g.tree

@@ -1,5 +1,5 @@
 -- Journals: what they make of a world, which notifications they leave pending and send, and which are legal.
-use Rattle.std.specs.Prelude.{◌≡◌, ℕ, List, [], ◌∷◌, ◌++◌, length, if◌then◌else◌, Option, Some, None}
+use Rattle.std.specs.Prelude.{◌≡◌, ◌+◌, ◌==◌, ℕ, Bool, List, [], ◌∷◌, ◌++◌, filter, length, map, if◌then◌else◌, Option, Some, None}
 use Rattle.std.specs.List.{list_all}
 use Rattle.reg_heap.specs.Paths.{Tree}
 use Rattle.reg_model.specs.Worlds.{World, after}
@@ -8,6 +8,7 @@ use Rattle.reg_model.specs.Causes.{State, change_cause}
 use Rattle.reg_model.specs.Replies.{reply_to}
 use Rattle.reg_model.specs.declared.notice.Notice.{Notice}
 use Rattle.reg_model.specs.declared.reply.Entry.{Entry}
+use Rattle.reg_model.specs.declared.reply.Receipt.{Receipt}
 
 -- the origin's tree, with no handles
 abbrev pub opening : Tree → World
@@ -64,20 +65,41 @@ fired_after session past (m ∷ later) = notices session (end_of m) (pending_of 
 abbrev pub fired : Tree → List Entry → ℕ → List Notice
 fired origin es session = fired_after session [] (mets origin es)
 
--- where a call finds the hive after these entries
-abbrev pub state_of : Tree → List Entry → State
-state_of origin es = record { kept = length es; next = length es; world = replay origin es; pending = pending origin es }
+-- where a call finds the hive after these entries, the first of which has the number `base`
+abbrev pub state_of : ℕ → Tree → List Entry → State
+state_of base origin es = record { kept = length es; next = base + length es; world = replay origin es; pending = pending origin es }
 
--- an entry is legal after the entries so far: its number is its index, nothing refused it, and its reply is the one due
-pub record IsFit (origin : Tree) (past : List Entry) (e : Entry) : Type 0 where
-  pub number : e.number ≡ (state_of origin past).next
-  pub accepted : change_cause (state_of origin past) e.session e.change 0 ≡ None
-  pub reply : e.reply ≡ reply_to (state_of origin past) e.session e.change
+-- an entry is legal after the entries so far: its number is the next one, nothing refused it, and its reply is the one due
+pub record IsFit (base : ℕ) (origin : Tree) (past : List Entry) (e : Entry) : Type 0 where
+  pub number : e.number ≡ (state_of base origin past).next
+  pub accepted : change_cause (state_of base origin past) e.session e.change 0 ≡ None
+  pub reply : e.reply ≡ reply_to (state_of base origin past) e.session e.change
 
-abbrev pub IsLegalAfter : Tree → List Entry → List Entry → Type 0
-IsLegalAfter origin past [] = Unit {0}
-IsLegalAfter origin past (e ∷ es) = IsFit origin past e × IsLegalAfter origin (past ++ e ∷ []) es
+abbrev pub IsLegalAfter : ℕ → Tree → List Entry → List Entry → Type 0
+IsLegalAfter base origin past [] = Unit {0}
+IsLegalAfter base origin past (e ∷ es) = IsFit base origin past e × IsLegalAfter base origin (past ++ e ∷ []) es
 
--- every entry of the journal is legal after those before it
-abbrev pub IsLegal : Tree → List Entry → Type 0
-IsLegal origin es = IsLegalAfter origin [] es
+-- every entry of the journal is legal after those before it; the first has the number `base`
+abbrev pub IsLegal : ℕ → Tree → List Entry → Type 0
+IsLegal base origin es = IsLegalAfter base origin [] es
+
+-- ---- of one session
+
+abbrev pub is_of : ℕ → Entry → Bool
+is_of session e = e.session == session
+
+-- the entries of a session, in order
+abbrev pub entries_of : ℕ → List Entry → List Entry
+entries_of session es = filter (is_of session) es
+
+-- how many entries a session has
+abbrev pub count_of : ℕ → List Entry → ℕ
+count_of session es = length (entries_of session es)
+
+-- the receipt of an accepted change: its entry without the session
+abbrev pub receipt_of : Entry → Receipt
+receipt_of e = record { number = e.number; moment = e.moment; change = e.change; reply = e.reply }
+
+-- the receipts of a session's accepted changes, in order
+abbrev pub receipts_of : ℕ → List Entry → List Receipt
+receipts_of session es = map receipt_of (entries_of session es)

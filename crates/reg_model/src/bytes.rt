@@ -1,4 +1,4 @@
-ghost use Rattle.std.specs.Prelude.{◌≡◌, ◌≢◌, [], IfOk, OnErr};
+ghost use Rattle.std.specs.Prelude.{◌≡◌, ◌≢◌, ◌↔◌, [], IfOk, IsTrue, OnErr};
 
 use std::alloc::{AllocError, Global};
 use std::marker::Model;
@@ -61,6 +61,13 @@ impl Bytes {
     {
         Bytes::from_slice(alloc, self.as_slice())
     }
+
+    /// Whether these are the same bytes.
+    pub fn is_same(&self, other: &Bytes) -> bool
+        ensures { IsTrue result ↔ (self.now ≡ other.now) }
+    {
+        self.as_slice() == other.as_slice()
+    }
 }
 
 /// A copy of optional bytes, which equals its source.
@@ -73,5 +80,16 @@ pub(crate) fn clone_option(
     match bytes {
         Some(bytes) => Ok(Some(bytes.try_clone(alloc)?)),
         None => Ok(None),
+    }
+}
+
+/// Whether both are given and the same, or none is.
+pub(crate) fn is_same_option(one: &Option<Bytes>, other: &Option<Bytes>) -> bool
+    ensures { IsTrue result ↔ (one.now ≡ other.now) }
+{
+    match (one, other) {
+        (Some(one), Some(other)) => one.is_same(other),
+        (None, None) => true,
+        _ => false,
     }
 }

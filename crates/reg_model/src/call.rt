@@ -1,7 +1,7 @@
-ghost use Rattle.std.specs.Prelude.{◌≡◌, IfOk};
+ghost use Rattle.std.specs.Prelude.{◌≡◌, ◌↔◌, IfOk, IsTrue};
 
 use crate::Bytes;
-use crate::bytes::clone_option;
+use crate::bytes::{clone_option, is_same_option};
 use std::alloc::{AllocError, Global};
 
 /// A change of a hive. An accepted one becomes one entry of the journal.
@@ -129,6 +129,80 @@ impl Change {
                 subtree: *subtree,
             }),
             Change::Close { handle } => Ok(Change::Close { handle: *handle }),
+        }
+    }
+
+    /// Whether this is the same change.
+    pub fn is_same(&self, other: &Change) -> bool
+        ensures { IsTrue result ↔ (self.now ≡ other.now) }
+    {
+        match (self, other) {
+            (Change::OpenRoot { mask }, Change::OpenRoot { mask: m }) => mask == m,
+            (
+                Change::OpenKey { handle, path, mask },
+                Change::OpenKey {
+                    handle: h,
+                    path: p,
+                    mask: m,
+                },
+            ) => handle == h && mask == m && path.is_same(p),
+            (
+                Change::CreateKey {
+                    handle,
+                    path,
+                    mask,
+                    descriptor,
+                },
+                Change::CreateKey {
+                    handle: h,
+                    path: p,
+                    mask: m,
+                    descriptor: d,
+                },
+            ) => handle == h && mask == m && path.is_same(p) && is_same_option(descriptor, d),
+            (
+                Change::SetValue {
+                    handle,
+                    name,
+                    kind,
+                    bytes,
+                },
+                Change::SetValue {
+                    handle: h,
+                    name: n,
+                    kind: k,
+                    bytes: b,
+                },
+            ) => handle == h && kind == k && name.is_same(n) && bytes.is_same(b),
+            (Change::DeleteValue { handle, name }, Change::DeleteValue { handle: h, name: n }) =>
+                handle == h && name.is_same(n),
+            (Change::DeleteKey { handle, path }, Change::DeleteKey { handle: h, path: p }) => {
+                handle == h && path.is_same(p)
+            }
+            (Change::DeleteTree { handle, path }, Change::DeleteTree { handle: h, path: p }) => {
+                handle == h && path.is_same(p)
+            }
+            (
+                Change::SetSecurity { handle, descriptor },
+                Change::SetSecurity {
+                    handle: h,
+                    descriptor: d,
+                },
+            ) => handle == h && descriptor.is_same(d),
+            (
+                Change::Notify {
+                    handle,
+                    filter,
+                    subtree,
+                },
+                Change::Notify {
+                    handle: h,
+                    filter: f,
+                    subtree: s,
+                },
+            ) => handle == h && filter == f && subtree == s,
+            (Change::Close { handle }, Change::Close { handle: h }) => handle == h,
+            _ => false,
         }
     }
 }

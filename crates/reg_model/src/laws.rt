@@ -20,22 +20,22 @@ ghost use Rattle.reg_model.specs.declared.reply.Entry.{Entry};
 
 /// The front of a legal journal is legal.
 pub fn front_is_legal()
-    ensures { (origin : Tree) → (past more : List Entry) → IsLegal origin (past ++ more) → IsLegal origin past }
+    ensures { (base : ℕ) → (origin : Tree) → (past more : List Entry) → IsLegal base origin (past ++ more) → IsLegal base origin past }
 {}
 
-/// The number of an entry of a legal journal is its index.
+/// The number of an entry of a legal journal is that of the first and its index.
 pub fn number_is_index()
-    ensures { (origin : Tree) → (past : List Entry) → (e : Entry) → (more : List Entry) → IsLegal origin (past ++ e ∷ more) → e.number ≡ length past }
+    ensures { (base : ℕ) → (origin : Tree) → (past : List Entry) → (e : Entry) → (more : List Entry) → IsLegal base origin (past ++ e ∷ more) → e.number ≡ base + length past }
 {}
 
 /// Each entry of a legal journal was accepted where the entries before it left the hive, and has the reply due there.
 pub fn each_entry_fits()
-    ensures { (origin : Tree) → (past : List Entry) → (e : Entry) → (more : List Entry) → IsLegal origin (past ++ e ∷ more) → IsFit origin past e }
+    ensures { (base : ℕ) → (origin : Tree) → (past : List Entry) → (e : Entry) → (more : List Entry) → IsLegal base origin (past ++ e ∷ more) → IsFit base origin past e }
 {}
 
 /// A legal journal grows by an entry that fits, and stays legal.
 pub fn legal_journal_grows()
-    ensures { (origin : Tree) → (past : List Entry) → (e : Entry) → IsLegal origin past → IsFit origin past e → IsLegal origin (past ++ e ∷ []) }
+    ensures { (base : ℕ) → (origin : Tree) → (past : List Entry) → (e : Entry) → IsLegal base origin past → IsFit base origin past e → IsLegal base origin (past ++ e ∷ []) }
 {}
 
 /// The replay of one entry more is one step more.
@@ -56,30 +56,30 @@ pub fn refusal_changes_nothing()
 
 /// A change that is told status 0 becomes one entry, which fits.
 pub fn acceptance_is_an_entry()
-    ensures entry { (origin : Tree) → (past : List Entry) → (session moment : ℕ) → (change : Change) → (c : ℕ) →
-        (reply_given (state_of origin past) session change c).status ≡ 0 →
-        IsFit origin past (entry_due (state_of origin past) session moment change) }
-    ensures after { (origin : Tree) → (past : List Entry) → (session moment : ℕ) → (change : Change) → (c : ℕ) →
-        (reply_given (state_of origin past) session change c).status ≡ 0 →
-        state_after (state_of origin past) session moment change c ≡ state_of origin
-        (past ++ entry_due (state_of origin past) session moment change ∷ []) }
+    ensures entry { (base : ℕ) → (origin : Tree) → (past : List Entry) → (session moment : ℕ) → (change : Change) → (c : ℕ) →
+        (reply_given (state_of base origin past) session change c).status ≡ 0 →
+        IsFit base origin past (entry_due (state_of base origin past) session moment change) }
+    ensures after { (base : ℕ) → (origin : Tree) → (past : List Entry) → (session moment : ℕ) → (change : Change) → (c : ℕ) →
+        (reply_given (state_of base origin past) session change c).status ≡ 0 →
+        state_after (state_of base origin past) session moment change c ≡ state_of base origin
+        (past ++ entry_due (state_of base origin past) session moment change ∷ []) }
 {}
 
 /// A handle's number is that of an entry, and no two handles have one number: they rise.
 pub fn handle_numbers_rise()
-    ensures below { (origin : Tree) → (journal : List Entry) → IsLegal origin journal →
-        All (λ (h : Handle). h.number < length journal) (replay origin journal).handles }
-    ensures rise { (origin : Tree) → (journal : List Entry) → IsLegal origin journal →
+    ensures below { (base : ℕ) → (origin : Tree) → (journal : List Entry) → IsLegal base origin journal →
+        All (λ (h : Handle). h.number < base + length journal) (replay origin journal).handles }
+    ensures rise { (base : ℕ) → (origin : Tree) → (journal : List Entry) → IsLegal base origin journal →
         IsStrictlyIncreasing (map (λ (h : Handle). h.number) (replay origin journal).handles) }
 {}
 
 /// An entry that opens a handle tells its own number as the handle's, by which its session then finds a handle to the key at
 /// the end of the path, with the mask that it asked for.
 pub fn handle_has_its_entrys_number()
-    ensures told { (origin : Tree) → (past : List Entry) → (e : Entry) → (opening : Opening) → IsFit origin past e →
+    ensures told { (base : ℕ) → (origin : Tree) → (past : List Entry) → (e : Entry) → (opening : Opening) → IsFit base origin past e →
         (rule_of e.change).opens ≡ Some opening → e.reply.handle ≡ Some e.number }
-    ensures found { (origin : Tree) → (past : List Entry) → (e : Entry) → (opening : Opening) → IsLegal origin past →
-        IsFit origin past e → (rule_of e.change).opens ≡ Some opening →
+    ensures found { (base : ℕ) → (origin : Tree) → (past : List Entry) → (e : Entry) → (opening : Opening) → IsLegal base origin past →
+        IsFit base origin past e → (rule_of e.change).opens ≡ Some opening →
         look e.session e.number (replay origin (past ++ e ∷ [])).handles ≡
         Some (opened e (path_asked (replay origin past) e.session (rule_of e.change).of ++ folded_path opening.path) opening.mask) }
 {}
@@ -87,30 +87,30 @@ pub fn handle_has_its_entrys_number()
 /// A session's handle stays until that session closes it: with its mask, and, where its key was deleted, leading nowhere. Once
 /// it is closed, its number finds nothing again.
 pub fn handle_stays_until_it_is_closed()
-    ensures stays { (origin : Tree) → (past more : List Entry) → (session number : ℕ) → (h : Handle) → IsLegal origin (past ++ more) →
+    ensures stays { (base : ℕ) → (origin : Tree) → (past more : List Entry) → (session number : ℕ) → (h : Handle) → IsLegal base origin (past ++ more) →
         look session number (replay origin past).handles ≡ Some h →
         AllByRecursion (λ (e : Entry). e.session ≡ session → e.change ≡ Close number → ⊥) more →
         (now : Handle) × (look session number (replay origin (past ++ more)).handles ≡ Some now) × (now.mask ≡ h.mask)
         × (h.destination ≡ Deleted → now ≡ h) }
-    ensures closed { (origin : Tree) → (past : List Entry) → (e : Entry) → (more : List Entry) → (session number : ℕ) →
-        IsLegal origin (past ++ e ∷ more) → e.change ≡ Close number →
+    ensures closed { (base : ℕ) → (origin : Tree) → (past : List Entry) → (e : Entry) → (more : List Entry) → (session number : ℕ) →
+        IsLegal base origin (past ++ e ∷ more) → e.change ≡ Close number →
         look session number (replay origin (past ++ e ∷ more)).handles ≡ None }
 {}
 
 /// A tree stays a tree after every legal journal: it holds its root and each key's parent, the last name of a path is its key's
 /// name, folded, and the names of a key's values differ after folding.
 pub fn tree_stays_a_tree()
-    ensures { (origin : Tree) → (journal : List Entry) → IsLegal origin journal → IsTree origin → IsTree (replay origin journal).tree }
+    ensures { (base : ℕ) → (origin : Tree) → (journal : List Entry) → IsLegal base origin journal → IsTree origin → IsTree (replay origin journal).tree }
 {}
 
 /// A tree that holds its root holds it after every legal journal.
 pub fn root_stays()
-    ensures { (origin : Tree) → (journal : List Entry) → IsLegal origin journal → IsSome (get origin []) → IsSome (get (replay origin journal).tree []) }
+    ensures { (base : ℕ) → (origin : Tree) → (journal : List Entry) → IsLegal base origin journal → IsSome (get origin []) → IsSome (get (replay origin journal).tree []) }
 {}
 
 /// Every handle that leads to a key leads to one that is in the tree, after every legal journal of a tree that holds its root.
 pub fn handles_lead_to_keys()
-    ensures { (origin : Tree) → (journal : List Entry) → IsLegal origin journal → IsSome (get origin []) →
+    ensures { (base : ℕ) → (origin : Tree) → (journal : List Entry) → IsLegal base origin journal → IsSome (get origin []) →
         All (λ (h : Handle). StandsIn (replay origin journal).tree h.destination) (replay origin journal).handles }
 {}
 
@@ -140,39 +140,39 @@ pub fn each_watch_is_pending_or_told_once()
 /// After every legal journal the handle of a pending watch is open, its session's, and leads to the watch's key, which is in the tree
 /// where the journal began with one that holds its root.
 pub fn watches_stand()
-    ensures handles { (origin : Tree) → (journal : List Entry) → IsLegal origin journal →
+    ensures handles { (base : ℕ) → (origin : Tree) → (journal : List Entry) → IsLegal base origin journal →
         All (IsWatching (replay origin journal).handles) (pending origin journal) }
-    ensures keys { (origin : Tree) → (journal : List Entry) → IsLegal origin journal → IsSome (get origin []) →
+    ensures keys { (base : ℕ) → (origin : Tree) → (journal : List Entry) → IsLegal base origin journal → IsSome (get origin []) →
         All (λ (v : Watch). IsSome (get (replay origin journal).tree v.path)) (pending origin journal) }
 {}
 
-/// After every legal journal a pending watch's number is below the journal's length, and no two have one number: they rise.
+/// After every legal journal a pending watch's number is below that of the next entry, and no two have one number: they rise.
 pub fn watch_numbers_rise()
-    ensures below { (origin : Tree) → (journal : List Entry) → IsLegal origin journal →
-        All (λ (v : Watch). v.number < length journal) (pending origin journal) }
-    ensures rise { (origin : Tree) → (journal : List Entry) → IsLegal origin journal →
+    ensures below { (base : ℕ) → (origin : Tree) → (journal : List Entry) → IsLegal base origin journal →
+        All (λ (v : Watch). v.number < base + length journal) (pending origin journal) }
+    ensures rise { (base : ℕ) → (origin : Tree) → (journal : List Entry) → IsLegal base origin journal →
         IsStrictlyIncreasing (map (λ (v : Watch). v.number) (pending origin journal)) }
 {}
 
 /// After every legal journal a session has at most 4,096 pending watches.
 pub fn watches_are_few()
-    ensures { (origin : Tree) → (journal : List Entry) → (session : ℕ) → IsLegal origin journal →
+    ensures { (base : ℕ) → (origin : Tree) → (journal : List Entry) → (session : ℕ) → IsLegal base origin journal →
         watches_of session (pending origin journal) ≤ WATCHES_LIMIT }
 {}
 
 /// Where an entry is legal after a legal journal of a tree, one event at the highest key above those that it makes or removes, in place
 /// of one for each of them, ends the pending watches as all of its events do, and for the same reasons.
 pub fn few_events_suffice()
-    ensures { (origin : Tree) → (past : List Entry) → (e : Entry) → IsTree origin → IsLegal origin past → IsFit origin past e →
+    ensures { (base : ℕ) → (origin : Tree) → (past : List Entry) → (e : Entry) → IsTree origin → IsLegal base origin past → IsFit base origin past e →
         All (λ (v : Watch). reason (few_ending (replay origin past) e) v ≡ reason (ending (replay origin past) e) v) (pending origin past) }
 {}
 
 /// So what is pending and what is told after one more entry is what these few events make of it.
 pub fn few_events_go_on()
-    ensures pending { (origin : Tree) → (past : List Entry) → (e : Entry) → IsTree origin → IsLegal origin past → IsFit origin past e →
+    ensures pending { (base : ℕ) → (origin : Tree) → (past : List Entry) → (e : Entry) → IsTree origin → IsLegal base origin past → IsFit base origin past e →
         pending origin (past ++ e ∷ []) ≡
         pending_past (few_ending (replay origin past) e) (watch_of (replay origin past) e) (pending origin past) }
-    ensures fired { (origin : Tree) → (past : List Entry) → (e : Entry) → (session : ℕ) → IsTree origin → IsLegal origin past →
-        IsFit origin past e → fired origin (past ++ e ∷ []) session ≡
+    ensures fired { (base : ℕ) → (origin : Tree) → (past : List Entry) → (e : Entry) → (session : ℕ) → IsTree origin → IsLegal base origin past →
+        IsFit base origin past e → fired origin (past ++ e ∷ []) session ≡
         fired origin past session ++ notices session (few_ending (replay origin past) e) (pending origin past) }
 {}

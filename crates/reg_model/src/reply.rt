@@ -1,4 +1,5 @@
-ghost use Rattle.std.specs.Prelude.{◌≡◌, IfOk};
+ghost use Rattle.std.specs.Prelude.{◌≡◌, ◌↔◌, IfOk, IsTrue};
+ghost use Rattle.reg_model.specs.Histories.{receipt_of};
 ghost use Rattle.reg_model.specs.Calls.{changes_keys, was_there as was_there_of};
 
 use crate::Change;
@@ -8,7 +9,7 @@ use std::alloc::{AllocError, Global};
 /// The reply to a change. A refused one has no number, no handle and no disposition.
 #[derive(Clone, Copy, Debug, PartialEq, Eq)]
 pub struct ChangeReply {
-    /// 0, or the number of the refusal: 2, 5, 6, 8, 87, 1018 or 1450.
+    /// 0, or the number of the refusal: 2, 5, 6, 8, 87, 1009, 1018 or 1450.
     pub status: u32,
     /// The number of the change's entry.
     pub number: Option<u64>,
@@ -18,10 +19,19 @@ pub struct ChangeReply {
     pub disposition: Option<u32>,
 }
 
+impl ChangeReply {
+    /// Whether this is the same reply.
+    pub fn is_same(&self, other: &ChangeReply) -> bool
+        ensures { IsTrue result ↔ (self.now ≡ other.now) }
+    {
+        self == other
+    }
+}
+
 /// An accepted change, as the journal holds it.
 #[derive(Debug, Drop)]
 pub struct Entry {
-    /// The index in the journal, from 0.
+    /// How many entries the hive had before it.
     pub number: u64,
     /// The session that made the change, below 64.
     pub session: u8,
@@ -45,6 +55,17 @@ impl Entry {
         })
     }
 
+    /// Whether this is the same entry.
+    pub fn is_same(&self, other: &Entry) -> bool
+        ensures { IsTrue result ↔ (self.now ≡ other.now) }
+    {
+        self.number == other.number
+            && self.session == other.session
+            && self.moment == other.moment
+            && self.reply.is_same(&other.reply)
+            && self.change.is_same(&other.change)
+    }
+
     /// Whether the change may have changed keys. One that opens, watches or closes hasn't, nor has a CreateKey that made no key: the
     /// hive's bins are as they were before it.
     #[tactic(auto, unfolding(crate::specs::Calls::changes_keys))]
@@ -63,6 +84,29 @@ impl Entry {
             | Change::DeleteTree { .. }
             | Change::SetSecurity { .. } => true,
         }
+    }
+}
+
+/// What a session keeps of one of its accepted changes: the entry without the session.
+#[derive(Debug, Drop)]
+pub struct Receipt {
+    /// The number of the change's entry.
+    pub number: u64,
+    /// When the change was made, in units of 100 ns since 1601.
+    pub moment: u64,
+    pub change: Change,
+    pub reply: ChangeReply,
+}
+
+impl Receipt {
+    /// Whether it is the receipt of an entry.
+    pub fn is_of(&self, entry: &Entry) -> bool
+        ensures { IsTrue result ↔ (self.now ≡ receipt_of entry.now) }
+    {
+        self.number == entry.number
+            && self.moment == entry.moment
+            && self.reply.is_same(&entry.reply)
+            && self.change.is_same(&entry.change)
     }
 }
 

@@ -24,6 +24,9 @@ pub const MORE_DATA: u32 = 234;
 /// No subkey, or no value, has that index.
 pub const NO_MORE_ITEMS: u32 = 259;
 
+/// The share is not current: of another hive, of a hive without seats, or left behind.
+pub const BAD_DATABASE: u32 = 1009;
+
 /// The handle's key was deleted.
 pub const KEY_DELETED: u32 = 1018;
 

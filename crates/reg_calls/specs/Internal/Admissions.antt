@@ -1,4 +1,4 @@
--- What each change was admitted with: what its commit takes, as admission found it in the store when the journal had so many entries.
+-- What each change was admitted with: what its commit takes, as admission found it in the store where the journal ended so.
 use Rattle.std.specs.Prelude.{◌≡◌, ◌≢◌, ◌<◌, ℕ, List, [], map, length, Some, None, Result, Ok, Err, false, true, option_copied, vec_len, vec_capacity, MatchOption}
 use Rattle.reg_names.specs.Names.{folded, is_path, path_of}
 use Rattle.reg_heap.specs.Members.{index_named}
@@ -34,10 +34,11 @@ use Rattle.reg_calls.specs.declared.refusal.Refusal.TheVariants.{Cause, Memory}
 use Rattle.reg_calls.specs.Shortages.{is_closing}
 use Rattle.reg_calls.specs.Internal.Stores.{at, IsTarget}
 use Rattle.reg_calls.specs.Internal.DeletedTrees.{IsTreeFound}
+use Rattle.reg_calls.specs.declared.store.JournalEnd.{JournalEnd}
 
 -- nothing refuses a change, where no callback does
-abbrev pub IsClear : ℕ → Store → ℕ → Change → Type 0
-IsClear entries store session change = change_cause (at entries store) session change 0 ≡ None
+abbrev pub IsClear : JournalEnd → Store → ℕ → Change → Type 0
+IsClear end store session change = change_cause (at end store) session change 0 ≡ None
 
 -- a text is the path from the root to the end of a path from a handle's key, in folded names
 pub record IsTextOf (store : Store) (session handle : ℕ) (path text : List ℕ) : Type 0 where
@@ -51,16 +52,16 @@ pub record IsOwnKey (store : Store) (session handle : ℕ) (path : List ℕ) : T
   pub empty : path ≡ []
 
 -- a handle to the key at a path from a handle's key: the path's text, or none where it is that handle's own key; and the key
-pub record AdmitsOpenKey (entries : ℕ) (store : Store) (session handle : ℕ) (path : List ℕ) (found : OpenKey) : Type 0 where
-  pub clear : IsClear entries store session (KeyOpened handle path found.mask)
+pub record AdmitsOpenKey (end : JournalEnd) (store : Store) (session handle : ℕ) (path : List ℕ) (found : OpenKey) : Type 0 where
+  pub clear : IsClear end store session (KeyOpened handle path found.mask)
   pub by : found.by ≡ handle
   pub text : MatchOption found.text (IsOwnKey store session handle path) (λ text. IsTextOf store session handle path text.items)
   pub node : IsAt store.tree (path_from session handle store.handles.handles path) found.node
 
 -- keys made on a path from a handle's key: the path's text, how far it leads, which names are missing and where they belong; these
 -- aren't too many
-pub record AdmitsCreateKey (entries : ℕ) (store : Store) (session handle : ℕ) (path : List ℕ) (found : CreateKey) : Type 0 where
-  pub clear : IsClear entries store session (KeyCreated handle path found.mask (option_copied found.descriptor))
+pub record AdmitsCreateKey (end : JournalEnd) (store : Store) (session handle : ℕ) (path : List ℕ) (found : CreateKey) : Type 0 where
+  pub clear : IsClear end store session (KeyCreated handle path found.mask (option_copied found.descriptor))
   pub text : IsTextOf store session handle path found.text.items
   pub from : Node
   pub at : IsAt store.tree (path_at session handle store.handles.handles) from
@@ -71,23 +72,23 @@ pub record AdmitsCreateKey (entries : ℕ) (store : Store) (session handle : ℕ
   pub there : found.reached.missing.now ≡ [] → IsAt store.tree (path_from session handle store.handles.handles path) found.reached.node
 
 -- a value set in a handle's key: the handle, the key, and where it has a value of that name, or that it has room for one more
-pub record AdmitsSetValue (entries : ℕ) (store : Store) (session handle : ℕ) (found : SetValue) : Type 0 where
-  pub clear : IsClear entries store session (ValueSet handle found.name.now found.kind found.bytes.now)
+pub record AdmitsSetValue (end : JournalEnd) (store : Store) (session handle : ℕ) (found : SetValue) : Type 0 where
+  pub clear : IsClear end store session (ValueSet handle found.name.now found.kind found.bytes.now)
   pub by : found.handle ≡ handle
   pub node : IsAt store.tree (path_at session handle store.handles.handles) found.node
   pub place : (p : Path) → IsAt store.tree p found.node → found.place ≡ index_named found.name.now (values_at store.tree.tree p)
   pub room : (p : Path) → IsAt store.tree p found.node → found.place ≡ None → length (values_at store.tree.tree p) < VALUES_LIMIT
 
 -- a value removed from a handle's key: the handle, the key, and where it has the value of that name
-pub record AdmitsDeleteValue (entries : ℕ) (store : Store) (session handle : ℕ) (name : List ℕ) (found : DeleteValue) : Type 0 where
-  pub clear : IsClear entries store session (ValueDeleted handle name)
+pub record AdmitsDeleteValue (end : JournalEnd) (store : Store) (session handle : ℕ) (name : List ℕ) (found : DeleteValue) : Type 0 where
+  pub clear : IsClear end store session (ValueDeleted handle name)
   pub by : found.handle ≡ handle
   pub node : IsAt store.tree (path_at session handle store.handles.handles) found.node
   pub place : index_named name (values_at store.tree.tree (path_at session handle store.handles.handles)) ≡ Some found.index
 
 -- the key at a path from a handle's key deleted: the path's text, and the key with where it stands below its parent; nothing keeps it
-pub record AdmitsDeleteKey (entries : ℕ) (store : Store) (session handle : ℕ) (path : List ℕ) (found : DeleteKey) : Type 0 where
-  pub clear : IsClear entries store session (KeyDeleted handle path)
+pub record AdmitsDeleteKey (end : JournalEnd) (store : Store) (session handle : ℕ) (path : List ℕ) (found : DeleteKey) : Type 0 where
+  pub clear : IsClear end store session (KeyDeleted handle path)
   pub text : IsTextOf store session handle path found.text.items
   pub from : Node
   pub at : IsAt store.tree (path_at session handle store.handles.handles) from
@@ -98,8 +99,8 @@ pub record AdmitsDeleteKey (entries : ℕ) (store : Store) (session handle : ℕ
   pub node : IsAt store.tree (path_from session handle store.handles.handles path) found.reached.node
 
 -- a whole tree deleted, by a path from a handle's key: the path's text, with room for a byte more, and what goes
-pub record AdmitsDeleteTree (entries : ℕ) (store : Store) (session handle : ℕ) (path : List ℕ) (found : DeleteTree) : Type 0 where
-  pub clear : IsClear entries store session (TreeDeleted handle path)
+pub record AdmitsDeleteTree (end : JournalEnd) (store : Store) (session handle : ℕ) (path : List ℕ) (found : DeleteTree) : Type 0 where
+  pub clear : IsClear end store session (TreeDeleted handle path)
   pub text : IsTextOf store session handle path found.text.items
   pub room : vec_len found.text < vec_capacity found.text
   pub from : Node
@@ -107,42 +108,42 @@ pub record AdmitsDeleteTree (entries : ℕ) (store : Store) (session handle : �
   pub target : IsTreeFound store.tree from path found.target
 
 -- the descriptor of a handle's key set: the handle and the key
-pub record AdmitsSetSecurity (entries : ℕ) (store : Store) (session handle : ℕ) (found : SetSecurity) : Type 0 where
-  pub clear : IsClear entries store session (SecuritySet handle found.descriptor.now)
+pub record AdmitsSetSecurity (end : JournalEnd) (store : Store) (session handle : ℕ) (found : SetSecurity) : Type 0 where
+  pub clear : IsClear end store session (SecuritySet handle found.descriptor.now)
   pub by : found.handle ≡ handle
   pub node : IsAt store.tree (path_at session handle store.handles.handles) found.node
 
 -- a watch of a handle's key
-abbrev pub AdmitsNotify : ℕ → Store → ℕ → Notify → Type 0
-AdmitsNotify entries store session found = IsClear entries store session (Notified found.handle found.filter found.subtree)
+abbrev pub AdmitsNotify : JournalEnd → Store → ℕ → Notify → Type 0
+AdmitsNotify end store session found = IsClear end store session (Notified found.handle found.filter found.subtree)
 
 -- a change was admitted with this
-abbrev pub Admits : ℕ → Store → ℕ → Change → Admitted → Type 0
-Admits entries store session change (RootAdmitted found) = (change ≡ RootOpened found.mask) × IsClear entries store session (RootOpened found.mask)
-Admits entries store session change (KeyAdmitted found) =
-    (handle : ℕ) × (path : List ℕ) × (change ≡ KeyOpened handle path found.mask) × AdmitsOpenKey entries store session handle path found
-Admits entries store session change (NewKeyAdmitted found) =
+abbrev pub Admits : JournalEnd → Store → ℕ → Change → Admitted → Type 0
+Admits end store session change (RootAdmitted found) = (change ≡ RootOpened found.mask) × IsClear end store session (RootOpened found.mask)
+Admits end store session change (KeyAdmitted found) =
+    (handle : ℕ) × (path : List ℕ) × (change ≡ KeyOpened handle path found.mask) × AdmitsOpenKey end store session handle path found
+Admits end store session change (NewKeyAdmitted found) =
     (handle : ℕ) × (path : List ℕ) × (change ≡ KeyCreated handle path found.mask (option_copied found.descriptor))
-    × AdmitsCreateKey entries store session handle path found
-Admits entries store session change (SetAdmitted found) =
-    (handle : ℕ) × (change ≡ ValueSet handle found.name.now found.kind found.bytes.now) × AdmitsSetValue entries store session handle found
-Admits entries store session change (RemovalAdmitted found) =
-    (handle : ℕ) × (name : List ℕ) × (change ≡ ValueDeleted handle name) × AdmitsDeleteValue entries store session handle name found
-Admits entries store session change (DeletionAdmitted found) =
-    (handle : ℕ) × (path : List ℕ) × (change ≡ KeyDeleted handle path) × AdmitsDeleteKey entries store session handle path found
-Admits entries store session change (TreeAdmitted found) =
-    (handle : ℕ) × (path : List ℕ) × (change ≡ TreeDeleted handle path) × AdmitsDeleteTree entries store session handle path found
-Admits entries store session change (SecurityAdmitted found) =
-    (handle : ℕ) × (change ≡ SecuritySet handle found.descriptor.now) × AdmitsSetSecurity entries store session handle found
-Admits entries store session change (WatchAdmitted found) =
-    (change ≡ Notified found.handle found.filter found.subtree) × AdmitsNotify entries store session found
-Admits entries store session change (CloseAdmitted found) = (change ≡ Closed found.handle) × IsClear entries store session (Closed found.handle)
+    × AdmitsCreateKey end store session handle path found
+Admits end store session change (SetAdmitted found) =
+    (handle : ℕ) × (change ≡ ValueSet handle found.name.now found.kind found.bytes.now) × AdmitsSetValue end store session handle found
+Admits end store session change (RemovalAdmitted found) =
+    (handle : ℕ) × (name : List ℕ) × (change ≡ ValueDeleted handle name) × AdmitsDeleteValue end store session handle name found
+Admits end store session change (DeletionAdmitted found) =
+    (handle : ℕ) × (path : List ℕ) × (change ≡ KeyDeleted handle path) × AdmitsDeleteKey end store session handle path found
+Admits end store session change (TreeAdmitted found) =
+    (handle : ℕ) × (path : List ℕ) × (change ≡ TreeDeleted handle path) × AdmitsDeleteTree end store session handle path found
+Admits end store session change (SecurityAdmitted found) =
+    (handle : ℕ) × (change ≡ SecuritySet handle found.descriptor.now) × AdmitsSetSecurity end store session handle found
+Admits end store session change (WatchAdmitted found) =
+    (change ≡ Notified found.handle found.filter found.subtree) × AdmitsNotify end store session found
+Admits end store session change (CloseAdmitted found) = (change ≡ Closed found.handle) × IsClear end store session (Closed found.handle)
 
 -- a change of which the callbacks' status is c isn't admitted: by its cause; or nothing refuses it, and memory is wanting for it, as it
 -- never is for a Close
-abbrev pub IsNotAdmitted : ℕ → ℕ → Store → ℕ → Change → Refusal → Type 0
-IsNotAdmitted c entries store session change (Cause status) = change_cause (at entries store) session change c ≡ Some status
-IsNotAdmitted c entries store session change Memory = IsClear entries store session change × (is_closing change ≡ false) × (asked_before change c ≡ None)
+abbrev pub IsNotAdmitted : ℕ → JournalEnd → Store → ℕ → Change → Refusal → Type 0
+IsNotAdmitted c end store session change (Cause status) = change_cause (at end store) session change c ≡ Some status
+IsNotAdmitted c end store session change Memory = IsClear end store session change × (is_closing change ≡ false) × (asked_before change c ≡ None)
 
 -- what a caller is told of it
 abbrev pub status_told : Refusal → ℕ
@@ -150,6 +151,6 @@ status_told (Cause status) = status
 status_told Memory = NOT_ENOUGH_MEMORY
 
 -- what an admission answers, where the callbacks' status is c
-abbrev pub IsAdmission : ℕ → ℕ → Store → ℕ → Change → Result Admitted Refusal → Type 0
-IsAdmission c entries store session change (Ok admitted) = Admits entries store session change admitted × (asked_before change c ≡ None)
-IsAdmission c entries store session change (Err refusal) = IsNotAdmitted c entries store session change refusal
+abbrev pub IsAdmission : ℕ → JournalEnd → Store → ℕ → Change → Result Admitted Refusal → Type 0
+IsAdmission c end store session change (Ok admitted) = Admits end store session change admitted × (asked_before change c ≡ None)
+IsAdmission c end store session change (Err refusal) = IsNotAdmitted c end store session change refusal

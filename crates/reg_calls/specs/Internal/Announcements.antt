@@ -12,6 +12,7 @@ use Rattle.reg_calls.specs.declared.announced.Announced.{Announced}
 use Rattle.reg_calls.specs.declared.announced.Announced.TheVariants.{Nothing, Changes, Closes}
 use Rattle.reg_calls.specs.declared.store.Store.{Store}
 use Rattle.reg_calls.specs.Internal.Stores.{at, world_of}
+use Rattle.reg_calls.specs.declared.store.JournalEnd.{JournalEnd}
 
 -- the ending of watches that is announced of an entry of that number
 abbrev pub ending_in : Announced → ℕ → Ending
@@ -27,9 +28,9 @@ HasKinds (Closes handle) = Unit {0}
 
 -- this is announced of an admitted change: it ends each pending watch as the few events of the change do that its watches can tell
 -- apart, and for the same reason; and it doesn't end the watch that the change asks for itself
-pub record IsAnnounced (entries : ℕ) (store : Store) (session : ℕ) (change : Change) (announced : Announced) : Type 0 where
+pub record IsAnnounced (end : JournalEnd) (store : Store) (session : ℕ) (change : Change) (announced : Announced) : Type 0 where
   pub kinds : HasKinds announced
-  pub ends : (moment : ℕ) → AllByRecursion (λ (v : Watch). reason (ending_in announced entries) v ≡
-      reason (few_ending (world_of store) (entry_due (at entries store) session moment change)) v) store.watches.pending
-  pub spares : (moment : ℕ) (v : Watch) → watch_of (world_of store) (entry_due (at entries store) session moment change) ≡ Some v →
-      reason (ending_in announced entries) v ≡ None
+  pub ends : (moment : ℕ) → AllByRecursion (λ (v : Watch). reason (ending_in announced end.next) v ≡
+      reason (few_ending (world_of store) (entry_due (at end store) session moment change)) v) store.watches.pending
+  pub spares : (moment : ℕ) (v : Watch) → watch_of (world_of store) (entry_due (at end store) session moment change) ≡ Some v →
+      reason (ending_in announced end.next) v ≡ None

@@ -11,6 +11,7 @@ use Rattle.reg_calls.specs.declared.quiet.Unhit.{Unhit}
 use Rattle.reg_calls.specs.declared.quiet.OwnEvent.{OwnEvent}
 use Rattle.reg_calls.specs.declared.store.Store.{Store}
 use Rattle.reg_calls.specs.Internal.Stores.{at, world_of, IsTarget}
+use Rattle.reg_calls.specs.declared.store.JournalEnd.{JournalEnd}
 
 abbrev pub nothing : Unhit
 nothing = record { handle = 0; bits = 0; at = 0 }
@@ -33,22 +34,22 @@ pub record LeadsTo (hs : List Handle) (number : ℕ) (p : Path) : Type 0 where
   pub destination : handle.destination ≡ At p
 
 -- what is remembered is of an entry and a handle so far, and hits no pending watch wherever the handle leads
-pub record IsUnhit (store : Store) (entries handle bits number : ℕ) : Type 0 where
-  pub past : number < entries
-  pub opened : handle < entries
+pub record IsUnhit (store : Store) (next handle bits number : ℕ) : Type 0 where
+  pub past : number < next
+  pub opened : handle < next
   pub none : (p : Path) → LeadsTo store.handles.handles handle p → HitsNone (event_at bits p) store.watches.pending
 
 abbrev pub AreUnhit : ℕ → Store → Quiet → Type 0
-AreUnhit entries store q = (handle bits number : ℕ) → Remembers q handle bits number → IsUnhit store entries handle bits number
+AreUnhit next store q = (handle bits number : ℕ) → Remembers q handle bits number → IsUnhit store next handle bits number
 
 -- an admitted change is just this event of the key of its handle, and asks for no watch
-pub record IsOwnEvent (entries : ℕ) (store : Store) (session : ℕ) (change : Change) (event : OwnEvent) : Type 0 where
+pub record IsOwnEvent (end : JournalEnd) (store : Store) (session : ℕ) (change : Change) (event : OwnEvent) : Type 0 where
   pub target : IsTarget store session event.handle
-  pub ends : (moment : ℕ) → few_ending (world_of store) (entry_due (at entries store) session moment change) ≡
+  pub ends : (moment : ℕ) → few_ending (world_of store) (entry_due (at end store) session moment change) ≡
       record {
-        by = entries;
+        by = end.next;
         events = event_at event.bits (path_at session event.handle store.handles.handles) ∷ [];
         removes = λ (q : Path). false;
         closed = None;
       }
-  pub asks : (moment : ℕ) → watch_of (world_of store) (entry_due (at entries store) session moment change) ≡ None
+  pub asks : (moment : ℕ) → watch_of (world_of store) (entry_due (at end store) session moment change) ≡ None

@@ -20,14 +20,15 @@ use Rattle.reg_calls.specs.declared.store.Store.{Store}
 use Rattle.reg_calls.specs.declared.store.KeyHandle.{KeyHandle}
 use Rattle.reg_calls.specs.declared.lack.Lack.{Lack}
 use Rattle.reg_calls.specs.declared.lack.Lack.TheVariants.{Space, Memory}
+use Rattle.reg_calls.specs.declared.store.JournalEnd.{JournalEnd}
 
 -- the world of a store
 abbrev pub world_of : Store → World
 world_of store = record { tree = store.tree.tree; handles = store.handles.handles }
 
--- where a call finds it after so many entries
-abbrev pub at : ℕ → Store → State
-at entries store = record { kept = entries; next = entries; world = world_of store; pending = store.watches.pending }
+-- where a call finds it, where the journal ends so
+abbrev pub at : JournalEnd → Store → State
+at end store = record { kept = end.kept; next = end.next; world = world_of store; pending = store.watches.pending }
 
 -- each node that is kept for a path is that of the key there (that one is kept for each path that a handle leads to is a clause of the
 -- table's)
@@ -35,13 +36,13 @@ abbrev pub KnowsKeys : Store → Type 0
 KnowsKeys store = (text : List ℕ) (node : Node) → payload_on store.handles text ≡ Some node → IsAt store.tree (path_of text) node
 
 -- the root is there, and each key that a handle leads to; each node that is kept is that of its key; the numbers of handles and of
--- pending watches are those of entries; and there are not too many handles
-pub record IsReady (entries : ℕ) (store : Store) : Type 0 where
+-- pending watches are below the next one; and there are not too many handles
+pub record IsReady (end : JournalEnd) (store : Store) : Type 0 where
   pub stand : IsStanding store.tree.tree store.handles.handles
   pub known : KnowsKeys store
-  pub below : All (λ (h : Handle). h.number < entries) store.handles.handles
-  pub watched : All (λ (v : Watch). v.number < entries) store.watches.pending
-  pub small : entries + length store.handles.handles ≤ JOURNAL_LIMIT
+  pub below : All (λ (h : Handle). h.number < end.next) store.handles.handles
+  pub watched : All (λ (v : Watch). v.number < end.next) store.watches.pending
+  pub small : end.kept + length store.handles.handles ≤ JOURNAL_LIMIT
 
 -- the session's handle of that number leads to a key
 pub record IsTarget (store : Store) (session number : ℕ) : Type 0 where
@@ -77,24 +78,24 @@ pub record GoesOver (x : Ending) (asked : Option Watch) (old new : Watches) : Ty
 
 -- a change was made on the store, which met the watches so; this is its reply, the keys are as they were unless it may have changed
 -- some, the bins are no smaller and grew by no more than it may take, and each node that is kept is that of its key
-pub record IsDoneWith (Meets : Option Watch → Watches → Watches → Type 0) (old new : Store) (session moment number : ℕ) (change : Change) (told : ChangeReply) :
+pub record IsDoneWith (Meets : Option Watch → Watches → Watches → Type 0) (old new : Store) (session moment : ℕ) (end : JournalEnd) (change : Change) (told : ChangeReply) :
     Type 0 where
-  pub world : world_of new ≡ after (world_of old) (entry_due (at number old) session moment change)
-  pub reply : told ≡ reply_to (at number old) session change
+  pub world : world_of new ≡ after (world_of old) (entry_due (at end old) session moment change)
+  pub reply : told ≡ reply_to (at end old) session change
   pub kept_keys : changes_keys change told ≡ false → new.tree ≡ old.tree
   pub kept : length old.tree.bins.bytes ≤ length new.tree.bins.bytes
   pub grows : length new.tree.bins.bytes ≤ length old.tree.bins.bytes + growth_of change
   pub known : KnowsKeys new
-  pub watches : Meets (watch_of (world_of old) (entry_due (at number old) session moment change)) old.watches new.watches
+  pub watches : Meets (watch_of (world_of old) (entry_due (at end old) session moment change)) old.watches new.watches
 
 -- it was made, though no watch is ended yet
-abbrev pub IsDone : Store → Store → ℕ → ℕ → ℕ → Change → ChangeReply → Type 0
+abbrev pub IsDone : Store → Store → ℕ → ℕ → JournalEnd → Change → ChangeReply → Type 0
 IsDone = IsDoneWith Asks
 
 -- it was made, and the watches that it ends were told
-abbrev pub IsCarriedOut : Store → Store → ℕ → ℕ → ℕ → Change → ChangeReply → Type 0
-IsCarriedOut old new session moment number change told =
-    IsDoneWith (GoesOver (few_ending (world_of old) (entry_due (at number old) session moment change))) old new session moment number change told
+abbrev pub IsCarriedOut : Store → Store → ℕ → ℕ → JournalEnd → Change → ChangeReply → Type 0
+IsCarriedOut old new session moment end change told =
+    IsDoneWith (GoesOver (few_ending (world_of old) (entry_due (at end old) session moment change))) old new session moment end change told
 
 -- the keys, the handles and the watches are as they were, and each node that is kept is that of its key
 pub record IsUnchanged (old new : Store) : Type 0 where
@@ -104,12 +105,12 @@ pub record IsUnchanged (old new : Store) : Type 0 where
   pub known : KnowsKeys new
 
 -- a change that nothing refuses was made, or nothing changed, for want of memory or of space
-abbrev pub IsMade : Store → Store → ℕ → ℕ → ℕ → Change → Result ChangeReply Lack → Type 0
-IsMade old new session moment number change (Ok reply) = IsDone old new session moment number change reply
-IsMade old new session moment number change (Err Memory) = IsUnchanged old new × (is_closing change ≡ false)
-IsMade old new session moment number change (Err Space) = IsUnchanged old new × LacksSpace old.tree old.handles.handles session change
+abbrev pub IsMade : Store → Store → ℕ → ℕ → JournalEnd → Change → Result ChangeReply Lack → Type 0
+IsMade old new session moment end change (Ok reply) = IsDone old new session moment end change reply
+IsMade old new session moment end change (Err Memory) = IsUnchanged old new × (is_closing change ≡ false)
+IsMade old new session moment end change (Err Space) = IsUnchanged old new × LacksSpace old.tree old.handles.handles session change
 
 -- the same, and the watches that a change ends were told
-abbrev pub IsCarried : Store → Store → ℕ → ℕ → ℕ → Change → Result ChangeReply Lack → Type 0
-IsCarried old new session moment number change (Ok reply) = IsCarriedOut old new session moment number change reply
-IsCarried old new session moment number change (Err lack) = IsMade old new session moment number change (Err lack)
+abbrev pub IsCarried : Store → Store → ℕ → ℕ → JournalEnd → Change → Result ChangeReply Lack → Type 0
+IsCarried old new session moment end change (Ok reply) = IsCarriedOut old new session moment end change reply
+IsCarried old new session moment end change (Err lack) = IsMade old new session moment end change (Err lack)

@@ -22,7 +22,7 @@ returns-then-is_limited-clause-refused g c =
     let bad = c.is_bad_create-is_bad.ensures in
     let good = c.in-Ok.ensures.good in
     let room = c.in-Ok.ensures.room in
-    let chain = create-causes c.args.entries c.args.store.now c.args.session c.args.handle status c.args.path.now c.args.mask (option_copied c.args.descriptor) k.target in
+    let chain = create-causes c.args.end c.args.store.now c.args.session c.args.handle status c.args.path.now c.args.mask (option_copied c.args.descriptor) k.target in
     let many = c.is_limited.ensures c.in-Ok.key.node c.args.path.now c.reach-reached.ensures.reached k.target.path k.node in
     grind (arith, nat_tests, common_steps, chain, bad, good, room, many)
 
@@ -32,7 +32,7 @@ returns-in-Err-path_below-clause-refused g c =
     let bad = c.is_bad_create-is_bad.ensures in
     let good = c.in-Ok.ensures.good in
     let room = c.in-Ok.ensures.room in
-    let chain = create-causes c.args.entries c.args.store.now c.args.session c.args.handle 0 c.args.path.now c.args.mask (option_copied c.args.descriptor) k.target in
+    let chain = create-causes c.args.end c.args.store.now c.args.session c.args.handle 0 c.args.path.now c.args.mask (option_copied c.args.descriptor) k.target in
     let many = c.is_limited.ensures c.in-Ok.key.node c.args.path.now c.reach-reached.ensures.reached k.target.path k.node in (
       grind (arith, nat_tests, common_steps, chain, bad, good, room, many),
       refl,
@@ -46,7 +46,7 @@ returns-in-Ok-path_below-clause-admitted g c =
     let bad = c.is_bad_create-is_bad.ensures in
     let good = c.in-Ok.ensures.good in
     let room = c.in-Ok.ensures.room in
-    let chain = create-causes c.args.entries c.args.store.now c.args.session c.args.handle 0 c.args.path.now c.args.mask (option_copied c.args.descriptor) k.target in
+    let chain = create-causes c.args.end c.args.store.now c.args.session c.args.handle 0 c.args.path.now c.args.mask (option_copied c.args.descriptor) k.target in
     let many = c.is_limited.ensures c.in-Ok.key.node c.args.path.now c.reach-reached.ensures.reached k.target.path k.node in
     let few = sym many ∙ c.if-is_limited.false in
     let text = c.in-Ok-path_below.ensures in
@@ -70,7 +70,7 @@ returns-in-Err-ask-clause-refused g c =
     let bad = c.is_bad_create-is_bad.ensures in
     let good = c.in-Ok.ensures.good in
     let room = c.in-Ok.ensures.room in
-    let chain = create-causes c.args.entries c.args.store.now c.args.session c.args.handle status c.args.path.now c.args.mask (option_copied c.args.descriptor) k.target in
+    let chain = create-causes c.args.end c.args.store.now c.args.session c.args.handle status c.args.path.now c.args.mask (option_copied c.args.descriptor) k.target in
     let many = c.is_limited.ensures c.in-Ok.key.node c.args.path.now c.reach-reached.ensures.reached k.target.path k.node in
     let asks = c.in-Err-ask.ensures.err (path_at c.args.session c.args.handle c.args.store.now.handles.handles)
     (asked-at c.args.store.now c.args.session c.args.handle c.in-Ok.ensures.key.target c.in-Ok.key.path.now c.in-Ok.ensures.key.path) in

@@ -8,28 +8,28 @@ use Rattle.reg_calls.proofs.RefusalTests.{delete-refused, delete-causes, asked-a
 use Rattle.reg_calls.proofs.delete_key.DeleteKey.admit.Goals as goal
 
 pub returns-in-Err-clause-refused : goal.returns-in-Err-clause-refused
-returns-in-Err-clause-refused g c = delete-refused c.args.entries c.args.store.now c.args.session c.args.handle
+returns-in-Err-clause-refused g c = delete-refused c.args.end c.args.store.now c.args.session c.args.handle
     (status_by g.C.Callback.answers c.args.asking.now c.args.store.now c.args.session c.args.handle) c.args.path.now c.in-Err.status c.in-Err.ensures
 
 pub returns-then-is_bad_target-clause-refused : goal.returns-then-is_bad_target-clause-refused
 returns-then-is_bad_target-clause-refused g c =
     let status = status_by g.C.Callback.answers c.args.asking.now c.args.store.now c.args.session c.args.handle in
     let k = c.in-Ok.ensures in
-    let chain = delete-causes c.args.entries c.args.store.now c.args.session c.args.handle status c.args.path.now k.target in
+    let chain = delete-causes c.args.end c.args.store.now c.args.session c.args.handle status c.args.path.now k.target in
     grind (arith, nat_tests, common_steps, chain)
 
 pub returns-then-is_full-clause-refused : goal.returns-then-is_full-clause-refused
 returns-then-is_full-clause-refused g c =
     let status = status_by g.C.Callback.answers c.args.asking.now c.args.store.now c.args.session c.args.handle in
     let k = c.in-Ok.ensures in
-    let chain = delete-causes c.args.entries c.args.store.now c.args.session c.args.handle status c.args.path.now k.target in
+    let chain = delete-causes c.args.end c.args.store.now c.args.session c.args.handle status c.args.path.now k.target in
     grind (arith, nat_tests, common_steps, chain)
 
 pub returns-then-not-is_empty-clause-refused : goal.returns-then-not-is_empty-clause-refused
 returns-then-not-is_empty-clause-refused g c =
     let status = status_by g.C.Callback.answers c.args.asking.now c.args.store.now c.args.session c.args.handle in
     let k = c.in-Ok.ensures in
-    let chain = delete-causes c.args.entries c.args.store.now c.args.session c.args.handle status c.args.path.now k.target in
+    let chain = delete-causes c.args.end c.args.store.now c.args.session c.args.handle status c.args.path.now k.target in
     let none = c.reach-reached.ensures.absent k.target.path k.node (not-empty _ c.is_empty.result c.is_empty.ensures c.if-not-is_empty.true) in
     let asks = c.in-Ok-ask.ensures.ok (path_at c.args.session c.args.handle c.args.store.now.handles.handles)
     (asked-at c.args.store.now c.args.session c.args.handle c.in-Ok.ensures.target c.in-Ok.key.path.now c.in-Ok.ensures.path) in
@@ -44,7 +44,7 @@ pub returns-then-may_not_go-clause-refused : goal.returns-then-may_not_go-clause
 returns-then-may_not_go-clause-refused g c =
     let status = status_by g.C.Callback.answers c.args.asking.now c.args.store.now c.args.session c.args.handle in
     let k = c.in-Ok.ensures in
-    let chain = delete-causes c.args.entries c.args.store.now c.args.session c.args.handle status c.args.path.now k.target in
+    let chain = delete-causes c.args.end c.args.store.now c.args.session c.args.handle status c.args.path.now k.target in
     let found = c.reach-reached.ensures.there k.target.path k.node (is-empty _ c.is_empty.result c.is_empty.ensures c.if-not-is_empty.false) in
     let there = found.1 in
     let kept = c.may_not_go.ensures _ found.0 in
@@ -55,7 +55,7 @@ returns-then-may_not_go-clause-refused g c =
 pub returns-in-Err-path_below-clause-refused : goal.returns-in-Err-path_below-clause-refused
 returns-in-Err-path_below-clause-refused g c =
     let k = c.in-Ok.ensures in
-    let chain = delete-causes c.args.entries c.args.store.now c.args.session c.args.handle 0 c.args.path.now k.target in
+    let chain = delete-causes c.args.end c.args.store.now c.args.session c.args.handle 0 c.args.path.now k.target in
     let found = c.reach-reached.ensures.there k.target.path k.node (is-empty _ c.is_empty.result c.is_empty.ensures c.if-not-is_empty.false) in
     let there = found.1 in
     let kept = c.may_not_go.ensures _ found.0 in (
@@ -68,7 +68,7 @@ returns-in-Err-path_below-clause-refused g c =
 pub returns-in-Ok-path_below-clause-admitted : goal.returns-in-Ok-path_below-clause-admitted
 returns-in-Ok-path_below-clause-admitted g c =
     let k = c.in-Ok.ensures in
-    let chain = delete-causes c.args.entries c.args.store.now c.args.session c.args.handle 0 c.args.path.now k.target in
+    let chain = delete-causes c.args.end c.args.store.now c.args.session c.args.handle 0 c.args.path.now k.target in
     let none = is-empty _ c.is_empty.result c.is_empty.ensures c.if-not-is_empty.false in
     let found = c.reach-reached.ensures.there k.target.path k.node none in
     let there = found.1 in
@@ -91,7 +91,7 @@ pub returns-in-Err-ask-clause-refused : goal.returns-in-Err-ask-clause-refused
 returns-in-Err-ask-clause-refused g c =
     let status = status_by g.C.Callback.answers c.args.asking.now c.args.store.now c.args.session c.args.handle in
     let k = c.in-Ok.ensures in
-    let chain = delete-causes c.args.entries c.args.store.now c.args.session c.args.handle status c.args.path.now k.target in
+    let chain = delete-causes c.args.end c.args.store.now c.args.session c.args.handle status c.args.path.now k.target in
     let asks = c.in-Err-ask.ensures.err (path_at c.args.session c.args.handle c.args.store.now.handles.handles)
     (asked-at c.args.store.now c.args.session c.args.handle c.in-Ok.ensures.target c.in-Ok.key.path.now c.in-Ok.ensures.path) in
     grind (arith, nat_tests, common_steps, chain, asks)

@@ -28,7 +28,7 @@ returns c = λ session handle path a.
     subst (λ (p : List ℕ). (t : List ℕ) → payload_on c.mark_deleted.new.self t ≡ cond (bytes_eq p t) None (payload_on c.args.store.now.handles t))
     c.as_slice.ensures.value c.mark_deleted.ensures.payloads in
     let handles = c.mark_deleted.ensures.handles ∙ ap (λ (t : List ℕ). turned (path_of t) c.args.store.now.handles.handles) c.as_slice.ensures.value in
-    delete-done c.args.number c.args.store.now session c.requires.ready handle path a.clear c.args.moment
+    delete-done c.args.end c.args.store.now session c.requires.ready handle path a.clear c.args.moment
     c.delete_at.new.self c.mark_deleted.new.self text a.text.names
     (c.delete_at.ensures.tree _ a.node) handles c.accepted.result c.accepted.ensures c.delete_at.ensures.long
     (deleted_known c.args.store.now c.requires.ready.known c.delete_at.new.self c.mark_deleted.new.self text keeps marked)

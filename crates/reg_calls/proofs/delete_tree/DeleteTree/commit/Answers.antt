@@ -19,7 +19,7 @@ returns-in-Branch c = λ session handle path a.
     let at = found.node _ a.at in
     let keeps : (q : Path) (other : Node) → IsAt c.args.store.now.tree q other → is_within (path_of text) q ≡ false → IsAt c.delete_tree_at.new.self q other =
     λ q other here apart. c.delete_tree_at.ensures.nodes _ at q other here (ap (λ (p : Path). is_within p q) (sym a.text.names) ∙ apart) in
-    branch-done c.args.number c.args.store.now session c.requires.ready handle path a.clear c.args.moment
+    branch-done c.args.end c.args.store.now session c.requires.ready handle path a.clear c.args.moment
     c.delete_tree_at.new.self c.mark_deleted_within.new.self text found.below a.text.names
     (c.delete_tree_at.ensures.tree _ at) c.mark_deleted_within.ensures.handles c.accepted.result c.accepted.ensures c.delete_tree_at.ensures.long
     (past_known c.args.store.now c.requires.ready.known c.delete_tree_at.new.self c.mark_deleted_within.new.self (is_within (path_of text)) keeps c.mark_deleted_within.ensures.payloads)
@@ -33,7 +33,7 @@ returns-in-Contents c = λ session handle path a.
     let names : path_of text ≡ here = a.text.names ∙ from-nowhere here path found.empty in
     let keeps : (q : Path) (other : Node) → IsAt c.args.store.now.tree q other → is_under (path_of text) q ≡ false → IsAt c.empty.new.self q other =
     λ q other there apart. c.empty.ensures.nodes _ at q other there (ap (λ (p : Path). is_under p q) (sym names) ∙ apart) in
-    contents-done c.args.number c.args.store.now session c.requires.ready handle path a.clear c.args.moment
+    contents-done c.args.end c.args.store.now session c.requires.ready handle path a.clear c.args.moment
     c.empty.new.self c.mark_deleted_under.new.self text found.empty a.text.names
     (c.empty.ensures.tree _ at) c.mark_deleted_under.ensures.handles c.accepted-in-Contents.result c.accepted-in-Contents.ensures c.empty.ensures.long
     (past_known c.args.store.now c.requires.ready.known c.empty.new.self c.mark_deleted_under.new.self (is_under (path_of text)) keeps c.mark_deleted_under.ensures.payloads)

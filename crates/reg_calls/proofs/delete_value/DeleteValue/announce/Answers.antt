@@ -11,6 +11,6 @@ event_of-requires-clause-target c =
     subst (IsTarget c.args.store.now c.args.session) (sym a.by) (target-of c.args.store.now c.args.session c.requires.1 m.target)
 
 pub returns : goal.returns
-returns c = λ entries handle name a.
-    drop-announced entries c.args.store.now c.args.session handle name c.event_of.result c.event_of.ensures.kinds
+returns c = λ end handle name a.
+    drop-announced end c.args.store.now c.args.session handle name c.event_of.result c.event_of.ensures.kinds
     (announced-at c.args.store.now c.args.session c.args.self.now.handle handle a.by _ c.event_of.result c.event_of.ensures.ends)

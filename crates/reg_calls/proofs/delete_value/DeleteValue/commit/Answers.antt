@@ -9,6 +9,6 @@ remove_at-requires c = let a = c.requires.admitted in (_, a.3.node, index_within
 
 pub returns : goal.returns
 returns c = λ session handle name a.
-    drop-done c.args.number c.args.store.now session c.requires.ready handle name a.clear c.args.moment
+    drop-done c.args.end c.args.store.now session c.requires.ready handle name a.clear c.args.moment
     c.remove_at.new.self (c.remove_at.ensures.tree _ a.node ∙ removed_at _ _ name c.args.self.index c.args.moment a.place) c.accepted.result c.accepted.ensures c.remove_at.ensures.long
     (kept_known c.args.store.now c.requires.ready.known c.remove_at.new.self c.remove_at.ensures.nodes)

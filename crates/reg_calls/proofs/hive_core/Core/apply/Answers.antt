@@ -1,10 +1,11 @@
-use Rattle.std.proofs.Common.{◌++◌, ◌∷◌, [], ℕ, List, length, sym, ap, ◌∙◌, subst, arith, None, inl, refl}
+use Rattle.std.proofs.Common.{◌++◌, ◌∷◌, [], ◌+◌, ℕ, List, length, sym, ap, ◌∙◌, subst, arith, None, inl, refl}
 use Rattle.reg_model.specs.declared.reply.Entry.{Entry}
+use Rattle.reg_calls.specs.declared.store.JournalEnd.{JournalEnd}
 use Rattle.reg_calls.specs.Internal.Stores.{IsReady, IsCarriedOut, at}
 use Rattle.reg_calls.specs.Internal.Admissions.{IsClear}
 use Rattle.reg_calls.specs.Internal.QuietKeys.{AreUnhit}
 use Rattle.reg_calls.specs.declared.refusal.Refusal.TheVariants.{Memory}
-use Rattle.reg_calls.specs.Views.{HiveInvariant, View, view_with}
+use Rattle.reg_calls.specs.Views.{Booked, HiveInvariant, View, view_with}
 use Rattle.reg_model.specs.Replies.{refusal}
 use Rattle.reg_notify.specs.Tables.{Table}
 use Rattle.reg_calls.specs.declared.quiet.Quiet.{Quiet}
@@ -13,7 +14,7 @@ use Rattle.reg_callbacks.specs.Lists.{answers_of}
 use Rattle.reg_calls.proofs.RefusalTests.{still-clear}
 use Rattle.reg_calls.proofs.KnownKeys.{unmade}
 use Rattle.reg_calls.proofs.QuietChanges.{unhit-same}
-use Rattle.reg_calls.proofs.HiveInvariantLemmas.{from-zero, one-more, ready-kept, state-kept, state-view, append-room, kept-done, kept-roomier, kept-unmade, accepted, applied-by}
+use Rattle.reg_calls.proofs.HiveInvariantLemmas.{end-is, one-more, ready-kept, state-kept, state-view, append-room, kept-done, kept-roomier, kept-unmade, accepted, applied-by}
 use Rattle.reg_calls.proofs.AdmittedChanges.{admits-clear, refused-as, given-up}
 use Rattle.reg_calls.proofs.hive_core.Core.apply.Goals as goal
 

@@ -7,41 +7,41 @@ use Rattle.reg_calls.proofs.RefusalTests.{notify-refused, notify-causes, asked-a
 use Rattle.reg_calls.proofs.notify.Notify.admit.Goals as goal
 
 pub returns-in-Err-clause-refused : goal.returns-in-Err-clause-refused
-returns-in-Err-clause-refused g c = notify-refused c.args.entries c.args.store.now c.args.session c.args.handle
+returns-in-Err-clause-refused g c = notify-refused c.args.end c.args.store.now c.args.session c.args.handle
     (status_by g.C.Callback.answers c.args.asking.now c.args.store.now c.args.session c.args.handle) c.args.filter c.args.subtree c.in-Err.status c.in-Err.ensures
 
 pub returns-then-not-is_filter-clause-refused : goal.returns-then-not-is_filter-clause-refused
 returns-then-not-is_filter-clause-refused g c =
     let status = status_by g.C.Callback.answers c.args.asking.now c.args.store.now c.args.session c.args.handle in
     let k = c.in-Ok.ensures in
-    let chain = notify-causes c.args.entries c.args.store.now c.args.session c.args.handle status c.args.filter c.args.subtree c.in-Ok.key.mask k.target k.mask in
+    let chain = notify-causes c.args.end c.args.store.now c.args.session c.args.handle status c.args.filter c.args.subtree c.in-Ok.key.mask k.target k.mask in
     grind (arith, nat_tests, common_steps, chain)
 
 pub returns-then-key-ne-NOTIFY-clause-refused : goal.returns-then-key-ne-NOTIFY-clause-refused
 returns-then-key-ne-NOTIFY-clause-refused g c =
     let status = status_by g.C.Callback.answers c.args.asking.now c.args.store.now c.args.session c.args.handle in
     let k = c.in-Ok.ensures in
-    let chain = notify-causes c.args.entries c.args.store.now c.args.session c.args.handle status c.args.filter c.args.subtree c.in-Ok.key.mask k.target k.mask in
+    let chain = notify-causes c.args.end c.args.store.now c.args.session c.args.handle status c.args.filter c.args.subtree c.in-Ok.key.mask k.target k.mask in
     grind (arith, nat_tests, common_steps, chain)
 
 pub returns-then-has_no_watch_room-clause-refused : goal.returns-then-has_no_watch_room-clause-refused
 returns-then-has_no_watch_room-clause-refused g c =
     let status = status_by g.C.Callback.answers c.args.asking.now c.args.store.now c.args.session c.args.handle in
     let k = c.in-Ok.ensures in
-    let chain = notify-causes c.args.entries c.args.store.now c.args.session c.args.handle status c.args.filter c.args.subtree c.in-Ok.key.mask k.target k.mask in
+    let chain = notify-causes c.args.end c.args.store.now c.args.session c.args.handle status c.args.filter c.args.subtree c.in-Ok.key.mask k.target k.mask in
     grind (arith, nat_tests, common_steps, chain)
 
 pub returns-clause-admitted : goal.returns-clause-admitted
 returns-clause-admitted g c =
     let k = c.in-Ok.ensures in
-    let chain = notify-causes c.args.entries c.args.store.now c.args.session c.args.handle 0 c.args.filter c.args.subtree c.in-Ok.key.mask k.target k.mask in
+    let chain = notify-causes c.args.end c.args.store.now c.args.session c.args.handle 0 c.args.filter c.args.subtree c.in-Ok.key.mask k.target k.mask in
     grind (arith, nat_tests, common_steps, chain)
 
 pub returns-in-Err-ask-clause-refused : goal.returns-in-Err-ask-clause-refused
 returns-in-Err-ask-clause-refused g c =
     let status = status_by g.C.Callback.answers c.args.asking.now c.args.store.now c.args.session c.args.handle in
     let k = c.in-Ok.ensures in
-    let chain = notify-causes c.args.entries c.args.store.now c.args.session c.args.handle status c.args.filter c.args.subtree c.in-Ok.key.mask k.target k.mask in
+    let chain = notify-causes c.args.end c.args.store.now c.args.session c.args.handle status c.args.filter c.args.subtree c.in-Ok.key.mask k.target k.mask in
     let asks = c.in-Err-ask.ensures.err (path_at c.args.session c.args.handle c.args.store.now.handles.handles)
     (asked-at c.args.store.now c.args.session c.args.handle c.in-Ok.ensures.target c.in-Ok.key.path.now c.in-Ok.ensures.path) in
     grind (arith, nat_tests, common_steps, chain, asks)

@@ -18,7 +18,7 @@ returns-in_default-clause-refused g c =
     let bad = c.is_bad_open.ensures in
     let good = c.in-Ok.ensures.good in
     let room = c.in-Ok.ensures.room in
-    let chain = open-causes c.args.entries c.args.store.now c.args.session c.args.handle status c.args.path.now c.args.mask k.target in
+    let chain = open-causes c.args.end c.args.store.now c.args.session c.args.handle status c.args.path.now c.args.mask k.target in
     let none = c.in_default.ensures.found k.target.path k.node in
     let asks = c.in-Ok-ask.ensures.ok (path_at c.args.session c.args.handle c.args.store.now.handles.handles)
     (asked-at c.args.store.now c.args.session c.args.handle c.in-Ok.ensures.key.target c.in-Ok.key.path.now c.in-Ok.ensures.key.path) in
@@ -30,7 +30,7 @@ returns-in-Err-path_below-clause-refused g c =
     let bad = c.is_bad_open.ensures in
     let good = c.in-Ok.ensures.good in
     let room = c.in-Ok.ensures.room in
-    let chain = open-causes c.args.entries c.args.store.now c.args.session c.args.handle 0 c.args.path.now c.args.mask k.target in
+    let chain = open-causes c.args.end c.args.store.now c.args.session c.args.handle 0 c.args.path.now c.args.mask k.target in
     let there = (c.in-Some.ensures.found k.target.path k.node).1 in (
       grind (arith, nat_tests, common_steps, chain, bad, good, room, there),
       refl,
@@ -44,7 +44,7 @@ returns-in-Ok-path_below-clause-admitted g c =
     let bad = c.is_bad_open.ensures in
     let good = c.in-Ok.ensures.good in
     let room = c.in-Ok.ensures.room in
-    let chain = open-causes c.args.entries c.args.store.now c.args.session c.args.handle 0 c.args.path.now c.args.mask k.target in
+    let chain = open-causes c.args.end c.args.store.now c.args.session c.args.handle 0 c.args.path.now c.args.mask k.target in
     let found = c.in-Some.ensures.found k.target.path k.node in
     let there = found.1 in
     let text = c.in-Ok-path_below.ensures in
@@ -62,7 +62,7 @@ returns-then-is_empty-clause-admitted g c =
     let bad = c.is_bad_open.ensures in
     let good = c.in-Ok.ensures.good in
     let room = c.in-Ok.ensures.room in
-    let chain = open-causes c.args.entries c.args.store.now c.args.session c.args.handle 0 c.args.path.now c.args.mask k.target in
+    let chain = open-causes c.args.end c.args.store.now c.args.session c.args.handle 0 c.args.path.now c.args.mask k.target in
     let found = c.in-Some.ensures.found k.target.path k.node in
     let there = found.1 in
     record {
@@ -84,7 +84,7 @@ returns-in-Err-ask-clause-refused g c =
     let bad = c.is_bad_open.ensures in
     let good = c.in-Ok.ensures.good in
     let room = c.in-Ok.ensures.room in
-    let chain = open-causes c.args.entries c.args.store.now c.args.session c.args.handle status c.args.path.now c.args.mask k.target in
+    let chain = open-causes c.args.end c.args.store.now c.args.session c.args.handle status c.args.path.now c.args.mask k.target in
     let asks = c.in-Err-ask.ensures.err (path_at c.args.session c.args.handle c.args.store.now.handles.handles)
     (asked-at c.args.store.now c.args.session c.args.handle c.in-Ok.ensures.key.target c.in-Ok.key.path.now c.in-Ok.ensures.key.path) in
     grind (arith, nat_tests, common_steps, chain, bad, good, room, asks)

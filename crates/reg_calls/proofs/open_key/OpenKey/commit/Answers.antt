@@ -17,7 +17,7 @@ use Rattle.reg_calls.proofs.open_key.OpenKey.commit.Goals as goal
 pub add_beside-requires-clause-room : goal.add_beside-requires-clause-room
 add_beside-requires-clause-room c =
     let a = c.requires.admitted in
-    open-room c.args.number c.args.store.now c.args.session c.requires.ready a.0 a.1 c.args.self.mask a.2.clear
+    open-room c.args.end c.args.store.now c.args.session c.requires.ready a.0 a.1 c.args.self.mask a.2.clear
 
 pub add_beside-requires-clause-leads : goal.add_beside-requires-clause-leads
 add_beside-requires-clause-leads c =
@@ -36,7 +36,7 @@ returns-in-Ok c = λ moment handle path a.
     let own = none-part _ c.in_default.is (IsOwnKey c.args.store.now c.args.session handle path) (λ text. IsTextOf c.args.store.now c.args.session handle path text.items) a.text in
     let leads =
     subst (λ (n : ℕ). IsLeadingTo own.target.path (numbered n c.args.store.now.handles.handles)) (sym a.by) (target-leads c.args.store.now c.args.session handle own.target) in
-    open-done c.args.number c.args.store.now c.args.session c.requires.ready handle path c.args.self.mask a.clear moment
+    open-done c.args.end c.args.store.now c.args.session c.requires.ready handle path c.args.self.mask a.clear moment
     c.add_beside.new.self own.target.path (target-own c.args.store.now c.args.session handle own.target path own.empty)
     (c.in-Ok.ensures.ok own.target.path leads) c.opened.result c.opened.ensures
     (beside_known c.args.store.now c.requires.ready.known c.add_beside.new.self c.in-Ok.ensures.payloads)
@@ -46,7 +46,7 @@ returns-in-Ok c = λ moment handle path a.
 pub add-requires-clause-room : goal.add-requires-clause-room
 add-requires-clause-room c =
     let a = c.requires.admitted in
-    open-room c.args.number c.args.store.now c.args.session c.requires.ready a.0 a.1 c.args.self.mask a.2.clear
+    open-room c.args.end c.args.store.now c.args.session c.requires.ready a.0 a.1 c.args.self.mask a.2.clear
 
 pub add-requires-clause-path : goal.add-requires-clause-path
 add-requires-clause-path c =
@@ -65,7 +65,7 @@ returns-in-Err-add c = λ moment handle path a.
 pub returns-in-Ok-add : goal.returns-in-Ok-add
 returns-in-Ok-add c = λ moment handle path a.
     let below = some-part _ _ c.in-Some.is (IsOwnKey c.args.store.now c.args.session handle path) (λ text. IsTextOf c.args.store.now c.args.session handle path text.items) a.text in
-    open-done c.args.number c.args.store.now c.args.session c.requires.ready handle path c.args.self.mask a.clear moment
+    open-done c.args.end c.args.store.now c.args.session c.requires.ready handle path c.args.self.mask a.clear moment
     c.add.new.self (path_of c.in-Some.text.items) below.names c.in-Ok-add.ensures.ok c.opened-in-Ok-add.result c.opened-in-Ok-add.ensures
     (added_known c.args.store.now c.requires.ready.known c.add.new.self c.in-Some.text.items c.args.self.node c.in-Ok-add.ensures.payloads
     (subst (λ (p : Path). IsAt c.args.store.now.tree p c.args.self.node) (sym below.names) a.node))

@@ -9,35 +9,35 @@ use Rattle.reg_calls.proofs.RefusalTests.{set-refused, set-causes, asked-at}
 use Rattle.reg_calls.proofs.set_value.SetValue.admit.Goals as goal
 
 pub returns-in-Err-clause-refused : goal.returns-in-Err-clause-refused
-returns-in-Err-clause-refused g c = set-refused c.args.entries c.args.store.now c.args.session c.args.handle
+returns-in-Err-clause-refused g c = set-refused c.args.end c.args.store.now c.args.session c.args.handle
     (status_by g.C.Callback.answers c.args.asking.now c.args.store.now c.args.session c.args.handle) c.args.name.now c.args.bytes.now c.args.kind c.in-Err.status c.in-Err.ensures
 
 pub returns-then-is_bad_value-clause-refused : goal.returns-then-is_bad_value-clause-refused
 returns-then-is_bad_value-clause-refused g c =
     let status = status_by g.C.Callback.answers c.args.asking.now c.args.store.now c.args.session c.args.handle in
     let k = c.in-Ok.ensures in
-    let chain = set-causes c.args.entries c.args.store.now c.args.session c.args.handle status c.args.name.now c.args.bytes.now c.args.kind c.in-Ok.key.mask k.target k.mask in
+    let chain = set-causes c.args.end c.args.store.now c.args.session c.args.handle status c.args.name.now c.args.bytes.now c.args.kind c.in-Ok.key.mask k.target k.mask in
     grind (arith, nat_tests, common_steps, chain)
 
 pub returns-then-key-ne-SET_VALUE-clause-refused : goal.returns-then-key-ne-SET_VALUE-clause-refused
 returns-then-key-ne-SET_VALUE-clause-refused g c =
     let status = status_by g.C.Callback.answers c.args.asking.now c.args.store.now c.args.session c.args.handle in
     let k = c.in-Ok.ensures in
-    let chain = set-causes c.args.entries c.args.store.now c.args.session c.args.handle status c.args.name.now c.args.bytes.now c.args.kind c.in-Ok.key.mask k.target k.mask in
+    let chain = set-causes c.args.end c.args.store.now c.args.session c.args.handle status c.args.name.now c.args.bytes.now c.args.kind c.in-Ok.key.mask k.target k.mask in
     grind (arith, nat_tests, common_steps, chain)
 
 pub returns-then-is_full-has_no_value_room-clause-refused : goal.returns-then-is_full-has_no_value_room-clause-refused
 returns-then-is_full-has_no_value_room-clause-refused g c =
     let status = status_by g.C.Callback.answers c.args.asking.now c.args.store.now c.args.session c.args.handle in
     let k = c.in-Ok.ensures in
-    let chain = set-causes c.args.entries c.args.store.now c.args.session c.args.handle status c.args.name.now c.args.bytes.now c.args.kind c.in-Ok.key.mask k.target k.mask in
+    let chain = set-causes c.args.end c.args.store.now c.args.session c.args.handle status c.args.name.now c.args.bytes.now c.args.kind c.in-Ok.key.mask k.target k.mask in
     let room = c.has_no_value_room.ensures k.target.path k.node c.args.name.now (c.value_index-place.ensures k.target.path k.node) in
     grind (arith, nat_tests, common_steps, chain, room)
 
 pub returns-clause-admitted : goal.returns-clause-admitted
 returns-clause-admitted g c =
     let k = c.in-Ok.ensures in
-    let chain = set-causes c.args.entries c.args.store.now c.args.session c.args.handle 0 c.args.name.now c.args.bytes.now c.args.kind c.in-Ok.key.mask k.target k.mask in
+    let chain = set-causes c.args.end c.args.store.now c.args.session c.args.handle 0 c.args.name.now c.args.bytes.now c.args.kind c.in-Ok.key.mask k.target k.mask in
     let room = c.has_no_value_room.ensures k.target.path k.node c.args.name.now (c.value_index-place.ensures k.target.path k.node) in
     record {
       clear = grind (arith, nat_tests, common_steps, chain, room);
@@ -52,7 +52,7 @@ pub returns-in-Err-ask-clause-refused : goal.returns-in-Err-ask-clause-refused
 returns-in-Err-ask-clause-refused g c =
     let status = status_by g.C.Callback.answers c.args.asking.now c.args.store.now c.args.session c.args.handle in
     let k = c.in-Ok.ensures in
-    let chain = set-causes c.args.entries c.args.store.now c.args.session c.args.handle status c.args.name.now c.args.bytes.now c.args.kind c.in-Ok.key.mask k.target k.mask in
+    let chain = set-causes c.args.end c.args.store.now c.args.session c.args.handle status c.args.name.now c.args.bytes.now c.args.kind c.in-Ok.key.mask k.target k.mask in
     let room = c.has_no_value_room.ensures k.target.path k.node c.args.name.now (c.value_index-place.ensures k.target.path k.node) in
     let asks = c.in-Err-ask.ensures.err (path_at c.args.session c.args.handle c.args.store.now.handles.handles)
     (asked-at c.args.store.now c.args.session c.args.handle c.in-Ok.ensures.target c.in-Ok.key.path.now c.in-Ok.ensures.path) in

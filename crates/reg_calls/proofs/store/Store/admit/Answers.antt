@@ -8,5 +8,5 @@ use Rattle.reg_calls.proofs.store.Store.admit.Goals as goal
 pub returns-in-Err-admit-9 : goal.returns-in-Err-admit-9
 returns-in-Err-admit-9 g c =
     let status = change_status (asks (answers_of g.C.Callback.answers c.args.callbacks.now)) (world_of c.args.self.now) c.args.session c.args.moment c.args.change.now in
-    let missing = c.in-Err-admit-9.ensures.refused c.args.entries status in
+    let missing = c.in-Err-admit-9.ensures.refused c.args.end status in
     search (rules, missing)

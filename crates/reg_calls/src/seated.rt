@@ -1,0 +1,100 @@
+//! A hive with the shares of all its sessions, for those who call it by a session's number.
+ghost use Rattle.std.specs.Prelude.{◌≡◌, ◌≢◌, ◌⊎◌, ◌↔◌, ◌<◌, ◌-◌, [], None, true, length, nat_lt, option_copied, replicate, slice_get, if◌then◌else◌, IfErr, IfOk, IsErrOf, OnErr, OnOk};
+ghost use Rattle.reg_model.specs.declared.limits.TheConstants.{SESSIONS_LIMIT};
+ghost use Rattle.reg_callbacks.specs.Rows.{is_falling};
+ghost use Rattle.reg_callbacks.specs.Lists.{altitudes_of};
+ghost use Rattle.reg_calls.specs.HiveView.{view_of, noted_of, callbacks_of, asks_of};
+ghost use Rattle.reg_calls.specs.Views.{next_of, state, IsApplied, IsHive, IsNoticeTaken, IsRead};
+ghost use Rattle.reg_calls.specs.Seats.{AreSeated};
+ghost use Rattle.reg_calls.specs.declared.hive.Hive.{Hive as HiveOf};
+
+use crate::hive::Hive;
+use reg_callbacks::Callback;
+use reg_journal::{SeatFault, Share};
+use reg_model::{Answer, Change, ChangeReply, Entry, Notice, Query};
+
+/// Answers a change of a session, below 64, as [`Hive::apply`] does, by its share among those of all sessions: it never meets 1009.
+pub fn apply_by<C: Callback>(
+    hive: &mut Hive<C>,
+    shares: &mut Vec<Share>,
+    session: u8,
+    moment: u64,
+    change: Change,
+) -> ChangeReply
+    requires seated { AreSeated (noted_of hive.old) (view_of hive.old).journal shares.old.items }
+    requires session { session < SESSIONS_LIMIT }
+    ensures order { is_falling (altitudes_of (callbacks_of hive.old)) ≡ true }
+    ensures callbacks { callbacks_of hive.new ≡ callbacks_of hive.old }
+    ensures noted { noted_of hive.new ≡ noted_of hive.old }
+    ensures applied { IsApplied (asks_of C.answers hive.old) (view_of hive.old) (view_of hive.new) session moment change result }
+    ensures seated { AreSeated (noted_of hive.new) (view_of hive.new).journal shares.new.items }
+{
+    hive.apply(&mut shares[session as usize], moment, change)
+}
+
+/// Answers a question of a session, below 64, as [`Hive::read`] does, by its share among those of all sessions.
+pub fn read_by<C: Callback>(
+    hive: &Hive<C>,
+    shares: &Vec<Share>,
+    session: u8,
+    query: &Query,
+) -> Answer
+    requires seated { AreSeated (noted_of hive.now) (view_of hive.now).journal shares.now.items }
+    requires session { session < SESSIONS_LIMIT }
+    ensures order { is_falling (altitudes_of (callbacks_of hive.now)) ≡ true }
+    ensures at { result.at ≡ next_of (view_of hive.now) }
+    ensures body { IsRead (asks_of C.answers hive.now) (state (view_of hive.now)) session query.now result.body }
+{
+    hive.read(&shares[session as usize], query)
+}
+
+/// A hive with the shares of its 64 sessions: their calls name the session, and never meet 1009.
+#[derive(Drop)]
+pub struct SeatedHive<C = Box<dyn Callback + Send>> {
+    pub hive: Hive<C>,
+    /// Each session's share in its place.
+    pub shares: Vec<Share>,
+    ghost seated: { AreSeated (noted_of hive) (view_of hive).journal shares.items },
+}
+
+impl<C: Callback> SeatedHive<C> {
+    /// Seats all 64 sessions at a hive. `Seated` exactly where it gave seats before, else `Memory`; the hive is dropped then.
+    pub fn new(hive: Hive<C>) -> Result<SeatedHive<C>, SeatFault>
+        ensures hive { IfOk result (λ seated. view_of seated.hive ≡ view_of hive) }
+        ensures callbacks { IfOk result (λ seated. callbacks_of seated.hive ≡ callbacks_of hive) }
+        ensures again { IsErrOf result SeatFault.Seated ↔ (noted_of hive ≢ []) }
+        ensures err { IfErr result (λ fault. (fault ≡ SeatFault.Seated) ⊎ (fault ≡ SeatFault.Memory)) }
+    {
+        let mut hive = hive;
+        let shares = hive.seat(64)?;
+        Ok(SeatedHive { hive, shares })
+    }
+
+    /// Answers a change of a session, below 64, at a moment (100 ns units since 1601), as [`Hive::apply`] does.
+    pub fn apply(&mut self, session: u8, moment: u64, change: Change) -> ChangeReply
+        requires { session < SESSIONS_LIMIT }
+        ensures order { is_falling (altitudes_of (callbacks_of self.old.hive)) ≡ true }
+        ensures callbacks { callbacks_of self.new.hive ≡ callbacks_of self.old.hive }
+        ensures applied { IsApplied (asks_of C.answers self.old.hive) (view_of self.old.hive) (view_of self.new.hive) session moment change result }
+    {
+        apply_by(&mut self.hive, &mut self.shares, session, moment, change)
+    }
+
+    /// Answers a question of a session, below 64, as [`Hive::read`] does.
+    pub fn read(&self, session: u8, query: &Query) -> Answer
+        requires { session < SESSIONS_LIMIT }
+        ensures order { is_falling (altitudes_of (callbacks_of self.now.hive)) ≡ true }
+        ensures at { result.at ≡ next_of (view_of self.now.hive) }
+        ensures body { IsRead (asks_of C.answers self.now.hive) (state (view_of self.now.hive)) session query.now result.body }
+    {
+        read_by(&self.hive, &self.shares, session, query)
+    }
+
+    /// Hands a session its next notice, as [`Hive::take_notice`] does.
+    pub fn take_notice(&mut self, session: u8) -> Option<Notice>
+        ensures notice { IsNoticeTaken (view_of self.old.hive) (view_of self.new.hive) session result }
+        ensures callbacks { callbacks_of self.new.hive ≡ callbacks_of self.old.hive }
+    {
+        self.hive.take_notice(session)
+    }
+}
