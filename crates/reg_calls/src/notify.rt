@@ -117,7 +117,7 @@ impl Notify {
             Err(_) => return Err(Lack::Memory),
         };
         let asked = Registration {
-            end.next,
+            number: end.next,
             session,
             handle: self.handle,
             place,
