@@ -4,6 +4,7 @@ pub mod LineSpaces
 pub mod WordReadingLemmas
 pub mod LineMeaningLemmas
 pub mod FailedCalls
+pub mod KeptSeats
 pub mod ProgressLemmas
 pub mod LinesThatFail
 pub mod ScriptHalts

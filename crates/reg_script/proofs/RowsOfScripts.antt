@@ -531,3 +531,98 @@ notice_taken hive is_first is =
       ),
       refl,
     )
+
+-- a hive whose journal begins with the number 7, and which told session 0 a notice before that; session 0 took so many
+abbrev continued : View → ℕ → View
+continued hive taken = record hive {
+  base = 7;
+  before = (record { watch = 3; by = 5; reason = Matched } ∷ []) ∷ [];
+  journal = [];
+  watches = record hive.watches { taken = taken ∷ [] };
+}
+
+abbrev opened_again : View → View
+opened_again hive = record (continued hive 1) { journal = entry_of (continued hive 1) 0 0 (OpenRoot 1) ∷ [] }
+
+-- the notice from before is handed out, and once; the next entry and its handle have the number 7
+numbered_on : (hive : View) → IsHive (continued hive 1) → IsHive (opened_again hive) →
+    Lines no_callbacks (continued hive 0) (codes "notice\nnotice\nroot 1\n") (codes "notice 3 5 matched\nnotice none\n0 handle 7\n") (opened_again hive)
+unfolding on_lines digits after early_cause late_cause reply_to
+numbered_on hive is_taken is_opened =
+    let there = unset (continued hive 1) in
+    let last = unset (opened_again hive) in (
+      last,
+      (
+        there,
+        codes "notice 3 5 matched\n",
+        codes "notice none\n0 handle 7\n",
+        (
+          Some (record { watch = 3; by = 5; reason = Matched }),
+          record {
+            next = refl;
+            taken = one_more;
+            origin = refl;
+            base = refl;
+            before = refl;
+            journal = refl;
+            keys = refl;
+            handles = refl;
+            pending = refl;
+            told = refl;
+            hive = is_taken;
+          },
+          refl,
+          refl,
+        ),
+        (
+          there,
+          codes "notice none\n",
+          codes "0 handle 7\n",
+          (
+            None,
+            record {
+              next = refl;
+              taken = λ x. no_more x 0 (get_or (1 ∷ []) x 0);
+              origin = refl;
+              base = refl;
+              before = refl;
+              journal = refl;
+              keys = refl;
+              handles = refl;
+              pending = refl;
+              told = refl;
+              hive = is_taken;
+            },
+            refl,
+            refl,
+          ),
+          (
+            last,
+            codes "0 handle 7\n",
+            [],
+            (
+              Changed (record { status = 0; number = Some 7; handle = Some 7; disposition = None }),
+              inl (record {
+                says = refl;
+                journal = refl;
+                origin = refl;
+                base = refl;
+                before = refl;
+                taken = refl;
+                kept_keys = λ e. refl;
+                kept = omega arith;
+                grows = omega arith;
+                hive = is_opened;
+              }),
+              refl,
+              refl,
+            ),
+            (refl, refl),
+            refl,
+          ),
+          refl,
+        ),
+        refl,
+      ),
+      refl,
+    )
