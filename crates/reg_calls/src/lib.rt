@@ -46,6 +46,7 @@
 
 mod announced;
 mod asking;
+mod cause;
 mod changes;
 mod close;
 mod create_key;
