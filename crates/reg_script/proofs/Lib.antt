@@ -4,7 +4,6 @@ pub mod LineSpaces
 pub mod WordReadingLemmas
 pub mod LineMeaningLemmas
 pub mod FailedCalls
-pub mod KeptSeats
 pub mod ProgressLemmas
 pub mod LinesThatFail
 pub mod ScriptHalts

@@ -32,7 +32,7 @@ abbrev begun : View → View
 begun hive = record hive { base = 0; before = []; journal = [] }
 
 abbrev opened : View → View
-opened hive = record hive { journal = entry_of (begun hive) 0 0 (OpenRoot 1) ∷ [] }
+opened hive = record (begun hive) { journal = entry_of (begun hive) 0 0 (OpenRoot 1) ∷ [] }
 
 abbrev there : View → Stand
 there hive = record { hive = opened hive; callbacks = no_callbacks; moment = 0; session = 0 }
