@@ -21,4 +21,3 @@ pub mod QuietChanges
 pub mod HandlesLead
 pub mod SharesOfHives
 pub mod LargestNumbers
-pub mod ToldCauses

@@ -1,5 +1,5 @@
 -- The shares of a hive's sessions, after a call and after calls.
-use Rattle.std.proofs.Common.{◌≡◌, ◌+◌, ◌<◌, ◌++◌, ◌∷◌, ◌==◌, [], ℕ, List, Bool, length, if◌then◌else◌, arith, refl, sym, ap, ◌∙◌, subst, length-append, set, slice_index_or, get_or, Option, Some, None, inl, inr, ◌⊎◌}
+use Rattle.std.proofs.Common.{◌≡◌, ◌+◌, ◌<◌, ◌++◌, ◌∷◌, ◌==◌, [], ℕ, List, Bool, length, if◌then◌else◌, arith, refl, sym, ap, ◌∙◌, subst, length-append, set, slice_index_or, get_or, Option, Some, None, inl, inr, ◌⊎◌, zero, suc}
 use Rattle.std.specs.Prelude.{All}
 use Rattle.std.specs.List.{filter}
 use Rattle.std.proofs.lemmas.List.Elements.{filter-append}
@@ -30,6 +30,11 @@ current-more noted es e share new c own same more =
       seated = (let s = c.seated in omega (arith, s, same));
       counted = (let k = c.counted in let m = count-more new.session es e in grind (arith, nat_tests));
     }
+
+-- the same by a book and a journal that are the same
+pub current-at : {noted noted' : List ℕ} {es es' : List Entry} {share : Seat} → noted' ≡ noted → es' ≡ es → IsCurrent noted es share → IsCurrent noted' es' share
+current-at {noted = noted} {es' = es'} {share = share} same_noted same c =
+    subst (λ (x : List ℕ). IsCurrent x es' share) (sym same_noted) (subst (λ (x : List Entry). IsCurrent noted x share) (sym same) c)
 
 count-other : (t : ℕ) (es : List Entry) (e : Entry) → (e.session ≡ t → ⊥) → count_of t (es ++ e ∷ []) ≡ count_of t es
 count-other t es e ne = let m = count-more t es e in grind (arith, nat_tests)

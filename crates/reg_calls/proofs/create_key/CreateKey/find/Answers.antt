@@ -38,8 +38,8 @@ returns-in-Err-ask-clause-refused g c =
     (asked-at c.args.store.now c.args.session c.args.handle k.target c.in-Ok.key.path.now k.path) in
     grind (arith, nat_tests, common_steps, chain, bad, good, room, many, asks)
 
-pub returns-in-Ok-ask-clause-clear : goal.returns-in-Ok-ask-clause-clear
-returns-in-Ok-ask-clause-clear g c =
+pub returns-clause-clear : goal.returns-clause-clear
+returns-clause-clear g c =
     let k = c.in-Ok.ensures.key in
     let bad = c.is_bad_create-is_bad.ensures in
     let good = c.in-Ok.ensures.good in
@@ -49,13 +49,13 @@ returns-in-Ok-ask-clause-clear g c =
     let few = sym many ∙ c.if-is_limited.false in
     grind (arith, nat_tests, common_steps, chain, bad, good, room, few)
 
-pub returns-in-Ok-ask-clause-asked : goal.returns-in-Ok-ask-clause-asked
-returns-in-Ok-ask-clause-asked g c =
+pub returns-clause-asked : goal.returns-clause-asked
+returns-clause-asked g c =
     c.in-Ok-ask.ensures.ok (path_at c.args.session c.args.handle c.args.store.now.handles.handles)
     (asked-at c.args.store.now c.args.session c.args.handle c.in-Ok.ensures.key.target c.in-Ok.key.path.now c.in-Ok.ensures.key.path)
 
-pub returns-in-Ok-ask-clause-found : goal.returns-in-Ok-ask-clause-found
-returns-in-Ok-ask-clause-found g c = record {
+pub returns-clause-found : goal.returns-clause-found
+returns-clause-found g c = record {
   walked = c.reach-reached.ensures.reached;
   missing = c.reach-reached.ensures.missing;
   few = λ start text is p at. sym (c.is_limited.ensures start text is p at) ∙ c.if-is_limited.false;

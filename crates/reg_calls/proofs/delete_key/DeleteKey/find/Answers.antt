@@ -61,8 +61,8 @@ returns-then-may_not_go-clause-refused g c =
     (asked-at c.args.store.now c.args.session c.args.handle k.target c.in-Ok.key.path.now k.path) in
     grind (arith, nat_tests, common_steps, chain, there, kept, asks)
 
-pub returns-else-may_not_go-clause-clear : goal.returns-else-may_not_go-clause-clear
-returns-else-may_not_go-clause-clear g c =
+pub returns-clause-clear : goal.returns-clause-clear
+returns-clause-clear g c =
     let k = c.in-Ok.ensures in
     let chain = delete-causes c.args.end c.args.store.now c.args.session c.args.handle 0 c.args.path.now k.target in
     let found = c.reach-reached.ensures.there k.target.path k.node (is-empty _ c.is_empty.result c.is_empty.ensures c.if-not-is_empty.false) in
@@ -70,13 +70,13 @@ returns-else-may_not_go-clause-clear g c =
     let kept = c.may_not_go.ensures _ found.0 in
     grind (arith, nat_tests, common_steps, chain, there, kept)
 
-pub returns-else-may_not_go-clause-asked : goal.returns-else-may_not_go-clause-asked
-returns-else-may_not_go-clause-asked g c =
+pub returns-clause-asked : goal.returns-clause-asked
+returns-clause-asked g c =
     c.in-Ok-ask.ensures.ok (path_at c.args.session c.args.handle c.args.store.now.handles.handles)
     (asked-at c.args.store.now c.args.session c.args.handle c.in-Ok.ensures.target c.in-Ok.key.path.now c.in-Ok.ensures.path)
 
-pub returns-else-may_not_go-clause-found : goal.returns-else-may_not_go-clause-found
-returns-else-may_not_go-clause-found g c =
+pub returns-clause-found : goal.returns-clause-found
+returns-clause-found g c =
     let none = is-empty _ c.is_empty.result c.is_empty.ensures c.if-not-is_empty.false in
     record {
       walked = c.reach-reached.ensures.reached;

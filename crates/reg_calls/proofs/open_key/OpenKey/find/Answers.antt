@@ -35,8 +35,8 @@ returns-in_default-clause-refused g c =
     (asked-at c.args.store.now c.args.session c.args.handle k.target c.in-Ok.key.path.now k.path) in
     grind (arith, nat_tests, common_steps, chain, bad, good, room, none, asks)
 
-pub returns-in-Some-clause-clear : goal.returns-in-Some-clause-clear
-returns-in-Some-clause-clear g c =
+pub returns-clause-clear : goal.returns-clause-clear
+returns-clause-clear g c =
     let k = c.in-Ok.ensures.key in
     let bad = c.is_bad_open.ensures in
     let good = c.in-Ok.ensures.good in
@@ -45,7 +45,7 @@ returns-in-Some-clause-clear g c =
     let there = (c.in-Some.ensures.found k.target.path k.node).1 in
     grind (arith, nat_tests, common_steps, chain, bad, good, room, there)
 
-pub returns-in-Some-clause-asked : goal.returns-in-Some-clause-asked
-returns-in-Some-clause-asked g c =
+pub returns-clause-asked : goal.returns-clause-asked
+returns-clause-asked g c =
     c.in-Ok-ask.ensures.ok (path_at c.args.session c.args.handle c.args.store.now.handles.handles)
     (asked-at c.args.store.now c.args.session c.args.handle c.in-Ok.ensures.key.target c.in-Ok.key.path.now c.in-Ok.ensures.key.path)
