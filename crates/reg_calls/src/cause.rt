@@ -1,5 +1,5 @@
 //! The cause for which a change would be refused, which takes no memory.
-ghost use Rattle.std.specs.Prelude.{◌≡◌, ◌<◌, option_copied};
+ghost use Rattle.std.specs.Prelude.{◌≡◌, ◌<◌};
 ghost use Rattle.reg_model.specs.declared.limits.TheConstants.{SESSIONS_LIMIT};
 ghost use Rattle.reg_model.specs.Causes.{change_cause};
 ghost use Rattle.reg_model.specs.Callbacks.{change_status};
@@ -8,6 +8,7 @@ ghost use Rattle.reg_callbacks.specs.Lists.{answers_of};
 ghost use Rattle.reg_calls.specs.Internal.Stores.{at, world_of, IsReady};
 
 use crate::asking::Asking;
+use crate::changes::slice_given;
 use crate::close::Close;
 use crate::create_key::CreateKey;
 use crate::delete_key::DeleteKey;
@@ -20,17 +21,7 @@ use crate::set_security::SetSecurity;
 use crate::set_value::SetValue;
 use crate::store::{JournalEnd, Store};
 use reg_callbacks::{Callback, Callbacks, Seen};
-use reg_model::{Bytes, Change};
-
-/// The bytes of a descriptor, if one is given.
-fn given_bytes(descriptor: &Option<Bytes>) -> Option<&[u8]>
-    ensures { option_copied result ≡ descriptor.now }
-{
-    match descriptor {
-        Some(bytes) => Some(bytes.as_slice()),
-        None => None,
-    }
-}
+use reg_model::Change;
 
 impl Store {
     /// The first cause for which a change is refused, if there is one, in the order of the rules, in which the callbacks are asked.
@@ -73,7 +64,7 @@ impl Store {
                 *handle,
                 path.as_slice(),
                 *mask,
-                given_bytes(descriptor),
+                slice_given(descriptor),
             )
             .err(),
             Change::SetValue {
