@@ -97,9 +97,9 @@ pub kept_keys : (lines : List (List ℕ)) (old new : Stand) (text : List ℕ) �
     new.hive.journal ≡ old.hive.journal ++ more → AllByRecursion LeavesKeys more → new.hive.keys ≡ old.hive.keys
 kept_keys lines old new text h more journal all = grown-keys old.hive new.hive (lines-grow lines old new text h) more journal all
 
--- ---- by the numbers of these entries
+-- ---- by the places of these entries in the journal
 
--- each entry from a number on left the keys
+-- each entry from a place on left the keys
 abbrev pub LeaveKeysFrom : ℕ → List Entry → Type 0
 LeaveKeysFrom from journal = (n : ℕ) (e : Entry) → from ≤ n → slice_get journal n ≡ Some e → LeavesKeys e
 

@@ -1,5 +1,5 @@
 -- How one line goes: well, or it fails.
-use Rattle.std.proofs.Common.{◌≡◌, ◌≢◌, ℕ, ◌+◌, ◌<◌, Bool, true, false, List, [], ◌++◌, length, Option, Some, refl, sym, subst, ap, ◌∙◌, arith, min, cond}
+use Rattle.std.proofs.Common.{◌≡◌, ◌≢◌, ℕ, ◌+◌, ◌<◌, Bool, true, false, List, [], ◌++◌, length, Option, Some, refl, sym, subst, ap, ◌∙◌, arith, min, cond, ◌⊎◌, inl, inr}
 use Rattle.std.specs.Prelude.{◌==◌}
 use Rattle.std.proofs.lemmas.Bool.Decides.{nat_tests}
 use Rattle.reg_model.specs.Callbacks.{change_status}
@@ -7,8 +7,8 @@ use Rattle.reg_model.specs.declared.call.Call.TheVariants.{Change, Query}
 use Rattle.reg_model.specs.declared.call.Change.{Change as AnyChange}
 use Rattle.reg_model.specs.declared.reply.ChangeReply.{ChangeReply}
 use Rattle.reg_model.specs.declared.step.Outcome.TheVariants.{Changed}
-use Rattle.reg_calls.specs.Views.{View, state, IsApplied}
-use Rattle.reg_calls.proofs.AcceptedChanges.{accepted, refused}
+use Rattle.reg_calls.specs.Views.{View, state, IsAccepted, IsApplied, IsAppliedBy}
+use Rattle.reg_calls.proofs.AcceptedChanges.{accepted, either, refused}
 use Rattle.reg_script.specs.declared.failed.Went.{Went}
 use Rattle.reg_script.specs.declared.failed.Went.TheVariants.{Well, Wrong}
 use Rattle.reg_script.specs.declared.failed.FailedLine.{FailedLine}
@@ -21,6 +21,14 @@ use Rattle.reg_script.specs.Internal.Progress.{Position, HasEntry, IsAnswered, w
 
 -- ---- a change
 
+base_kept : (cause : Option ℕ) (old new : View) (session moment : ℕ) (change : AnyChange) (reply : ChangeReply) →
+    IsAppliedBy cause old new session moment change reply → new.base ≡ old.base
+base_kept cause old new session moment change reply applied = by (either cause old new session moment change reply applied)
+  where
+    by : (new ≡ old) ⊎ IsAccepted old new session moment change reply → new.base ≡ old.base
+    by (inl same) = ap (λ (v : View). v.base) same
+    by (inr a) = a.base
+
 pub change_answered : (old new : Stand) (change : AnyChange) (reply : ChangeReply) (went : Went) → went ≡ went_by reply.status →
     IsApplied old.callbacks old.hive new.hive old.session old.moment change reply → new ≡ record old { hive = new.hive } →
     IsAnswered (asks (Change change)) went old (changed_text (asks_watch (Change change)) reply) new
@@ -30,10 +38,10 @@ change_answered old new change reply went is applied kept =
     by : (b : Bool) → (reply.status == 0) ≡ b →
         IsAnswered (asks (Change change)) (cond b Well (Wrong (Some reply.status))) old (changed_text (asks_watch (Change change)) reply) new
     by true e =
-        let zero : reply.status ≡ 0 = grind (arith, nat_tests, e) in (
-          (Changed reply, applied, refl, kept),
-          accepted (change_status old.callbacks (state old.hive).world old.session old.moment change) old.hive new.hive old.session old.moment change reply applied zero,
-        )
+        let zero : reply.status ≡ 0 = grind (arith, nat_tests, e) in
+        let more = accepted (change_status old.callbacks (state old.hive).world old.session old.moment change) old.hive new.hive old.session old.moment change reply applied zero in
+        let base = base_kept _ old.hive new.hive old.session old.moment change reply applied in
+        ((Changed reply, applied, refl, kept), omega (arith, more, base))
     by false e =
         let other : reply.status ≢ 0 = grind (arith, nat_tests, e) in
         let same = refused _ old.hive new.hive old.session old.moment change reply applied other in (

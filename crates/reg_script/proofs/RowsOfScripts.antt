@@ -20,19 +20,19 @@ use Rattle.reg_model.specs.declared.reply.Entry.{Entry}
 use Rattle.reg_model.proofs.RowsReplies.{root_put}
 use Rattle.reg_tree.specs.TreeKeys.{Keys, made_root}
 use Rattle.reg_model.specs.declared.step.Outcome.TheVariants.{Changed, Answered}
-use Rattle.reg_calls.specs.Views.{View, IsHive, state, entry_of}
+use Rattle.reg_calls.specs.Views.{View, IsHive, next_of, state, entry_of}
 use Rattle.reg_script.specs.Lines.{Stand, begins, Lines, fresh_descriptor}
 use Rattle.reg_script.proofs.RowsOfLines.{on_lines}
 
 true-false : true ≡ false → ⊥
 true-false e = cc
 
--- a hive with no entries, and with the first one
+-- a hive with no entries and no notices, and with the first entry
 abbrev begun : View → View
-begun hive = record hive { journal = [] }
+begun hive = record hive { base = 0; before = []; journal = [] }
 
 abbrev opened : View → View
-opened hive = record hive { journal = entry_of (begun hive) 0 0 (OpenRoot 1) ∷ [] }
+opened hive = record (begun hive) { journal = entry_of (begun hive) 0 0 (OpenRoot 1) ∷ [] }
 
 abbrev there : View → Stand
 there hive = record { hive = opened hive; callbacks = no_callbacks; moment = 0; session = 0 }
@@ -52,7 +52,7 @@ refused_script hive is =
         codes "5\n87\n6\nbad\n",
         (
           Changed (record { status = 0; number = Some 0; handle = Some 0; disposition = None }),
-          inl (record { says = refl; journal = refl; origin = refl; taken = refl; kept_keys = λ e. refl; kept = omega arith; grows = omega arith; hive = is }),
+          inl (record { says = refl; journal = refl; origin = refl; base = refl; before = refl; taken = refl; kept_keys = λ e. refl; kept = omega arith; grows = omega arith; hive = is }),
           refl,
           refl,
         ),
@@ -141,7 +141,7 @@ refused_securities hive is =
         codes "5\n87\n5\n87\nbad\nbad\n",
         (
           Changed (record { status = 0; number = Some 0; handle = Some 0; disposition = None }),
-          inl (record { says = refl; journal = refl; origin = refl; taken = refl; kept_keys = λ e. refl; kept = omega arith; grows = omega arith; hive = is }),
+          inl (record { says = refl; journal = refl; origin = refl; base = refl; before = refl; taken = refl; kept_keys = λ e. refl; kept = omega arith; grows = omega arith; hive = is }),
           refl,
           refl,
         ),
@@ -181,7 +181,7 @@ refused_securities hive is =
 
 -- a fresh hive's root, and the hive with no entries, with a handle that may read and set descriptors, and with a descriptor that was set
 abbrev fresh : View → View
-fresh hive = record hive { origin = insert empty [] (made_root (codes "ROOT") fresh_descriptor 0); journal = [] }
+fresh hive = record hive { origin = insert empty [] (made_root (codes "ROOT") fresh_descriptor 0); base = 0; before = []; journal = [] }
 
 abbrev allowed : View → View
 allowed hive = record (fresh hive) { journal = entry_of (fresh hive) 0 0 (OpenRoot 393216) ∷ [] }
@@ -212,7 +212,7 @@ set_and_told hive keys is_allowed is_described same =
         codes "122 size 20\n0\n122 size 2\n0 x0102\n",
         (
           Changed (record { status = 0; number = Some 0; handle = Some 0; disposition = None }),
-          inl (record { says = refl; journal = refl; origin = refl; taken = refl; kept_keys = λ e. refl; kept = omega arith; grows = omega arith; hive = is_allowed }),
+          inl (record { says = refl; journal = refl; origin = refl; base = refl; before = refl; taken = refl; kept_keys = λ e. refl; kept = omega arith; grows = omega arith; hive = is_allowed }),
           refl,
           refl,
         ),
@@ -231,6 +231,8 @@ set_and_told hive keys is_allowed is_described same =
                 says = refl;
                 journal = refl;
                 origin = refl;
+                base = refl;
+                before = refl;
                 taken = refl;
                 kept_keys = λ e. absurd (true-false e);
                 kept = omega (arith, same);
@@ -279,7 +281,7 @@ refused_trees hive is =
         codes "6\n6\nbad\nbad\nbad\n",
         (
           Changed (record { status = 0; number = Some 0; handle = Some 0; disposition = None }),
-          inl (record { says = refl; journal = refl; origin = refl; taken = refl; kept_keys = λ e. refl; kept = omega arith; grows = omega arith; hive = is }),
+          inl (record { says = refl; journal = refl; origin = refl; base = refl; before = refl; taken = refl; kept_keys = λ e. refl; kept = omega arith; grows = omega arith; hive = is }),
           refl,
           refl,
         ),
@@ -347,12 +349,14 @@ trees_deleted hive left root free-tree free-contents is_left is_root same-left s
         codes "0\n",
         codes "0\n",
         (
-          Changed (record { status = 0; number = Some (length hive.journal); handle = None; disposition = None }),
+          Changed (record { status = 0; number = Some (next_of hive); handle = None; disposition = None }),
           rw free-tree
               (inl (record {
                 says = refl;
                 journal = refl;
                 origin = refl;
+                base = refl;
+                before = refl;
                 taken = refl;
                 kept_keys = λ e. absurd (true-false e);
                 kept = omega (arith, same-left);
@@ -368,12 +372,14 @@ trees_deleted hive left root free-tree free-contents is_left is_root same-left s
           codes "0\n",
           [],
           (
-            Changed (record { status = 0; number = Some (length (past_tree hive left).journal); handle = None; disposition = None }),
+            Changed (record { status = 0; number = Some (next_of (past_tree hive left)); handle = None; disposition = None }),
             rw free-contents
                 (inl (record {
                   says = refl;
                   journal = refl;
                   origin = refl;
+                  base = refl;
+                  before = refl;
                   taken = refl;
                   kept_keys = λ e. absurd (true-false e);
                   kept = omega (arith, same-root);
@@ -407,7 +413,7 @@ watched = changed (OpenRoot 18) 0 (Some 0) ∷ changed (Notify 0 4 false) 1 None
 
 -- a hive with these entries, of which session 0 took so many notices
 abbrev told_of : View → ℕ → View
-told_of hive taken = record hive { journal = watched; watches = record hive.watches { taken = taken ∷ [] } }
+told_of hive taken = record hive { base = 0; before = []; journal = watched; watches = record hive.watches { taken = taken ∷ [] } }
 
 abbrev set_to : View → ℕ → ℕ → Stand
 set_to hive taken session = record { hive = told_of hive taken; callbacks = no_callbacks; moment = 0; session = session }
@@ -451,6 +457,8 @@ notice_taken hive is_first is =
               next = refl;
               taken = λ x. no_more x 1 (get_or (0 ∷ []) x 0);
               origin = refl;
+              base = refl;
+              before = refl;
               journal = refl;
               keys = refl;
               handles = refl;
@@ -476,6 +484,8 @@ notice_taken hive is_first is =
                   next = refl;
                   taken = one_more;
                   origin = refl;
+                  base = refl;
+                  before = refl;
                   journal = refl;
                   keys = refl;
                   handles = refl;
@@ -496,6 +506,8 @@ notice_taken hive is_first is =
                     next = refl;
                     taken = λ x. no_more x 0 (get_or (1 ∷ []) x 0);
                     origin = refl;
+                    base = refl;
+                    before = refl;
                     journal = refl;
                     keys = refl;
                     handles = refl;
@@ -511,6 +523,101 @@ notice_taken hive is_first is =
               ),
               refl,
             ),
+            refl,
+          ),
+          refl,
+        ),
+        refl,
+      ),
+      refl,
+    )
+
+-- a hive whose journal begins with the number 7, and which told session 0 a notice before that; session 0 took so many
+abbrev continued : View → ℕ → View
+continued hive taken = record hive {
+  base = 7;
+  before = (record { watch = 3; by = 5; reason = Matched } ∷ []) ∷ [];
+  journal = [];
+  watches = record hive.watches { taken = taken ∷ [] };
+}
+
+abbrev opened_again : View → View
+opened_again hive = record (continued hive 1) { journal = entry_of (continued hive 1) 0 0 (OpenRoot 1) ∷ [] }
+
+-- the notice from before is handed out, and once; the next entry and its handle have the number 7
+numbered_on : (hive : View) → IsHive (continued hive 1) → IsHive (opened_again hive) →
+    Lines no_callbacks (continued hive 0) (codes "notice\nnotice\nroot 1\n") (codes "notice 3 5 matched\nnotice none\n0 handle 7\n") (opened_again hive)
+unfolding on_lines digits after early_cause late_cause reply_to
+numbered_on hive is_taken is_opened =
+    let there = unset (continued hive 1) in
+    let last = unset (opened_again hive) in (
+      last,
+      (
+        there,
+        codes "notice 3 5 matched\n",
+        codes "notice none\n0 handle 7\n",
+        (
+          Some (record { watch = 3; by = 5; reason = Matched }),
+          record {
+            next = refl;
+            taken = one_more;
+            origin = refl;
+            base = refl;
+            before = refl;
+            journal = refl;
+            keys = refl;
+            handles = refl;
+            pending = refl;
+            told = refl;
+            hive = is_taken;
+          },
+          refl,
+          refl,
+        ),
+        (
+          there,
+          codes "notice none\n",
+          codes "0 handle 7\n",
+          (
+            None,
+            record {
+              next = refl;
+              taken = λ x. no_more x 0 (get_or (1 ∷ []) x 0);
+              origin = refl;
+              base = refl;
+              before = refl;
+              journal = refl;
+              keys = refl;
+              handles = refl;
+              pending = refl;
+              told = refl;
+              hive = is_taken;
+            },
+            refl,
+            refl,
+          ),
+          (
+            last,
+            codes "0 handle 7\n",
+            [],
+            (
+              Changed (record { status = 0; number = Some 7; handle = Some 7; disposition = None }),
+              inl (record {
+                says = refl;
+                journal = refl;
+                origin = refl;
+                base = refl;
+                before = refl;
+                taken = refl;
+                kept_keys = λ e. refl;
+                kept = omega arith;
+                grows = omega arith;
+                hive = is_opened;
+              }),
+              refl,
+              refl,
+            ),
+            (refl, refl),
             refl,
           ),
           refl,

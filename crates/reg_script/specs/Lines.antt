@@ -72,11 +72,13 @@ LinesTo callbacks old script text new moment = LinesFrom 0 callbacks old script 
 abbrev pub fresh_descriptor : List ℕ
 fresh_descriptor = 1 ∷ 0 ∷ 4 ∷ 128 ∷ replicate 16 0
 
--- a script's hive at first: a root, no entries, one bin
+-- a script's hive at first: a root, no entries, also none before its journal, no notices, one bin
 pub record IsFresh (hive : View) : Type 0 where
   pub is_hive : IsHive hive
   pub bin : length hive.keys.bins.bytes ≡ 4096
   pub origin : hive.origin ≡ insert empty [] (made_root (codes "ROOT") fresh_descriptor 0)
+  pub base : hive.base ≡ 0
+  pub before : hive.before ≡ []
   pub journal : hive.journal ≡ []
 
 -- a script may write this text, on a fresh hive without callbacks

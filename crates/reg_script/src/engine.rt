@@ -3,7 +3,8 @@
 ghost use Rattle.std.specs.Prelude.{◌≡◌, ◌<◌, ◌≤◌, ℕ, List, ◌∷◌, ◌++◌, [], IfOk, OnOk, length, string_bytes, ◌+◌, OnErr, IfErr, Option, true};
 ghost use Rattle.std.specs.List.{position_or_len};
 ghost use Rattle.std.specs.Io.KnownBytes.{IsAtEnd, Appends, Consumes};
-ghost use Rattle.reg_calls.specs.HiveView.{view_of, callbacks_of, asks_of};
+ghost use Rattle.reg_calls.specs.HiveView.{view_of, noted_of, callbacks_of, asks_of};
+ghost use Rattle.reg_calls.specs.Seats.{AreSeated};
 ghost use Rattle.reg_script.specs.LineWords.{lines_of};
 ghost use Rattle.reg_script.specs.LineMeanings.{asks, takes_notice, meaning_of};
 ghost use Rattle.reg_script.specs.Internal.WordReadings.{said};
@@ -22,7 +23,8 @@ use crate::reply::{
     CHANGE_REPLY_LIMIT, NOTICE_REPLY_LIMIT, is_notify, write_answered, write_changed, write_notice,
 };
 use reg_callbacks::Callback;
-use reg_calls::Hive;
+use reg_calls::{Hive, apply_by, read_by};
+use reg_journal::Share;
 use reg_model::{Call, Change, Query};
 use reg_text::{Output, OutputFault};
 use std::alloc::{AllocError, Global};
@@ -150,8 +152,12 @@ impl Script {
     fn take_feed<W: Write, C: Callback>(
         &mut self,
         hive: &mut Hive<C>,
+        shares: &mut Vec<Share>,
         writer: &mut W,
     ) -> Result<(), StrictFault>
+        requires seated { AreSeated (noted_of hive.old) (view_of hive.old).journal shares.old.items }
+        ensures seated { AreSeated (noted_of hive.new) (view_of hive.new).journal shares.new.items }
+        ensures noted { noted_of hive.new ≡ noted_of hive.old }
         ensures callbacks { callbacks_of hive.new ≡ callbacks_of hive.old }
         ensures ok { OnOk result (IsSteady (position_of C.answers self.old hive.old (W.contents writer.old)) →
             Takes (position_of C.answers self.old hive.old (W.contents writer.old)) (10 ∷ [])
@@ -163,7 +169,7 @@ impl Script {
         if self.lines >= LINES_LIMIT {
             return Err(StrictFault::Script(ScriptFault::TooLong));
         }
-        self.end_line(hive)?;
+        self.end_line(hive, shares)?;
         settle(&mut self.output, writer)?;
         Ok(())
     }
@@ -172,9 +178,13 @@ impl Script {
     fn take_bytes<W: Write, C: Callback>(
         &mut self,
         hive: &mut Hive<C>,
+        shares: &mut Vec<Share>,
         writer: &mut W,
         bytes: &[u8],
     ) -> Result<(), StrictFault>
+        requires seated { AreSeated (noted_of hive.old) (view_of hive.old).journal shares.old.items }
+        ensures seated { AreSeated (noted_of hive.new) (view_of hive.new).journal shares.new.items }
+        ensures noted { noted_of hive.new ≡ noted_of hive.old }
         ensures callbacks { callbacks_of hive.new ≡ callbacks_of hive.old }
         ensures ok { OnOk result (IsSteady (position_of C.answers self.old hive.old (W.contents writer.old)) →
             Takes (position_of C.answers self.old hive.old (W.contents writer.old)) bytes.now
@@ -187,7 +197,7 @@ impl Script {
         let mut place = first_feed(rest);
         while place < rest.len() {
             self.take_part(&rest[..place])?;
-            self.take_feed(hive, writer)?;
+            self.take_feed(hive, shares, writer)?;
             rest = &rest[place + 1..];
             place = first_feed(rest);
         }
@@ -196,7 +206,14 @@ impl Script {
     }
 
     /// Answers the line that has ended, and counts it. Where the script stops at a line that failed, such a one is the fault.
-    fn end_line<C: Callback>(&mut self, hive: &mut Hive<C>) -> Result<(), StrictFault>
+    fn end_line<C: Callback>(
+        &mut self,
+        hive: &mut Hive<C>,
+        shares: &mut Vec<Share>,
+    ) -> Result<(), StrictFault>
+        requires seated { AreSeated (noted_of hive.old) (view_of hive.old).journal shares.old.items }
+        ensures seated { AreSeated (noted_of hive.new) (view_of hive.new).journal shares.new.items }
+        ensures noted { noted_of hive.new ≡ noted_of hive.old }
         ensures callbacks { callbacks_of hive.new ≡ callbacks_of hive.old }
         ensures ok { OnOk result ((sent : Option (List ℕ)) →
             EndsLine (position_of C.answers self.old hive.old sent) (position_of C.answers self.new hive.new sent)) }
@@ -204,7 +221,7 @@ impl Script {
             IsLineFault (position_of C.answers self.old hive.old sent) fault (position_of C.answers self.new hive.new sent)) }
     {
         let line = parse(self.alloc, self.line.as_slice())?;
-        let went = self.answer(hive, line)?;
+        let went = self.answer(hive, shares, line)?;
         self.lines = self.lines.saturating_add(1);
         match went {
             Went::Well => {
@@ -228,7 +245,15 @@ impl Script {
     }
 
     /// Does what a line says, gathers its reply, and tells how it went. For want of memory nothing is done.
-    fn answer<C: Callback>(&mut self, hive: &mut Hive<C>, line: Line) -> Result<Went, AllocError>
+    fn answer<C: Callback>(
+        &mut self,
+        hive: &mut Hive<C>,
+        shares: &mut Vec<Share>,
+        line: Line,
+    ) -> Result<Went, AllocError>
+        requires seated { AreSeated (noted_of hive.old) (view_of hive.old).journal shares.old.items }
+        ensures seated { AreSeated (noted_of hive.new) (view_of hive.new).journal shares.new.items }
+        ensures noted { noted_of hive.new ≡ noted_of hive.old }
         ensures callbacks { callbacks_of hive.new ≡ callbacks_of hive.old }
         ensures said { IfOk result (λ went. Adds C.answers (IsAnswered (said line) went) self.old hive.old self.new hive.new) }
         ensures kept { KeepsLine self.old self.new }
@@ -248,7 +273,7 @@ impl Script {
                 self.output.gathered.push_str("bad\n")?;
                 Ok(Went::Wrong { status: None })
             }
-            Line::Call(call) => self.call(hive, call),
+            Line::Call(call) => self.call(hive, shares, call),
             Line::Notice => {
                 self.notice(hive)?;
                 Ok(Went::Well)
@@ -256,16 +281,24 @@ impl Script {
         }
     }
 
-    fn call<C: Callback>(&mut self, hive: &mut Hive<C>, call: Call) -> Result<Went, AllocError>
+    fn call<C: Callback>(
+        &mut self,
+        hive: &mut Hive<C>,
+        shares: &mut Vec<Share>,
+        call: Call,
+    ) -> Result<Went, AllocError>
+        requires seated { AreSeated (noted_of hive.old) (view_of hive.old).journal shares.old.items }
+        ensures seated { AreSeated (noted_of hive.new) (view_of hive.new).journal shares.new.items }
+        ensures noted { noted_of hive.new ≡ noted_of hive.old }
         ensures callbacks { callbacks_of hive.new ≡ callbacks_of hive.old }
         ensures said { IfOk result (λ went. Adds C.answers (IsAnswered (asks call) went) self.old hive.old self.new hive.new) }
         ensures kept { KeepsLine self.old self.new }
         ensures err { OnErr result (IsUnchanged self.old (view_of hive.old) self.new (view_of hive.new)) }
     {
         match call {
-            Call::Change(change) => self.change(hive, change),
+            Call::Change(change) => self.change(hive, shares, change),
             Call::Query(query) => {
-                let reply = self.query(hive, &query)?;
+                let reply = self.query(hive, shares, &query)?;
                 self.output.gathered.push_str(reply.as_str())?;
                 Ok(Went::Well)
             }
@@ -276,8 +309,12 @@ impl Script {
     fn change<C: Callback>(
         &mut self,
         hive: &mut Hive<C>,
+        shares: &mut Vec<Share>,
         change: Change,
     ) -> Result<Went, AllocError>
+        requires seated { AreSeated (noted_of hive.old) (view_of hive.old).journal shares.old.items }
+        ensures seated { AreSeated (noted_of hive.new) (view_of hive.new).journal shares.new.items }
+        ensures noted { noted_of hive.new ≡ noted_of hive.old }
         ensures callbacks { callbacks_of hive.new ≡ callbacks_of hive.old }
         ensures said { IfOk result (λ went.
             Adds C.answers (IsAnswered (asks (Call.Change change)) went) self.old hive.old self.new hive.new) }
@@ -286,7 +323,7 @@ impl Script {
     {
         self.output.gathered.reserve(CHANGE_REPLY_LIMIT)?;
         let watches = is_notify(&change);
-        let changed = hive.apply(self.session.number, self.moment, change);
+        let changed = apply_by(hive, shares, self.session.number, self.moment, change);
         write_changed(&mut self.output.gathered, watches, &changed);
         Ok(went_with(changed.status))
     }
@@ -295,6 +332,8 @@ impl Script {
     /// memory.
     fn notice<C: Callback>(&mut self, hive: &mut Hive<C>) -> Result<(), AllocError>
         ensures callbacks { callbacks_of hive.new ≡ callbacks_of hive.old }
+        ensures noted { noted_of hive.new ≡ noted_of hive.old }
+        ensures journal { (view_of hive.new).journal ≡ (view_of hive.old).journal }
         ensures said { OnOk result (Adds C.answers (IsAnswered takes_notice Went.Well) self.old hive.old self.new hive.new) }
         ensures kept { KeepsLine self.old self.new }
         ensures err { OnErr result (IsUnchanged self.old (view_of hive.old) self.new (view_of hive.new)) }
@@ -306,18 +345,31 @@ impl Script {
     }
 
     /// The reply to a question. It is whole before it joins the output, so that want of memory leaves no part of it there.
-    fn query<C: Callback>(&self, hive: &Hive<C>, query: &Query) -> Result<String, AllocError>
+    fn query<C: Callback>(
+        &self,
+        hive: &Hive<C>,
+        shares: &Vec<Share>,
+        query: &Query,
+    ) -> Result<String, AllocError>
+        requires seated { AreSeated (noted_of hive.now) (view_of hive.now).journal shares.now.items }
         ensures { IfOk result (λ reply. IsSaid (asks (Call.Query query.now)) (stand_of C.answers self.now hive.now)
             (string_bytes reply) (stand_of C.answers self.now hive.now)) }
     {
         let mut reply = String::new(self.alloc);
-        let answer = hive.read(self.session.number, query);
+        let answer = read_by(hive, shares, self.session.number, query);
         write_answered(self.alloc, &mut reply, query, &answer)?;
         Ok(reply)
     }
 
     /// Answers a last line that lacks its LF.
-    fn end<C: Callback>(&mut self, hive: &mut Hive<C>) -> Result<(), StrictFault>
+    fn end<C: Callback>(
+        &mut self,
+        hive: &mut Hive<C>,
+        shares: &mut Vec<Share>,
+    ) -> Result<(), StrictFault>
+        requires seated { AreSeated (noted_of hive.old) (view_of hive.old).journal shares.old.items }
+        ensures seated { AreSeated (noted_of hive.new) (view_of hive.new).journal shares.new.items }
+        ensures noted { noted_of hive.new ≡ noted_of hive.old }
         ensures callbacks { callbacks_of hive.new ≡ callbacks_of hive.old }
         ensures ok { OnOk result (HasNoFeed self.old.line.items → (sent : Option (List ℕ)) →
             EndsLast (position_of C.answers self.old hive.old sent) (position_of C.answers self.new hive.new sent)) }
@@ -328,7 +380,7 @@ impl Script {
         if self.line.is_empty() {
             return Ok(());
         }
-        self.end_line(hive)?;
+        self.end_line(hive, shares)?;
         Ok(())
     }
 
@@ -337,11 +389,15 @@ impl Script {
     fn read_all<R: Read, W: Write, C: Callback>(
         &mut self,
         hive: &mut Hive<C>,
+        shares: &mut Vec<Share>,
         reader: &mut R,
         writer: &mut W,
         chunk: &mut [u8],
     ) -> Result<(), StrictFault>
-        requires { 0 < length chunk.old }
+        requires chunk { 0 < length chunk.old }
+        requires seated { AreSeated (noted_of hive.old) (view_of hive.old).journal shares.old.items }
+        ensures seated { AreSeated (noted_of hive.new) (view_of hive.new).journal shares.new.items }
+        ensures noted { noted_of hive.new ≡ noted_of hive.old }
         ensures callbacks { callbacks_of hive.new ≡ callbacks_of hive.old }
         ensures at_end { OnOk result (IsAtEnd (R.remaining reader.new)) }
         ensures lines { OnOk result (IsSteady (position_of C.answers self.old hive.old (W.contents writer.old)) →
@@ -360,10 +416,10 @@ impl Script {
                 return Err(StrictFault::Script(ScriptFault::Read));
             };
             if count == 0 {
-                self.end(hive)?;
+                self.end(hive, shares)?;
                 return Ok(());
             }
-            self.take_bytes(hive, writer, &chunk[..count])?;
+            self.take_bytes(hive, shares, writer, &chunk[..count])?;
         }
         Err(StrictFault::Script(ScriptFault::TooLong))
     }
@@ -376,8 +432,12 @@ fn run_script<R: Read, W: Write, C: Callback>(
     reader: &mut R,
     writer: &mut W,
     hive: &mut Hive<C>,
+    shares: &mut Vec<Share>,
     is_strict: bool,
 ) -> Result<Ran, StrictFault>
+    requires seated { AreSeated (noted_of hive.old) (view_of hive.old).journal shares.old.items }
+    ensures seated { AreSeated (noted_of hive.new) (view_of hive.new).journal shares.new.items }
+    ensures noted { noted_of hive.new ≡ noted_of hive.old }
     ensures callbacks { callbacks_of hive.new ≡ callbacks_of hive.old }
     ensures at_end { OnOk result (IsAtEnd (R.remaining reader.new)) }
     ensures lines { IfOk result
@@ -402,7 +462,7 @@ fn run_script<R: Read, W: Write, C: Callback>(
         moment,
         session: Session { number: 0 },
     };
-    let ended = script.read_all(hive, reader, writer, chunk.as_mut_slice());
+    let ended = script.read_all(hive, shares, reader, writer, chunk.as_mut_slice());
     match close(&mut script.output, writer, ended) {
         Ok(()) => Ok(Ran {
             moment: script.moment,
@@ -417,12 +477,19 @@ fn run_script<R: Read, W: Write, C: Callback>(
 /// ended it early ([`ScriptFault`]); the replies to the lines before it stand, after `Write` just as many of their bytes as the writer
 /// took. Only lines that ended were answered: by an LF, or by the reader's end; after `Read` all of these. The hive is as those lines left
 /// it: no change is made and no notice taken whose reply lacks memory.
+///
+/// `shares` are the shares of the hive's 64 sessions in their order, each with its row's count, and still are when it returns (clause
+/// `seated`). That they are so is for the caller to see to; no line's call is then answered 1009.
 pub fn run<R: Read, W: Write, C: Callback>(
     alloc: Global,
     reader: &mut R,
     writer: &mut W,
     hive: &mut Hive<C>,
+    shares: &mut Vec<Share>,
 ) -> Result<(), ScriptFault>
+    requires seated { AreSeated (noted_of hive.old) (view_of hive.old).journal shares.old.items }
+    ensures seated { AreSeated (noted_of hive.new) (view_of hive.new).journal shares.new.items }
+    ensures noted { noted_of hive.new ≡ noted_of hive.old }
     ensures callbacks { callbacks_of hive.new ≡ callbacks_of hive.old }
     ensures at_end { OnOk result (IsAtEnd (R.remaining reader.new)) }
     ensures lines { OnOk result ((script : List ℕ) × (text : List ℕ) × Consumes (R.remaining reader.old) (R.remaining reader.new) script
@@ -431,7 +498,7 @@ pub fn run<R: Read, W: Write, C: Callback>(
     ensures stops { IfErr result (λ fault. Stops fault (R.remaining reader.old) (R.remaining reader.new)
         (asks_of C.answers hive.old) (view_of hive.old) (view_of hive.new) (W.contents writer.old) (W.contents writer.new)) }
 {
-    match run_to(alloc, reader, writer, hive) {
+    match run_to(alloc, reader, writer, hive, shares) {
         Ok(_) => Ok(()),
         Err(fault) => Err(fault),
     }
@@ -443,7 +510,11 @@ pub fn run_to<R: Read, W: Write, C: Callback>(
     reader: &mut R,
     writer: &mut W,
     hive: &mut Hive<C>,
+    shares: &mut Vec<Share>,
 ) -> Result<u64, ScriptFault>
+    requires seated { AreSeated (noted_of hive.old) (view_of hive.old).journal shares.old.items }
+    ensures seated { AreSeated (noted_of hive.new) (view_of hive.new).journal shares.new.items }
+    ensures noted { noted_of hive.new ≡ noted_of hive.old }
     ensures callbacks { callbacks_of hive.new ≡ callbacks_of hive.old }
     ensures at_end { OnOk result (IsAtEnd (R.remaining reader.new)) }
     ensures lines { IfOk result
@@ -453,7 +524,7 @@ pub fn run_to<R: Read, W: Write, C: Callback>(
     ensures stops { IfErr result (λ fault. Stops fault (R.remaining reader.old) (R.remaining reader.new)
         (asks_of C.answers hive.old) (view_of hive.old) (view_of hive.new) (W.contents writer.old) (W.contents writer.new)) }
 {
-    match run_counted(alloc, 0, reader, writer, hive) {
+    match run_counted(alloc, 0, reader, writer, hive, shares) {
         Ok(ran) => Ok(ran.moment),
         Err(fault) => Err(fault),
     }
@@ -467,7 +538,11 @@ pub fn run_counted<R: Read, W: Write, C: Callback>(
     reader: &mut R,
     writer: &mut W,
     hive: &mut Hive<C>,
+    shares: &mut Vec<Share>,
 ) -> Result<Ran, ScriptFault>
+    requires seated { AreSeated (noted_of hive.old) (view_of hive.old).journal shares.old.items }
+    ensures seated { AreSeated (noted_of hive.new) (view_of hive.new).journal shares.new.items }
+    ensures noted { noted_of hive.new ≡ noted_of hive.old }
     ensures callbacks { callbacks_of hive.new ≡ callbacks_of hive.old }
     ensures at_end { OnOk result (IsAtEnd (R.remaining reader.new)) }
     ensures lines { IfOk result
@@ -478,7 +553,7 @@ pub fn run_counted<R: Read, W: Write, C: Callback>(
     ensures stops { IfErr result (λ fault. StopsFrom moment fault (R.remaining reader.old) (R.remaining reader.new)
         (asks_of C.answers hive.old) (view_of hive.old) (view_of hive.new) (W.contents writer.old) (W.contents writer.new)) }
 {
-    match run_script(alloc, moment, reader, writer, hive, false) {
+    match run_script(alloc, moment, reader, writer, hive, shares, false) {
         Ok(ran) => Ok(ran),
         Err(StrictFault::Script(fault)) => Err(fault),
         Err(StrictFault::Line(_)) => unreachable!(),
@@ -494,7 +569,11 @@ pub fn run_strictly<R: Read, W: Write, C: Callback>(
     reader: &mut R,
     writer: &mut W,
     hive: &mut Hive<C>,
+    shares: &mut Vec<Share>,
 ) -> Result<u64, StrictFault>
+    requires seated { AreSeated (noted_of hive.old) (view_of hive.old).journal shares.old.items }
+    ensures seated { AreSeated (noted_of hive.new) (view_of hive.new).journal shares.new.items }
+    ensures noted { noted_of hive.new ≡ noted_of hive.old }
     ensures callbacks { callbacks_of hive.new ≡ callbacks_of hive.old }
     ensures at_end { OnOk result (IsAtEnd (R.remaining reader.new)) }
     ensures lines { IfOk result
@@ -505,7 +584,7 @@ pub fn run_strictly<R: Read, W: Write, C: Callback>(
     ensures stops { IfErr result (λ fault. StopsStrictly moment fault (R.remaining reader.old) (R.remaining reader.new)
         (asks_of C.answers hive.old) (view_of hive.old) (view_of hive.new) (W.contents writer.old) (W.contents writer.new)) }
 {
-    match run_script(alloc, moment, reader, writer, hive, true) {
+    match run_script(alloc, moment, reader, writer, hive, shares, true) {
         Ok(ran) => Ok(ran.moment),
         Err(fault) => Err(fault),
     }

@@ -2,7 +2,7 @@
 //!
 //! Its one contract: [`run`] without a fault has written just the replies of the script's lines, byte for byte; after a fault those
 //! of the lines before it, or just as many bytes of them as the writer took, and the hive is as these lines left it. It stands on
-//! reg_calls, whose hive it works on, and on reg_model.
+//! reg_calls, whose hive it works on, on reg_journal, whose shares it calls by, and on reg_model.
 //!
 //! A line fails where it has no form of a line, or asks for a change that isn't made. [`run_counted`] tells how many did, and
 //! [`run_strictly`] stops at the first.

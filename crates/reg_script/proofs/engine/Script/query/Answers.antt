@@ -5,8 +5,8 @@ use Rattle.reg_script.proofs.engine.Script.query.Goals as goal
 
 pub returns : goal.returns
 returns g c = (
-  Answered c.read-answer.result,
-  (c.read-answer.ensures.at, c.read-answer.ensures.body, refl),
+  Answered c.read_by-answer.result,
+  (c.read_by-answer.ensures.at, c.read_by-answer.ensures.body, refl),
   from_empty _ _ _ c.in_ok-write_answered.ensures c.new-reply.ensures.bytes,
   refl,
 )

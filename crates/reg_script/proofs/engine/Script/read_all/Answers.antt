@@ -8,7 +8,7 @@ use Rattle.reg_script.proofs.ScriptHalts.{halts_at, halts_last, halts_passing, n
 use Rattle.reg_script.proofs.engine.Script.read_all.Goals as goal
 
 pub loop-read-init : goal.loop-read-init
-loop-read-init g c = record { callbacks = refl; taken = λ steady. ([], consumes_none _, takes_none _ steady, omega arith) }
+loop-read-init g c = record { seated = c.requires.seated; noted = refl; callbacks = refl; taken = λ steady. ([], consumes_none _, takes_none _ steady, omega arith) }
 
 pub returns-in_err-pass_on-clause-err : goal.returns-in_err-pass_on-clause-err
 returns-in_err-pass_on-clause-err g c =
@@ -62,6 +62,8 @@ returns-in_err-take_bytes-clause-err g c =
 pub loop-read-preserved : goal.loop-read-preserved
 loop-read-preserved g c =
     record {
+      seated = c.take_bytes.ensures.seated;
+      noted = c.take_bytes.ensures.noted ∙ c.loop-read.invariant.noted;
       callbacks = c.take_bytes.ensures.callbacks ∙ c.loop-read.invariant.callbacks;
       taken = λ steady.
           let h = c.loop-read.invariant.taken steady in

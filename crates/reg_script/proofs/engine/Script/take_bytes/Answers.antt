@@ -6,7 +6,13 @@ use Rattle.reg_script.proofs.engine.Script.take_bytes.Goals as goal
 
 pub loop-place-init : goal.loop-place-init
 loop-place-init g c =
-    record { callbacks = refl; place = c.first_feed-place.ensures; taken = λ steady. record { front = []; splits = refl; takes = takes_none _ steady } }
+    record {
+      seated = c.requires.seated;
+      noted = refl;
+      callbacks = refl;
+      place = c.first_feed-place.ensures;
+      taken = λ steady. record { front = []; splits = refl; takes = takes_none _ steady };
+    }
 
 pub returns-in_err-take_part-clause-err : goal.returns-in_err-take_part-clause-err
 returns-in_err-take_part-clause-err g c =
@@ -32,6 +38,8 @@ returns-in_err-take_feed-clause-err g c =
 
 pub loop-place-preserved : goal.loop-place-preserved
 loop-place-preserved g c = record {
+  seated = c.take_feed.ensures.seated;
+  noted = c.take_feed.ensures.noted ∙ c.loop-place.invariant.noted;
   callbacks = c.in_ok-take_feed.ensures.callbacks ∙ c.loop-place.invariant.callbacks;
   place = c.first_feed-place-in-loop-place.ensures;
   taken = λ steady.
