@@ -2,11 +2,11 @@
 #![tactic(auto)]
 
 use anyhow::{Result, bail};
-use reg_calls::Hive;
+use reg_calls::{Hive, SeatedHive};
 use reg_model::{Bytes, Change, Query};
 use std::alloc::Global;
 
-fn set_and_ask(rt: &impl Print, alloc: Global, hive: &mut Hive) -> Result<()> {
+fn set_and_ask(rt: &impl Print, alloc: Global, hive: &mut SeatedHive) -> Result<()> {
     let opened = hive.apply(0, 0, Change::OpenRoot { mask: 983_103 });
     let Some(handle) = opened.handle else {
         bail!("the root was not opened");
@@ -24,6 +24,6 @@ fn set_and_ask(rt: &impl Print, alloc: Global, hive: &mut Hive) -> Result<()> {
 
 fn main(rt: HostRuntime) -> Result<()> {
     let alloc = rt.alloc();
-    let mut hive = Hive::new(alloc, b"ROOT", &[1], 0)?;
+    let mut hive = SeatedHive::new(Hive::new(alloc, b"ROOT", &[1], 0)?)?;
     set_and_ask(&rt, alloc, &mut hive)
 }
