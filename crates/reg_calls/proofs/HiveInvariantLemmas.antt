@@ -270,18 +270,30 @@ kept-unchanged {origin = origin} {base = base} {before = before} {es = es} kept 
     let few = kept.room_kept in
     record { hive = subst IsHive (sym (view-unchanged origin base before es u)) kept.hive; room_kept = omega (arith, handles, few, more); known = u.known }
 
+-- the same by a journal that is the same
+pub kept-at : {origin : Tree} {base : ℕ} {before : List (List Notice)} {es : List Entry} {store : Store} {room : ℕ} (base' : ℕ) (es' : List Entry) → base' ≡ base → es' ≡ es →
+    HiveInvariant origin base before es store room → HiveInvariant origin base' before es' store room
+kept-at {origin = origin} {before = before} {es = es} {store = store} {room = room} base' es' same_base same kept =
+    subst (λ (x : List Entry). HiveInvariant origin base' before x store room) (sym same)
+    (subst (λ (b : ℕ). HiveInvariant origin b before es store room) (sym same_base) kept)
+
+pub view-at : (origin : Tree) (before : List (List Notice)) (store : Store) {base base' : ℕ} {es es' : List Entry} → base' ≡ base → es' ≡ es →
+    view_with origin base' before es' store ≡ view_with origin base before es store
+view-at origin before store same_base same = λ i. view_with origin (same_base i) before (same i) store
+
 -- room is kept for more
-pub kept-roomier : {origin : Tree} {base : ℕ} {before : List (List Notice)} {es : List Entry} {store : Store} {room : ℕ} → HiveInvariant origin base before es store room → (es' : List Entry) (room' : ℕ) → es' ≡ es → room ≤ room' →
-    HiveInvariant origin base before es' store room'
-kept-roomier {origin = origin} {base = base} {before = before} {store = store} kept es' room' same more =
+pub kept-roomier : {origin : Tree} {base : ℕ} {before : List (List Notice)} {es : List Entry} {store : Store} {room : ℕ} → HiveInvariant origin base before es store room →
+    (base' : ℕ) (es' : List Entry) (room' : ℕ) → base' ≡ base → es' ≡ es → room ≤ room' → HiveInvariant origin base' before es' store room'
+kept-roomier kept base' es' room' same_base same more =
     let few = kept.room_kept in
-    subst (λ (x : List Entry). HiveInvariant origin base before x store room') (sym same) (record { hive = kept.hive; room_kept = omega (arith, few, more); known = kept.known })
+    kept-at base' es' same_base same (record { hive = kept.hive; room_kept = omega (arith, few, more); known = kept.known })
 
 -- the same as the call names its steps
-pub kept-unmade : {origin : Tree} {base : ℕ} {before : List (List Notice)} {es : List Entry} {store : Store} {room : ℕ} → HiveInvariant origin base before es store room → (new : Store) (es' : List Entry) (room' : ℕ) →
-    (session moment : ℕ) (n : JournalEnd) (change : Change) (lack : Lack) → IsMade store new session moment n change (Err lack) → es' ≡ es → room ≤ room' → HiveInvariant origin base before es' new room'
-kept-unmade {origin = origin} {base = base} {before = before} kept new es' room' session moment n change lack made same more =
-    subst (λ (x : List Entry). HiveInvariant origin base before x new room') (sym same) (kept-unchanged kept new room' (unmade _ new session moment n change lack made) more)
+pub kept-unmade : {origin : Tree} {base : ℕ} {before : List (List Notice)} {es : List Entry} {store : Store} {room : ℕ} → HiveInvariant origin base before es store room → (new : Store) (base' : ℕ) (es' : List Entry) (room' : ℕ) →
+    (session moment : ℕ) (n : JournalEnd) (change : Change) (lack : Lack) → IsMade store new session moment n change (Err lack) → base' ≡ base → es' ≡ es → room ≤ room' →
+    HiveInvariant origin base' before es' new room'
+kept-unmade kept new base' es' room' session moment n change lack made same_base same more =
+    kept-at base' es' same_base same (kept-unchanged kept new room' (unmade _ new session moment n change lack made) more)
 
 -- ---- what a change is answered
 

@@ -124,6 +124,12 @@ unhit-same n old new q handles pending unhit = λ handle bits number r.
       none = λ p l. subst (HitsNone (event_at bits p)) (sym pending) (u.none p (subst (λ (hs : List Handle). LeadsTo hs handle p) handles l));
     }
 
+-- the journal is the same
+pub unhit-at : (store : Store) (q : Quiet) {base base' : ℕ} {es es' : List Entry} → base' ≡ base → es' ≡ es →
+    AreUnhit (base + length es) store q → AreUnhit (base' + length es') store q
+unhit-at store q {base' = base'} {es = es} same_base same unhit =
+    subst (λ (x : List Entry). AreUnhit (base' + length x) store q) (sym same) (subst (λ (b : ℕ). AreUnhit (b + length es) store q) (sym same_base) unhit)
+
 module _ (n : JournalEnd) (old new : Store) (session moment : ℕ) (change : Change) (told : ChangeReply) (ready : IsReady n old) (done : IsCarriedOut old new session moment n change told) where
   abbrev e : Entry
   e = entry_due (at n old) session moment change

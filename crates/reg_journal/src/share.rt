@@ -23,6 +23,7 @@ impl Model for Share {
 
 impl Share {
     ghost use Rattle.std.specs.Prelude.{◌≡◌, ◌<◌};
+    ghost use Rattle.reg_model.specs.declared.limits.TheConstants.{SESSIONS_LIMIT};
 
     /// Whose seat it is: a number below 64.
     pub fn session(&self) -> u8

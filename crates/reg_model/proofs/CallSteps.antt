@@ -1,5 +1,5 @@
 -- One call of a change: a status other than 0 is a refusal and changes nothing; status 0 is one entry more.
-use Rattle.std.proofs.Common.{◌≡◌, ◌≢◌, ℕ, Bool, true, false, not, ◌==◌, eqb, cond, length, List, [], ◌∷◌, ◌++◌, Option, Some, None, refl, arith, length-append}
+use Rattle.std.proofs.Common.{◌≡◌, ◌≢◌, ℕ, Bool, true, false, not, ◌==◌, eqb, cond, length, List, [], ◌∷◌, ◌++◌, Option, Some, None, refl, arith, length-append, sym, ◌+◌}
 use Rattle.std.proofs.lemmas.Bool.{eqb-false}
 use Rattle.reg_heap.specs.Paths.{Tree}
 use Rattle.reg_model.specs.Worlds.{Handle, Destination, At, Deleted}

@@ -1,5 +1,5 @@
 -- A handle stays until its session closes it, and where its key was deleted it stays so; a number that was closed finds nothing again.
-use Rattle.std.proofs.Common.{◌≡◌, ℕ, is_some, ◌<◌, Bool, true, false, cond, not, eqb, ap, ◌∙◌, List, [], ◌∷◌, ◌++◌, ◌==◌, length, Option, Some, None, refl, sym, subst, arith}
+use Rattle.std.proofs.Common.{◌≡◌, ℕ, is_some, ◌<◌, Bool, true, false, cond, not, eqb, ap, ◌∙◌, List, [], ◌∷◌, ◌++◌, ◌==◌, length, Option, Some, None, refl, sym, subst, arith, ◌+◌}
 use Rattle.std.proofs.Common.{length-append, append_assoc}
 use Rattle.std.specs.List.{AllByRecursion}
 use Rattle.std.specs.Option.{option_map}
