@@ -1,5 +1,3 @@
-use Rattle.std.proofs.Common.{ap, ◌∙◌}
-use Rattle.reg_callbacks.specs.Lists.{rows_of}
 use Rattle.reg_script.proofs.FailedCalls.{if_err}
 use Rattle.reg_edits.proofs.LoadSteps.{opens, met, no_seats}
 use Rattle.reg_edits.proofs.loading.load_seated.Goals as goal
