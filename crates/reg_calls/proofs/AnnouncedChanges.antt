@@ -159,9 +159,9 @@ module _ (n : JournalEnd) (store : Store) (session : ℕ) where
         IfOk r (λ a. (by : ℕ) → ending_in a by ≡ ended NAME p (λ q. false) by) → IfOk r (λ a. IsAnnounced n store session (CreateKey h path mask given) a)
     unfolding few_ending few_events removes closing watch_of
     made-announced some p last_is =
-        one-announced (CreateKey h path mask given) (λ moment. refl) NAME p (λ q. false) (λ moment. by lost some ∙ ended-same NAME last p (λ q. false) (λ q. false) n (sym last_is) refl)
+        one-announced (CreateKey h path mask given) (λ moment. refl) NAME p (λ q. false) (λ moment. by lost some ∙ ended-same NAME last p (λ q. false) (λ q. false) n.next (sym last_is) refl)
       where
-        by : (m : List (List ℕ)) → m ≢ [] → ◌≡◌ {A = Ending} (record { by = n.next; events = few_makings m last; removes = λ q. false; closed = None }) (ended NAME last (λ q. false) n)
+        by : (m : List (List ℕ)) → m ≢ [] → ◌≡◌ {A = Ending} (record { by = n.next; events = few_makings m last; removes = λ q. false; closed = None }) (ended NAME last (λ q. false) n.next)
         by [] some = absurd (some refl)
         by (x ∷ xs) some = refl
 
@@ -190,7 +190,7 @@ module _ (n : JournalEnd) (store : Store) (session : ℕ) where
       IfOk r (λ a. IsAnnounced n store session (DeleteKey h path) a)
   unfolding few_ending few_events removes closing watch_of
   delete-announced h path p key above_is is =
-      one-announced (DeleteKey h path) (λ moment. refl) NAME p (λ q. same_path q key) (λ moment. λ i. ended NAME (sym above_is i) (λ q. same_path q (sym is i)) n)
+      one-announced (DeleteKey h path) (λ moment. refl) NAME p (λ q. same_path q key) (λ moment. λ i. ended NAME (sym above_is i) (λ q. same_path q (sym is i)) n.next)
 
   -- ---- DeleteTree
 
@@ -212,7 +212,7 @@ module _ (n : JournalEnd) (store : Store) (session : ℕ) where
     unfolding few_ending few_events removes closing watch_of tree-ends
     branch-announced some p key above_is is =
         one-announced (DeleteTree h path) (λ moment. refl) NAME p (is_within key)
-        (λ moment. ap tree-ends (has-names path some) ∙ (λ i. ended NAME (sym above_is i) (is_within (sym is i)) n))
+        (λ moment. ap tree-ends (has-names path some) ∙ (λ i. ended NAME (sym above_is i) (is_within (sym is i)) n.next))
 
     -- by the empty path
     pub contents-announced : {E : Type 0} → path ≡ [] → (p : Path) → p ≡ path_from session h hs path → (r : Result Announced E) → IfOk r HasKinds →

@@ -81,7 +81,7 @@ unhit-all bits p n (v ∷ vs) all = (stays-unhit bits p n v all.0, unhit-all bit
 
 agree-unhit : (bits : ℕ) (p : Path) (n : ℕ) (vs : List Watch) → HitsNone (event_at bits p) vs → Agree (ending_in Nothing n) (ended bits p (λ q. false) n) vs
 agree-unhit bits p n [] none = tt
-agree-unhit bits p n (v ∷ vs) none = (nothing-ends n.next v ∙ sym (unhit-stays bits p n v none.0), agree-unhit bits p n vs none.1)
+agree-unhit bits p n (v ∷ vs) none = (nothing-ends n v ∙ sym (unhit-stays bits p n v none.0), agree-unhit bits p n vs none.1)
 
 -- a change that asks for a watch ends none
 asks-alone : (w : World) (e : Entry) (v : Watch) → watch_of w e ≡ Some v → (u : Watch) → stays (few_ending w e) u ≡ true
@@ -209,4 +209,4 @@ module _ (n : JournalEnd) (old new : Store) (session moment : ℕ) (change : Cha
           let some : 0 < event.bits = subst (λ (b : ℕ). 0 < b) f.3 f.1 in
           let done_so = own-unhit event (own some) same in
           subst (λ (t : ℕ). IsUnhit new (n.next + 1) handle bits t) (sym f.4)
-          (subst (λ (b : ℕ). IsUnhit new (n.next + 1) handle b n.next) (sym f.3) (subst (λ (k : ℕ). IsUnhit new (n.next + 1) k event.bits n) (sym f.2) done_so))
+          (subst (λ (b : ℕ). IsUnhit new (n.next + 1) handle b n.next) (sym f.3) (subst (λ (k : ℕ). IsUnhit new (n.next + 1) k event.bits n.next) (sym f.2) done_so))

@@ -1,10 +1,11 @@
 -- The shares of a hive's sessions, after a call and after calls.
-use Rattle.std.proofs.Common.{◌≡◌, ◌+◌, ◌<◌, ◌++◌, ◌∷◌, ◌==◌, [], ℕ, List, Bool, length, if◌then◌else◌, arith, refl, sym, ap, ◌∙◌, subst, length-append, set, slice_index_or, get_or, Option, Some, None, inl, inr, ◌⊎◌}
+use Rattle.std.proofs.Common.{◌≡◌, ◌+◌, ◌<◌, ◌++◌, ◌∷◌, ◌==◌, [], ℕ, List, Bool, length, if◌then◌else◌, arith, refl, sym, ap, ◌∙◌, subst, length-append, set, slice_index_or, get_or, map, replicate, Option, Some, None, inl, inr, ◌⊎◌}
 use Rattle.std.specs.Prelude.{All}
-use Rattle.std.specs.List.{filter}
+use Rattle.std.specs.List.{filter, range_with_len}
 use Rattle.std.proofs.lemmas.List.Elements.{filter-append}
 use Rattle.std.proofs.lemmas.Bool.Decides.{nat_tests}
-use Rattle.std.proofs.lemmas.List.{get_or-set_same, get_or-set_other, length-set}
+use Rattle.std.proofs.lemmas.List.{get_or_default, get_or-replicate, get_or-set_same, get_or-set_other, length-replicate, length-set}
+use Rattle.std.proofs.lemmas.List.FromFn.{get_or-map-range_with_len, length-map-range_with_len}
 use Rattle.std.proofs.lemmas.Bool.{cases_eq}
 use Rattle.reg_model.specs.declared.limits.TheConstants.{SESSIONS_LIMIT}
 use Rattle.reg_model.specs.Callbacks.{Callbacks, change_status}
@@ -31,6 +32,11 @@ current-more noted es e share new c own same more =
       counted = (let k = c.counted in let m = count-more new.session es e in grind (arith, nat_tests));
     }
 
+-- the same by a book and a journal that are the same
+pub current-at : {noted noted' : List ℕ} {es es' : List Entry} {share : Seat} → noted' ≡ noted → es' ≡ es → IsCurrent noted es share → IsCurrent noted' es' share
+current-at {noted = noted} {es' = es'} {share = share} same_noted same c =
+    subst (λ (x : List ℕ). IsCurrent x es' share) (sym same_noted) (subst (λ (x : List Entry). IsCurrent noted x share) (sym same) c)
+
 count-other : (t : ℕ) (es : List Entry) (e : Entry) → (e.session ≡ t → ⊥) → count_of t (es ++ e ∷ []) ≡ count_of t es
 count-other t es e ne = let m = count-more t es e in grind (arith, nat_tests)
 
@@ -49,11 +55,33 @@ counts-other k old new session moment change reply a t ne =
 
 -- ---- shares in their places
 
--- within a list the default doesn't matter
-pub share-is : (shares : List Seat) (place : ℕ) (d : Seat) → place < length shares → slice_index_or shares place d ≡ share_at shares place
-share-is [] place d h = absurd (omega (arith, h))
-share-is (x ∷ xs) zero d h = refl
-share-is (x ∷ xs) (suc place) d h = share-is xs place d (omega (arith, h))
+-- the share at a session's place, as code finds it there
+pub seat-found : (noted : List ℕ) (es : List Entry) (shares : List Seat) (session : ℕ) (found : Seat) → IsSeated noted es shares session →
+    found ≡ slice_index_or shares session found → (found.session ≡ session) × IsCurrent noted es found
+seat-found noted es shares session found was is =
+    subst (λ (x : Seat). (x.session ≡ session) × IsCurrent noted es x) (sym (is ∙ get_or_default shares session found (seat 0 0) was.within)) (was.own, was.current)
+
+-- the shares of sessions that have made no call
+pub fresh-seated : (noted : List ℕ) (es : List Entry) (shares : List Seat) → noted ≡ replicate 64 0 → es ≡ [] →
+    shares ≡ map (λ (s : ℕ). seat s 0) (range_with_len 0 64) → AreSeated noted es shares
+fresh-seated noted es shares rows none are =
+    let long : length shares ≡ 64 = ap (λ (l : List Seat). length l) are ∙ length-map-range_with_len (λ (s : ℕ). seat s 0) 0 64 in
+    record {
+      many = long;
+      all = λ session below.
+          let is : share_at shares session ≡ seat session 0 =
+          ap (λ (l : List Seat). share_at l session) are ∙ get_or-map-range_with_len (λ (s : ℕ). seat s 0) 0 64 session session (seat 0 0) below (omega arith) in
+          record {
+            within = omega (arith, long, below);
+            own = ap (λ (x : Seat). x.session) is;
+            current = subst (λ (x : Seat). IsCurrent noted es x) (sym is)
+                (subst (λ (l : List ℕ). IsCurrent l es (seat session 0)) (sym rows)
+                (subst (λ (l : List Entry). IsCurrent (replicate 64 0) l (seat session 0)) (sym none) (record {
+                  seated = (let l = length-replicate {A = ℕ} 64 0 in omega (arith, l, below));
+                  counted = (let z = get_or-replicate {A = ℕ} 64 session 0 0 below in omega (arith, z));
+                })));
+          };
+    }
 
 -- a call of a session by the share in its place
 pub counted-applied : (k : Callbacks) (noted : List ℕ) (old new : View) (session moment : ℕ) (change : Change) (reply : ChangeReply) (shares : List Seat) (share : Seat) →

@@ -42,7 +42,7 @@ pub enum Admitted<'a> {
 }
 
 /// The bytes of a descriptor, if one is given.
-fn slice_given(descriptor: &Option<Bytes>) -> Option<&[u8]>
+pub fn slice_given(descriptor: &Option<Bytes>) -> Option<&[u8]>
     ensures { option_copied result ≡ descriptor.now }
 {
     match descriptor {

@@ -1,12 +1,13 @@
 //! CreateKey: a handle to a key, which is made where it isn't there, with those above it.
 //!
 //! Win32 registry reference, `RegCreateKeyEx`.
-ghost use Rattle.std.specs.Prelude.{ℕ, List, ◌≡◌, ◌<◌, ◌||◌, option_copied, IfErr, IfOk, None, OnOk};
+ghost use Rattle.std.specs.Prelude.{ℕ, List, ◌≡◌, ◌<◌, ◌||◌, true, Some, None, option_copied, IfErr, IfOk, OnOk};
+ghost use Rattle.reg_names.specs.Names.{is_path};
 ghost use Rattle.reg_model.specs.declared.limits.TheConstants.{SESSIONS_LIMIT};
-ghost use Rattle.reg_model.specs.Causes.{is_bad_open as is_bad_open_of, is_bad_given as is_bad_given_of, asked};
+ghost use Rattle.reg_model.specs.Causes.{is_bad_open as is_bad_open_of, is_bad_given as is_bad_given_of, change_cause, asked};
 ghost use Rattle.reg_calls.specs.Internal.Askings.{status_by};
-ghost use Rattle.reg_calls.specs.Internal.Stores.{IsReady, IsMade};
-ghost use Rattle.reg_calls.specs.Internal.Admissions.{AdmitsCreateKey, IsNotAdmitted};
+ghost use Rattle.reg_calls.specs.Internal.Stores.{at, IsReady, IsOpened, IsMade};
+ghost use Rattle.reg_calls.specs.Internal.Admissions.{IsClear, IsReachFound, AdmitsCreateKey, IsNotAdmitted};
 ghost use Rattle.reg_calls.specs.Internal.Announcements.{IsAnnounced};
 ghost use Rattle.reg_calls.specs.declared.store.JournalEnd.{JournalEnd};
 
@@ -16,7 +17,7 @@ use crate::fronts::without_names;
 use crate::lack::Lack;
 use crate::refusal::Refusal;
 use crate::replies::opened;
-use crate::store::{JournalEnd, Store, is_bad_descriptor, is_bad_open, path_below};
+use crate::store::{JournalEnd, KeyHandle, Store, is_bad_descriptor, is_bad_open, path_below};
 use reg_callbacks::Callback;
 use reg_model::ChangeReply;
 use reg_model::dispositions::{MADE, THERE};
@@ -58,9 +59,46 @@ fn is_bad_create(path: &[u8], mask: u32, descriptor: Option<&[u8]>) -> bool
 impl<'a> CreateKey<'a> {
     ghost use Rattle.reg_model.specs.declared.call.Change.TheVariants.{CreateKey as KeyCreated};
 
-    /// Finds how far the path leads. Refused by 6 and 1018 for the handle, 87 for the path, the mask or a descriptor that isn't of
-    /// 1 to 65,535 bytes, also where no key is missing, 1450 where the session has 16,384 handles, the journal is full, or the missing
-    /// keys would be too many; by a callback; or for want of memory.
+    /// Finds how far the path leads, without memory: the handle's key, and how far it leads from there. Refused by 6 and 1018 for the
+    /// handle, 87 for the path, the mask or a descriptor that isn't of 1 to 65,535 bytes, also where no key is missing, 1450 where the
+    /// session has 16,384 handles, the journal is full, or the missing keys would be too many; and by a callback.
+    pub fn find<'s, C: Callback>(
+        store: &'s Store,
+        asking: &Asking<'_, C>,
+        end: JournalEnd,
+        session: u8,
+        handle: u64,
+        path: &'a [u8],
+        mask: u32,
+        descriptor: Option<&[u8]>,
+    ) -> Result<(KeyHandle<'s>, Reached<'a>), u32>
+        requires session { session < SESSIONS_LIMIT }
+        requires ready { IsReady end store.now }
+        ensures refused { IfErr result (λ status. change_cause (at end store.now) session (KeyCreated handle path.now mask (option_copied descriptor.entry))
+            (status_by C.answers asking.now store.now session handle) ≡ Some status) }
+        ensures clear { OnOk result (IsClear end store.now session (KeyCreated handle path.now mask (option_copied descriptor.entry))) }
+        ensures asked { OnOk result (asked (status_by C.answers asking.now store.now session handle) ≡ None) }
+        ensures path { OnOk result (is_path path.now ≡ true) }
+        ensures key { IfOk result (λ found. IsOpened store.now session handle found.0) }
+        ensures found { IfOk result (λ found. IsReachFound store.now.tree found.0.node path.now found.1) }
+    {
+        let is_bad = is_bad_create(path, mask, descriptor);
+        let key = match store.key_to_open_at(end, session, handle, is_bad) {
+            Ok(key) => key,
+            Err(status) => return Err(status),
+        };
+        let reached = store.tree.reach(key.node, path);
+        if store.tree.is_limited(reached) {
+            return Err(NO_SYSTEM_RESOURCES);
+        }
+        match asking.ask(key.path) {
+            Ok(()) => {}
+            Err(status) => return Err(status),
+        }
+        Ok((key, reached))
+    }
+
+    /// Finds how far the path leads and keeps the path as text. Refused as by `find`; or for want of memory.
     pub fn admit<C: Callback>(
         store: &Store,
         asking: &Asking<'_, C>,
@@ -82,19 +120,12 @@ impl<'a> CreateKey<'a> {
         ensures mask { IfOk result (λ found. found.mask ≡ mask) }
         ensures descriptor { IfOk result (λ found. option_copied found.descriptor ≡ option_copied descriptor.entry) }
     {
-        let is_bad = is_bad_create(path, mask, descriptor);
-        let key = match store.key_to_open_at(end, session, handle, is_bad) {
-            Ok(key) => key,
+        let (key, reached) = match CreateKey::find(
+            store, asking, end, session, handle, path, mask, descriptor,
+        ) {
+            Ok(found) => found,
             Err(status) => return Err(Refusal::Cause(status)),
         };
-        let reached = store.tree.reach(key.node, path);
-        if store.tree.is_limited(reached) {
-            return Err(Refusal::Cause(NO_SYSTEM_RESOURCES));
-        }
-        match asking.ask(key.path) {
-            Ok(()) => {}
-            Err(status) => return Err(Refusal::Cause(status)),
-        }
         // Only for its clause `shallow`: no key is deeper than 512 names, so that the path's text is one that the table takes.
         let _ = store.tree.root();
         match path_below(alloc, key.path, path) {

@@ -7,14 +7,14 @@ ghost use Rattle.reg_names.specs.declared.TheConstants.{PATH_LIMIT};
 ghost use Rattle.reg_names.specs.Names.{is_path, path_of, folded};
 ghost use Rattle.reg_heap.specs.Paths.{Path};
 ghost use Rattle.reg_heap.specs.Edits.{folded_path, is_under};
-ghost use Rattle.reg_model.specs.Causes.{tree_rights, asked};
+ghost use Rattle.reg_model.specs.Causes.{tree_rights, change_cause, asked};
 ghost use Rattle.reg_model.specs.Watches.{event_at, few_removals, cleared};
 ghost use Rattle.reg_tree.specs.TreeKeys.{IsAt, IsThere};
 ghost use Rattle.reg_handles.specs.HandleTables.{IsFoldedPath};
 ghost use Rattle.reg_notify.specs.Asked.{events_in};
 ghost use Rattle.reg_calls.specs.Internal.Askings.{status_by};
-ghost use Rattle.reg_calls.specs.Internal.Stores.{IsReady, IsMade};
-ghost use Rattle.reg_calls.specs.Internal.Admissions.{AdmitsDeleteTree, IsNotAdmitted};
+ghost use Rattle.reg_calls.specs.Internal.Stores.{at, IsReady, IsOpened, IsMade};
+ghost use Rattle.reg_calls.specs.Internal.Admissions.{IsClear, AdmitsDeleteTree, IsNotAdmitted};
 ghost use Rattle.reg_calls.specs.Internal.Announcements.{ending_in, HasKinds, IsAnnounced};
 ghost use Rattle.reg_calls.specs.Internal.DeletedTrees.{keeps_tree, IsTreeFound};
 ghost use Rattle.reg_calls.specs.declared.store.JournalEnd.{JournalEnd};
@@ -24,7 +24,7 @@ use crate::asking::Asking;
 use crate::fronts::without_last;
 use crate::refusal::Refusal;
 use crate::replies::accepted;
-use crate::store::{JournalEnd, Store, path_below};
+use crate::store::{JournalEnd, KeyHandle, Store, path_below};
 use reg_callbacks::Callback;
 use reg_model::ChangeReply;
 use reg_model::filters::{LAST_SET, NAME};
@@ -66,7 +66,7 @@ fn rights(path: &[u8]) -> u32
 
 /// What goes by a path from a key. The status of the refusal is 2 where the path isn't empty and there is no such key, and 5 where a
 /// key that would go has mark 0x08.
-fn find<'a>(tree: &Tree, from: Node, path: &'a [u8]) -> Result<Target<'a>, u32>
+fn find_target<'a>(tree: &Tree, from: Node, path: &'a [u8]) -> Result<Target<'a>, u32>
     requires from { IsThere tree.now from }
     requires path { is_path path.now ≡ true }
     ensures refused { (p : Path) → IsAt tree.now p from → IfErr result (λ status. keeps_tree tree.now.tree p path.now ≡ Some status) }
@@ -152,8 +152,52 @@ fn announce_contents(
 impl<'a> DeleteTree<'a> {
     ghost use Rattle.reg_model.specs.declared.call.Change.TheVariants.{DeleteTree as TreeDeleted};
 
-    /// Finds what goes. Refused by 6 and 1018 for the handle, 87 for the path, 5 without the rights, 1450 where the journal is full, by
-    /// a callback, 2 where the path isn't empty and there is no such key, and 5 where a key that would go has mark 0x08; or for want of memory.
+    /// Finds what goes, without memory: the handle's key, and what goes by the path from it. Refused by 6 and 1018 for the handle, 87
+    /// for the path, 5 without the rights, 1450 where the journal is full, by a callback, 2 where the path isn't empty and there is no
+    /// such key, and 5 where a key that would go has mark 0x08.
+    pub fn find<'s, C: Callback>(
+        store: &'s Store,
+        asking: &Asking<'_, C>,
+        end: JournalEnd,
+        session: u8,
+        handle: u64,
+        path: &'a [u8],
+    ) -> Result<(KeyHandle<'s>, Target<'a>), u32>
+        requires { IsReady end store.now }
+        ensures refused { IfErr result (λ status.
+            change_cause (at end store.now) session (TreeDeleted handle path.now) (status_by C.answers asking.now store.now session handle) ≡ Some status) }
+        ensures clear { OnOk result (IsClear end store.now session (TreeDeleted handle path.now)) }
+        ensures asked { OnOk result (asked (status_by C.answers asking.now store.now session handle) ≡ None) }
+        ensures path { OnOk result (is_path path.now ≡ true) }
+        ensures key { IfOk result (λ found. IsOpened store.now session handle found.0) }
+        ensures goes { IfOk result (λ found. (p : Path) → IsAt store.now.tree p found.0.node → keeps_tree store.now.tree.tree p path.now ≡ None) }
+        ensures found { IfOk result (λ found. IsTreeFound store.now.tree found.0.node path.now found.1) }
+    {
+        let key = match store.key_of(session, handle) {
+            Ok(key) => key,
+            Err(status) => return Err(status),
+        };
+        if check_path(path).is_err() {
+            return Err(INVALID_PARAMETER);
+        }
+        let asked = rights(path);
+        if key.mask & asked != asked {
+            return Err(ACCESS_DENIED);
+        }
+        if store.is_full(end) {
+            return Err(NO_SYSTEM_RESOURCES);
+        }
+        match asking.ask(key.path) {
+            Ok(()) => {}
+            Err(status) => return Err(status),
+        }
+        match find_target(&store.tree, key.node, path) {
+            Ok(target) => Ok((key, target)),
+            Err(status) => Err(status),
+        }
+    }
+
+    /// Finds what goes and keeps the path as text. Refused as by `find`; or for want of memory.
     pub fn admit<C: Callback>(
         store: &Store,
         asking: &Asking<'_, C>,
@@ -168,26 +212,8 @@ impl<'a> DeleteTree<'a> {
         ensures admitted { IfOk result (λ found. AdmitsDeleteTree end store.now session handle path.now found) }
         ensures asked { OnOk result (asked (status_by C.answers asking.now store.now session handle) ≡ None) }
     {
-        let key = match store.key_of(session, handle) {
-            Ok(key) => key,
-            Err(status) => return Err(Refusal::Cause(status)),
-        };
-        if check_path(path).is_err() {
-            return Err(Refusal::Cause(INVALID_PARAMETER));
-        }
-        let asked = rights(path);
-        if key.mask & asked != asked {
-            return Err(Refusal::Cause(ACCESS_DENIED));
-        }
-        if store.is_full(end) {
-            return Err(Refusal::Cause(NO_SYSTEM_RESOURCES));
-        }
-        match asking.ask(key.path) {
-            Ok(()) => {}
-            Err(status) => return Err(Refusal::Cause(status)),
-        }
-        let target = match find(&store.tree, key.node, path) {
-            Ok(target) => target,
+        let (key, target) = match DeleteTree::find(store, asking, end, session, handle, path) {
+            Ok(found) => found,
             Err(status) => return Err(Refusal::Cause(status)),
         };
         // Only for its clause `shallow`: no key is deeper than 512 names, so that the text is a path.

@@ -326,10 +326,12 @@ impl<C: Callback> Hive<C> {
             moment,
             call,
         } = step;
-        let share = &mut shares[session as usize];
+        let place = session as usize;
         match call {
-            Call::Change(change) => Outcome::Changed(self.apply(share, moment, change)),
-            Call::Query(query) => Outcome::Answered(self.read(share, &query)),
+            Call::Change(change) => {
+                Outcome::Changed(self.apply(&mut shares[place], moment, change))
+            }
+            Call::Query(query) => Outcome::Answered(self.read(&shares[place], &query)),
         }
     }
 

@@ -34,8 +34,9 @@
 //!
 //! A change's file has its `admit`, which answers the refusal or what it found; its `announce`, where it may end watches, which says by
 //! that what it does to them; and its `commit`, which takes just what was found and searches the tree no more. All watches are ended at
-//! one place, in `announced.rt`, by what was announced. A question's file has its `answer`. 234, of a descriptor 122, tells that the room
-//! is short, with the size.
+//! one place, in `announced.rt`, by what was announced. Where a path's text is copied, `find` makes all tests first, and `admit` copies it
+//! behind them; so `cause.rt` tells the first refusal without memory. A question's file has its `answer`. 234, of a descriptor 122,
+//! tells that the room is short, with the size.
 //!
 //! DeleteTree by the empty path asks 0x1000B and never answers 2: the handle's key stays, but loses all keys below it and its values;
 //! its time is set where it had any of them.
@@ -46,6 +47,7 @@
 
 mod announced;
 mod asking;
+mod cause;
 mod changes;
 mod close;
 mod create_key;

@@ -1,18 +1,19 @@
 //! OpenKey: a handle to a key that is there.
 //!
 //! Win32 registry reference, `RegOpenKeyEx`.
-ghost use Rattle.std.specs.Prelude.{ℕ, List, ◌≡◌, ◌<◌, IfErr, IfOk, None, OnOk};
+ghost use Rattle.std.specs.Prelude.{ℕ, List, ◌≡◌, ◌<◌, true, Some, None, IfErr, IfOk, OnOk};
+ghost use Rattle.reg_names.specs.Names.{is_path};
 ghost use Rattle.reg_model.specs.declared.limits.TheConstants.{SESSIONS_LIMIT};
-ghost use Rattle.reg_model.specs.Causes.{asked};
+ghost use Rattle.reg_model.specs.Causes.{change_cause, asked};
 ghost use Rattle.reg_calls.specs.Internal.Askings.{status_by};
-ghost use Rattle.reg_calls.specs.Internal.Stores.{IsReady, IsMade};
-ghost use Rattle.reg_calls.specs.Internal.Admissions.{AdmitsOpenKey, IsNotAdmitted};
+ghost use Rattle.reg_calls.specs.Internal.Stores.{at, IsReady, IsOpened, IsMade};
+ghost use Rattle.reg_calls.specs.Internal.Admissions.{IsClear, IsKeyFound, AdmitsOpenKey, IsNotAdmitted};
 
 use crate::asking::Asking;
 use crate::lack::Lack;
 use crate::refusal::Refusal;
 use crate::replies::opened;
-use crate::store::{JournalEnd, Store, is_bad_open, path_below};
+use crate::store::{JournalEnd, KeyHandle, Store, is_bad_open, path_below};
 use reg_callbacks::Callback;
 use reg_model::ChangeReply;
 use reg_model::statuses::FILE_NOT_FOUND;
@@ -35,8 +36,43 @@ pub struct OpenKey {
 impl OpenKey {
     ghost use Rattle.reg_model.specs.declared.call.Change.TheVariants.{OpenKey as KeyOpened};
 
-    /// Finds the key. Refused by 6 and 1018 for the handle, 87 for the path or the mask, 1450 where the session has 16,384 handles
-    /// or the journal is full, by a callback, and 2 where there is no such key; or for want of memory.
+    /// Finds the key, without memory: the handle's key, and the key at the end of the path from it. Refused by 6 and 1018 for the
+    /// handle, 87 for the path or the mask, 1450 where the session has 16,384 handles or the journal is full, by a callback, and 2
+    /// where there is no such key.
+    pub fn find<'s, C: Callback>(
+        store: &'s Store,
+        asking: &Asking<'_, C>,
+        end: JournalEnd,
+        session: u8,
+        handle: u64,
+        path: &[u8],
+        mask: u32,
+    ) -> Result<(KeyHandle<'s>, Node), u32>
+        requires session { session < SESSIONS_LIMIT }
+        requires ready { IsReady end store.now }
+        ensures refused { IfErr result (λ status.
+            change_cause (at end store.now) session (KeyOpened handle path.now mask) (status_by C.answers asking.now store.now session handle) ≡ Some status) }
+        ensures clear { OnOk result (IsClear end store.now session (KeyOpened handle path.now mask)) }
+        ensures asked { OnOk result (asked (status_by C.answers asking.now store.now session handle) ≡ None) }
+        ensures path { OnOk result (is_path path.now ≡ true) }
+        ensures key { IfOk result (λ found. IsOpened store.now session handle found.0) }
+        ensures found { IfOk result (λ found. IsKeyFound store.now.tree found.0.node path.now found.1) }
+    {
+        let key = match store.key_to_open_at(end, session, handle, is_bad_open(path, mask)) {
+            Ok(key) => key,
+            Err(status) => return Err(status),
+        };
+        match asking.ask(key.path) {
+            Ok(()) => {}
+            Err(status) => return Err(status),
+        }
+        let Some(node) = store.tree.resolve(key.node, path) else {
+            return Err(FILE_NOT_FOUND);
+        };
+        Ok((key, node))
+    }
+
+    /// Finds the key and keeps its path as text. Refused as by `find`; or for want of memory.
     pub fn admit<C: Callback>(
         store: &Store,
         asking: &Asking<'_, C>,
@@ -54,16 +90,9 @@ impl OpenKey {
         ensures asked { OnOk result (asked (status_by C.answers asking.now store.now session handle) ≡ None) }
         ensures mask { IfOk result (λ found. found.mask ≡ mask) }
     {
-        let key = match store.key_to_open_at(end, session, handle, is_bad_open(path, mask)) {
-            Ok(key) => key,
+        let (key, node) = match OpenKey::find(store, asking, end, session, handle, path, mask) {
+            Ok(found) => found,
             Err(status) => return Err(Refusal::Cause(status)),
-        };
-        match asking.ask(key.path) {
-            Ok(()) => {}
-            Err(status) => return Err(Refusal::Cause(status)),
-        }
-        let Some(node) = store.tree.resolve(key.node, path) else {
-            return Err(Refusal::Cause(FILE_NOT_FOUND));
         };
         if path.is_empty() {
             return Ok(OpenKey {

@@ -1,10 +1,10 @@
 -- What each change was admitted with: what its commit takes, as admission found it in the store where the journal ended so.
-use Rattle.std.specs.Prelude.{◌≡◌, ◌≢◌, ◌<◌, ℕ, List, [], map, length, Some, None, Result, Ok, Err, false, true, option_copied, vec_len, vec_capacity, MatchOption}
+use Rattle.std.specs.Prelude.{◌≡◌, ◌≢◌, ◌<◌, ◌++◌, ℕ, List, [], map, length, Some, None, Result, Ok, Err, false, true, option_copied, vec_len, vec_capacity, MatchOption}
 use Rattle.reg_names.specs.Names.{folded, is_path, path_of}
 use Rattle.reg_heap.specs.Members.{index_named}
 use Rattle.reg_heap.specs.declared.limits.TheConstants.{VALUES_LIMIT}
 use Rattle.reg_heap.specs.Paths.{Path}
-use Rattle.reg_heap.specs.Edits.{values_at, missing, are_too_many, may_not_go}
+use Rattle.reg_heap.specs.Edits.{folded_path, values_at, missing, are_too_many, may_not_go}
 use Rattle.reg_model.specs.declared.statuses.TheConstants.{NOT_ENOUGH_MEMORY}
 use Rattle.reg_model.specs.Worlds.{path_at, path_from}
 use Rattle.reg_model.specs.Causes.{change_cause, asked_before}
@@ -12,9 +12,10 @@ use Rattle.reg_model.specs.declared.call.Change.{Change}
 use Rattle.reg_model.specs.declared.call.Change.TheVariants.{OpenRoot as RootOpened, OpenKey as KeyOpened, CreateKey as KeyCreated, SetValue as ValueSet}
 use Rattle.reg_model.specs.declared.call.Change.TheVariants.{DeleteValue as ValueDeleted, DeleteKey as KeyDeleted, DeleteTree as TreeDeleted}
 use Rattle.reg_model.specs.declared.call.Change.TheVariants.{SetSecurity as SecuritySet, Notify as Notified, Close as Closed}
-use Rattle.reg_tree.specs.TreeKeys.{IsAt}
+use Rattle.reg_tree.specs.TreeKeys.{Keys, IsAt, IsResolved}
 use Rattle.reg_tree.specs.Reaching.{IsWalkedTo}
 use Rattle.reg_tree.specs.declared.node.Node.{Node}
+use Rattle.reg_tree.specs.declared.node.Reached.{Reached}
 use Rattle.reg_calls.specs.declared.store.Store.{Store}
 use Rattle.reg_calls.specs.declared.open_key.OpenKey.{OpenKey}
 use Rattle.reg_calls.specs.declared.create_key.CreateKey.{CreateKey}
@@ -50,6 +51,25 @@ pub record IsTextOf (store : Store) (session handle : ℕ) (path text : List ℕ
 pub record IsOwnKey (store : Store) (session handle : ℕ) (path : List ℕ) : Type 0 where
   pub target : IsTarget store session handle
   pub empty : path ≡ []
+
+-- the key at the end of a path from a key
+abbrev pub IsKeyFound : Keys → Node → List ℕ → Node → Type 0
+IsKeyFound keys from path node = (p : Path) → IsAt keys p from → IsResolved keys (p ++ folded_path path) (Some node)
+
+-- how far a path from a key leads, which names are missing and where they belong; these aren't too many
+pub record IsReachFound (keys : Keys) (from : Node) (path : List ℕ) (reached : Reached) : Type 0 where
+  pub walked : IsWalkedTo keys from path reached
+  pub missing : (p : Path) → IsAt keys p from → path_of reached.missing.now ≡ missing keys.tree p (path_of path)
+  pub few : (start : Node) → (text : List ℕ) → IsWalkedTo keys start text reached → (p : Path) → IsAt keys p start → are_too_many keys.tree p (path_of text) ≡ false
+  pub there : (p : Path) → IsAt keys p from → reached.missing.now ≡ [] → IsAt keys (p ++ folded_path path) reached.node
+
+-- the key at the end of a path that has names, with where it stands below its parent; nothing keeps it
+pub record IsDeletionFound (keys : Keys) (from : Node) (path : List ℕ) (reached : Reached) : Type 0 where
+  pub walked : IsWalkedTo keys from path reached
+  pub below : path_of path ≢ []
+  pub there : reached.missing.now ≡ []
+  pub goes : (p : Path) → IsAt keys p reached.node → may_not_go keys.tree p ≡ false
+  pub node : IsKeyFound keys from path reached.node
 
 -- a handle to the key at a path from a handle's key: the path's text, or none where it is that handle's own key; and the key
 pub record AdmitsOpenKey (end : JournalEnd) (store : Store) (session handle : ℕ) (path : List ℕ) (found : OpenKey) : Type 0 where

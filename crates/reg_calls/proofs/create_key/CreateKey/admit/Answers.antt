@@ -1,82 +1,24 @@
-use Rattle.std.proofs.Common.{arith, refl, sym, ◌∙◌}
-use Rattle.std.specs.Option.{option_copied}
-use Rattle.std.proofs.lemmas.Grind.{common_steps}
-use Rattle.std.proofs.lemmas.Bool.Decides.{nat_tests}
+use Rattle.std.proofs.Common.{refl}
 use Rattle.reg_calls.proofs.FoundPaths.{found-at, found-from, found-text, made-short, missing-at}
-use Rattle.reg_model.specs.Worlds.{path_at}
-use Rattle.reg_calls.specs.Internal.Askings.{status_by}
-use Rattle.reg_calls.proofs.RefusalTests.{create-causes, asked-at}
 use Rattle.reg_calls.proofs.create_key.CreateKey.admit.Goals as goal
-
-pub returns-in-Err-clause-refused : goal.returns-in-Err-clause-refused
-returns-in-Err-clause-refused g c = c.in-Err.ensures.create c.args.path.now c.args.mask
-    (status_by g.C.Callback.answers c.args.asking.now c.args.store.now c.args.session c.args.handle) (option_copied c.args.descriptor) c.is_bad_create-is_bad.ensures
-
-pub is_limited-requires : goal.is_limited-requires
-is_limited-requires g c = let k = c.in-Ok.ensures.key in record { reached = (c.in-Ok.key.node, c.args.path.now, c.reach-reached.ensures.reached, (k.target.path, k.node)) }
-
-pub returns-then-is_limited-clause-refused : goal.returns-then-is_limited-clause-refused
-returns-then-is_limited-clause-refused g c =
-    let status = status_by g.C.Callback.answers c.args.asking.now c.args.store.now c.args.session c.args.handle in
-    let k = c.in-Ok.ensures.key in
-    let bad = c.is_bad_create-is_bad.ensures in
-    let good = c.in-Ok.ensures.good in
-    let room = c.in-Ok.ensures.room in
-    let chain = create-causes c.args.end c.args.store.now c.args.session c.args.handle status c.args.path.now c.args.mask (option_copied c.args.descriptor) k.target in
-    let many = c.is_limited.ensures c.in-Ok.key.node c.args.path.now c.reach-reached.ensures.reached k.target.path k.node in
-    grind (arith, nat_tests, common_steps, chain, bad, good, room, many)
-
-pub returns-in-Err-path_below-clause-refused : goal.returns-in-Err-path_below-clause-refused
-returns-in-Err-path_below-clause-refused g c =
-    let k = c.in-Ok.ensures.key in
-    let bad = c.is_bad_create-is_bad.ensures in
-    let good = c.in-Ok.ensures.good in
-    let room = c.in-Ok.ensures.room in
-    let chain = create-causes c.args.end c.args.store.now c.args.session c.args.handle 0 c.args.path.now c.args.mask (option_copied c.args.descriptor) k.target in
-    let many = c.is_limited.ensures c.in-Ok.key.node c.args.path.now c.reach-reached.ensures.reached k.target.path k.node in (
-      grind (arith, nat_tests, common_steps, chain, bad, good, room, many),
-      refl,
-      c.in-Ok-ask.ensures.ok (path_at c.args.session c.args.handle c.args.store.now.handles.handles)
-          (asked-at c.args.store.now c.args.session c.args.handle c.in-Ok.ensures.key.target c.in-Ok.key.path.now c.in-Ok.ensures.key.path),
-    )
 
 pub returns-in-Ok-path_below-clause-admitted : goal.returns-in-Ok-path_below-clause-admitted
 returns-in-Ok-path_below-clause-admitted g c =
     let k = c.in-Ok.ensures.key in
-    let bad = c.is_bad_create-is_bad.ensures in
-    let good = c.in-Ok.ensures.good in
-    let room = c.in-Ok.ensures.room in
-    let chain = create-causes c.args.end c.args.store.now c.args.session c.args.handle 0 c.args.path.now c.args.mask (option_copied c.args.descriptor) k.target in
-    let many = c.is_limited.ensures c.in-Ok.key.node c.args.path.now c.reach-reached.ensures.reached k.target.path k.node in
-    let few = sym many ∙ c.if-is_limited.false in
+    let found = c.in-Ok.ensures.found in
+    let few = found.few c.in-Ok.found.0.node c.args.path.now found.walked k.target.path k.node in
     let text = c.in-Ok-path_below.ensures in
-    let short = made-short c.args.store.now c.args.session c.args.handle k.target c.in-Ok.key.path.now c.args.path.now k.path c.root.ensures.shallow c.requires.ready.stand few in
+    let short = made-short c.args.store.now c.args.session c.args.handle k.target c.in-Ok.found.0.path.now c.args.path.now k.path c.root.ensures.shallow c.requires.ready.stand few in
     record {
-      clear = grind (arith, nat_tests, common_steps, chain, bad, good, room, few);
-      text = found-text c.args.store.now c.args.session c.args.handle k.target c.in-Ok.key.path.now c.args.path.now k.path c.in-Ok-path_below.text.items text.names (text.valid short) text.folded;
-      from = c.in-Ok.key.node;
-      at = found-at c.args.store.now c.args.session c.args.handle k.target c.in-Ok.key.node k.node;
-      reached = c.reach-reached.ensures.reached;
-      missing = missing-at c.args.store.now c.args.session c.args.handle k.target c.args.path.now c.reach-reached.result.missing.now (c.reach-reached.ensures.missing k.target.path k.node);
-      few = λ start text is p at. sym (c.is_limited.ensures start text is p at) ∙ c.if-is_limited.false;
-      there = λ none. found-from c.args.store.now c.args.session c.args.handle k.target c.args.path.now c.reach-reached.result.node
-          (c.reach-reached.ensures.there k.target.path k.node none).0;
+      clear = c.in-Ok.ensures.clear;
+      text = found-text c.args.store.now c.args.session c.args.handle k.target c.in-Ok.found.0.path.now c.args.path.now k.path c.in-Ok-path_below.text.items text.names (text.valid short) text.folded;
+      from = c.in-Ok.found.0.node;
+      at = found-at c.args.store.now c.args.session c.args.handle k.target c.in-Ok.found.0.node k.node;
+      reached = found.walked;
+      missing = missing-at c.args.store.now c.args.session c.args.handle k.target c.args.path.now c.in-Ok.found.1.missing.now (found.missing k.target.path k.node);
+      few = found.few;
+      there = λ none. found-from c.args.store.now c.args.session c.args.handle k.target c.args.path.now c.in-Ok.found.1.node (found.there k.target.path k.node none);
     }
 
-pub returns-in-Err-ask-clause-refused : goal.returns-in-Err-ask-clause-refused
-returns-in-Err-ask-clause-refused g c =
-    let status = status_by g.C.Callback.answers c.args.asking.now c.args.store.now c.args.session c.args.handle in
-    let k = c.in-Ok.ensures.key in
-    let bad = c.is_bad_create-is_bad.ensures in
-    let good = c.in-Ok.ensures.good in
-    let room = c.in-Ok.ensures.room in
-    let chain = create-causes c.args.end c.args.store.now c.args.session c.args.handle status c.args.path.now c.args.mask (option_copied c.args.descriptor) k.target in
-    let many = c.is_limited.ensures c.in-Ok.key.node c.args.path.now c.reach-reached.ensures.reached k.target.path k.node in
-    let asks = c.in-Err-ask.ensures.err (path_at c.args.session c.args.handle c.args.store.now.handles.handles)
-    (asked-at c.args.store.now c.args.session c.args.handle c.in-Ok.ensures.key.target c.in-Ok.key.path.now c.in-Ok.ensures.key.path) in
-    grind (arith, nat_tests, common_steps, chain, bad, good, room, many, asks)
-
-pub returns-in-Ok-path_below-clause-asked : goal.returns-in-Ok-path_below-clause-asked
-returns-in-Ok-path_below-clause-asked g c =
-    c.in-Ok-ask.ensures.ok (path_at c.args.session c.args.handle c.args.store.now.handles.handles)
-    (asked-at c.args.store.now c.args.session c.args.handle c.in-Ok.ensures.key.target c.in-Ok.key.path.now c.in-Ok.ensures.key.path)
+pub returns-in-Err-path_below-clause-refused : goal.returns-in-Err-path_below-clause-refused
+returns-in-Err-path_below-clause-refused g c = (c.in-Ok.ensures.clear, refl, c.in-Ok.ensures.asked)

@@ -1,102 +1,25 @@
-use Rattle.std.proofs.Common.{arith, refl, sym, ◌∙◌}
-use Rattle.std.proofs.lemmas.Grind.{common_steps}
-use Rattle.std.proofs.lemmas.Bool.Decides.{nat_tests}
-use Rattle.reg_calls.proofs.FoundPaths.{found-at, found-from, found-text, there-short, target-names, is-empty, not-empty}
-use Rattle.reg_model.specs.Worlds.{path_at}
-use Rattle.reg_calls.specs.Internal.Askings.{status_by}
-use Rattle.reg_calls.proofs.RefusalTests.{delete-refused, delete-causes, asked-at}
+use Rattle.std.proofs.Common.{refl}
+use Rattle.reg_calls.proofs.FoundPaths.{found-at, found-from, found-text, there-short}
 use Rattle.reg_calls.proofs.delete_key.DeleteKey.admit.Goals as goal
-
-pub returns-in-Err-clause-refused : goal.returns-in-Err-clause-refused
-returns-in-Err-clause-refused g c = delete-refused c.args.end c.args.store.now c.args.session c.args.handle
-    (status_by g.C.Callback.answers c.args.asking.now c.args.store.now c.args.session c.args.handle) c.args.path.now c.in-Err.status c.in-Err.ensures
-
-pub returns-then-is_bad_target-clause-refused : goal.returns-then-is_bad_target-clause-refused
-returns-then-is_bad_target-clause-refused g c =
-    let status = status_by g.C.Callback.answers c.args.asking.now c.args.store.now c.args.session c.args.handle in
-    let k = c.in-Ok.ensures in
-    let chain = delete-causes c.args.end c.args.store.now c.args.session c.args.handle status c.args.path.now k.target in
-    grind (arith, nat_tests, common_steps, chain)
-
-pub returns-then-is_full-clause-refused : goal.returns-then-is_full-clause-refused
-returns-then-is_full-clause-refused g c =
-    let status = status_by g.C.Callback.answers c.args.asking.now c.args.store.now c.args.session c.args.handle in
-    let k = c.in-Ok.ensures in
-    let chain = delete-causes c.args.end c.args.store.now c.args.session c.args.handle status c.args.path.now k.target in
-    grind (arith, nat_tests, common_steps, chain)
-
-pub returns-then-not-is_empty-clause-refused : goal.returns-then-not-is_empty-clause-refused
-returns-then-not-is_empty-clause-refused g c =
-    let status = status_by g.C.Callback.answers c.args.asking.now c.args.store.now c.args.session c.args.handle in
-    let k = c.in-Ok.ensures in
-    let chain = delete-causes c.args.end c.args.store.now c.args.session c.args.handle status c.args.path.now k.target in
-    let none = c.reach-reached.ensures.absent k.target.path k.node (not-empty _ c.is_empty.result c.is_empty.ensures c.if-not-is_empty.true) in
-    let asks = c.in-Ok-ask.ensures.ok (path_at c.args.session c.args.handle c.args.store.now.handles.handles)
-    (asked-at c.args.store.now c.args.session c.args.handle c.in-Ok.ensures.target c.in-Ok.key.path.now c.in-Ok.ensures.path) in
-    grind (arith, nat_tests, common_steps, chain, none, asks)
-
-pub may_not_go-requires : goal.may_not_go-requires
-may_not_go-requires g c =
-    let k = c.in-Ok.ensures in
-    (_, (c.reach-reached.ensures.there k.target.path k.node (is-empty _ c.is_empty.result c.is_empty.ensures c.if-not-is_empty.false)).0)
-
-pub returns-then-may_not_go-clause-refused : goal.returns-then-may_not_go-clause-refused
-returns-then-may_not_go-clause-refused g c =
-    let status = status_by g.C.Callback.answers c.args.asking.now c.args.store.now c.args.session c.args.handle in
-    let k = c.in-Ok.ensures in
-    let chain = delete-causes c.args.end c.args.store.now c.args.session c.args.handle status c.args.path.now k.target in
-    let found = c.reach-reached.ensures.there k.target.path k.node (is-empty _ c.is_empty.result c.is_empty.ensures c.if-not-is_empty.false) in
-    let there = found.1 in
-    let kept = c.may_not_go.ensures _ found.0 in
-    let asks = c.in-Ok-ask.ensures.ok (path_at c.args.session c.args.handle c.args.store.now.handles.handles)
-    (asked-at c.args.store.now c.args.session c.args.handle c.in-Ok.ensures.target c.in-Ok.key.path.now c.in-Ok.ensures.path) in
-    grind (arith, nat_tests, common_steps, chain, there, kept, asks)
-
-pub returns-in-Err-path_below-clause-refused : goal.returns-in-Err-path_below-clause-refused
-returns-in-Err-path_below-clause-refused g c =
-    let k = c.in-Ok.ensures in
-    let chain = delete-causes c.args.end c.args.store.now c.args.session c.args.handle 0 c.args.path.now k.target in
-    let found = c.reach-reached.ensures.there k.target.path k.node (is-empty _ c.is_empty.result c.is_empty.ensures c.if-not-is_empty.false) in
-    let there = found.1 in
-    let kept = c.may_not_go.ensures _ found.0 in (
-      grind (arith, nat_tests, common_steps, chain, there, kept),
-      refl,
-      c.in-Ok-ask.ensures.ok (path_at c.args.session c.args.handle c.args.store.now.handles.handles)
-          (asked-at c.args.store.now c.args.session c.args.handle c.in-Ok.ensures.target c.in-Ok.key.path.now c.in-Ok.ensures.path),
-    )
 
 pub returns-in-Ok-path_below-clause-admitted : goal.returns-in-Ok-path_below-clause-admitted
 returns-in-Ok-path_below-clause-admitted g c =
-    let k = c.in-Ok.ensures in
-    let chain = delete-causes c.args.end c.args.store.now c.args.session c.args.handle 0 c.args.path.now k.target in
-    let none = is-empty _ c.is_empty.result c.is_empty.ensures c.if-not-is_empty.false in
-    let found = c.reach-reached.ensures.there k.target.path k.node none in
-    let there = found.1 in
-    let kept = c.may_not_go.ensures _ found.0 in
+    let k = c.in-Ok.ensures.key in
+    let found = c.in-Ok.ensures.found in
+    let node = found.node k.target.path k.node in
     let text = c.in-Ok-path_below.ensures in
-    let short = there-short c.args.store.now c.args.session c.args.handle k.target c.in-Ok.key.path.now c.args.path.now k.path c.root.ensures.shallow there in
+    let short = there-short c.args.store.now c.args.session c.args.handle k.target c.in-Ok.found.0.path.now c.args.path.now k.path c.root.ensures.shallow node.1 in
     record {
-      clear = grind (arith, nat_tests, common_steps, chain, there, kept);
-      text = found-text c.args.store.now c.args.session c.args.handle k.target c.in-Ok.key.path.now c.args.path.now k.path c.in-Ok-path_below.text.items text.names (text.valid short) text.folded;
-      from = c.in-Ok.key.node;
-      at = found-at c.args.store.now c.args.session c.args.handle k.target c.in-Ok.key.node k.node;
-      reached = c.reach-reached.ensures.reached;
-      below = target-names c.args.path.now (sym c.is_bad_target.ensures ∙ c.if-is_bad_target.false);
-      there = none;
-      goes = λ p at. sym (c.may_not_go.ensures p at) ∙ c.if-may_not_go.false;
-      node = found-from c.args.store.now c.args.session c.args.handle k.target c.args.path.now c.reach-reached.result.node found.0;
+      clear = c.in-Ok.ensures.clear;
+      text = found-text c.args.store.now c.args.session c.args.handle k.target c.in-Ok.found.0.path.now c.args.path.now k.path c.in-Ok-path_below.text.items text.names (text.valid short) text.folded;
+      from = c.in-Ok.found.0.node;
+      at = found-at c.args.store.now c.args.session c.args.handle k.target c.in-Ok.found.0.node k.node;
+      reached = found.walked;
+      below = found.below;
+      there = found.there;
+      goes = found.goes;
+      node = found-from c.args.store.now c.args.session c.args.handle k.target c.args.path.now c.in-Ok.found.1.node node.0;
     }
 
-pub returns-in-Err-ask-clause-refused : goal.returns-in-Err-ask-clause-refused
-returns-in-Err-ask-clause-refused g c =
-    let status = status_by g.C.Callback.answers c.args.asking.now c.args.store.now c.args.session c.args.handle in
-    let k = c.in-Ok.ensures in
-    let chain = delete-causes c.args.end c.args.store.now c.args.session c.args.handle status c.args.path.now k.target in
-    let asks = c.in-Err-ask.ensures.err (path_at c.args.session c.args.handle c.args.store.now.handles.handles)
-    (asked-at c.args.store.now c.args.session c.args.handle c.in-Ok.ensures.target c.in-Ok.key.path.now c.in-Ok.ensures.path) in
-    grind (arith, nat_tests, common_steps, chain, asks)
-
-pub returns-in-Ok-path_below-clause-asked : goal.returns-in-Ok-path_below-clause-asked
-returns-in-Ok-path_below-clause-asked g c =
-    c.in-Ok-ask.ensures.ok (path_at c.args.session c.args.handle c.args.store.now.handles.handles)
-    (asked-at c.args.store.now c.args.session c.args.handle c.in-Ok.ensures.target c.in-Ok.key.path.now c.in-Ok.ensures.path)
+pub returns-in-Err-path_below-clause-refused : goal.returns-in-Err-path_below-clause-refused
+returns-in-Err-path_below-clause-refused g c = (c.in-Ok.ensures.clear, refl, c.in-Ok.ensures.asked)

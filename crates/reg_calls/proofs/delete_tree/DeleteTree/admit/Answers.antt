@@ -1,89 +1,25 @@
-use Rattle.std.proofs.Common.{◌≡◌, ℕ, not, bit_and, arith, refl, sym, ap, ◌∙◌, subst}
-use Rattle.std.proofs.lemmas.Grind.{common_steps}
-use Rattle.std.proofs.lemmas.Bool.Decides.{nat_tests}
+use Rattle.std.proofs.Common.{refl}
 use Rattle.reg_calls.proofs.HandleLookUps.{target-has}
 use Rattle.reg_calls.proofs.FoundPaths.{found-at, found-text, there-short}
 use Rattle.reg_calls.proofs.FoundTrees.{goes-there}
-use Rattle.reg_model.specs.Worlds.{path_at}
-use Rattle.reg_calls.specs.Internal.Askings.{status_by}
-use Rattle.reg_calls.proofs.RefusalTests.{tree-refused, tree-causes, tree-clear, asked-at}
 use Rattle.reg_calls.proofs.delete_tree.DeleteTree.admit.Goals as goal
-
-pub returns-in-Err-clause-refused : goal.returns-in-Err-clause-refused
-returns-in-Err-clause-refused g c = tree-refused c.args.end c.args.store.now c.args.session c.args.handle
-    (status_by g.C.Callback.answers c.args.asking.now c.args.store.now c.args.session c.args.handle) c.args.path.now c.in-Err.status c.in-Err.ensures
-
-pub returns-then-is_err-clause-refused : goal.returns-then-is_err-clause-refused
-returns-then-is_err-clause-refused g c =
-    let status = status_by g.C.Callback.answers c.args.asking.now c.args.store.now c.args.session c.args.handle in
-    let k = c.in-Ok.ensures in
-    let chain = tree-causes c.args.end c.args.store.now c.args.session c.args.handle status c.args.path.now c.in-Ok.key.mask k.target k.mask in
-    grind (arith, nat_tests, common_steps, chain)
-
-pub returns-then-key-asked-clause-refused : goal.returns-then-key-asked-clause-refused
-returns-then-key-asked-clause-refused g c =
-    let status = status_by g.C.Callback.answers c.args.asking.now c.args.store.now c.args.session c.args.handle in
-    let k = c.in-Ok.ensures in
-    let chain = tree-causes c.args.end c.args.store.now c.args.session c.args.handle status c.args.path.now c.in-Ok.key.mask k.target k.mask in
-    grind (arith, nat_tests, common_steps, chain)
-
-pub returns-then-is_full-clause-refused : goal.returns-then-is_full-clause-refused
-returns-then-is_full-clause-refused g c =
-    let status = status_by g.C.Callback.answers c.args.asking.now c.args.store.now c.args.session c.args.handle in
-    let k = c.in-Ok.ensures in
-    let chain = tree-causes c.args.end c.args.store.now c.args.session c.args.handle status c.args.path.now c.in-Ok.key.mask k.target k.mask in
-    grind (arith, nat_tests, common_steps, chain)
-
-pub returns-in-Err-find-clause-refused : goal.returns-in-Err-find-clause-refused
-returns-in-Err-find-clause-refused g c =
-    let status = status_by g.C.Callback.answers c.args.asking.now c.args.store.now c.args.session c.args.handle in
-    let k = c.in-Ok.ensures in
-    let chain = tree-causes c.args.end c.args.store.now c.args.session c.args.handle status c.args.path.now c.in-Ok.key.mask k.target k.mask in
-    let kept = c.in-Err-find.ensures.refused k.target.path k.node in
-    let asks = c.in-Ok-ask.ensures.ok (path_at c.args.session c.args.handle c.args.store.now.handles.handles)
-    (asked-at c.args.store.now c.args.session c.args.handle c.in-Ok.ensures.target c.in-Ok.key.path.now c.in-Ok.ensures.path) in
-    grind (arith, nat_tests, common_steps, chain, kept, asks)
-
-pub returns-in-Err-roomy_path_below-clause-refused : goal.returns-in-Err-roomy_path_below-clause-refused
-returns-in-Err-roomy_path_below-clause-refused g c =
-    let k = c.in-Ok.ensures in
-    let chain = tree-causes c.args.end c.args.store.now c.args.session c.args.handle 0 c.args.path.now c.in-Ok.key.mask k.target k.mask in
-    let goes = c.in-Ok-find.ensures.clear k.target.path k.node in (
-      grind (arith, nat_tests, common_steps, chain, goes),
-      refl,
-      c.in-Ok-ask.ensures.ok (path_at c.args.session c.args.handle c.args.store.now.handles.handles)
-          (asked-at c.args.store.now c.args.session c.args.handle c.in-Ok.ensures.target c.in-Ok.key.path.now c.in-Ok.ensures.path),
-    )
 
 pub returns-in-Ok-roomy_path_below-clause-admitted : goal.returns-in-Ok-roomy_path_below-clause-admitted
 returns-in-Ok-roomy_path_below-clause-admitted g c =
-    let k = c.in-Ok.ensures in
-    let goes = c.in-Ok-find.ensures.clear k.target.path k.node in
+    let k = c.in-Ok.ensures.key in
+    let goes = c.in-Ok.ensures.goes k.target.path k.node in
     let there = goes-there c.args.store.now.tree.tree k.target.path c.args.path.now (target-has c.args.store.now c.args.session c.args.handle k.target c.requires.stand) goes in
     let text = c.in-Ok-roomy_path_below.ensures in
-    let short = there-short c.args.store.now c.args.session c.args.handle k.target c.in-Ok.key.path.now c.args.path.now k.path c.root.ensures.shallow there in
+    let short = there-short c.args.store.now c.args.session c.args.handle k.target c.in-Ok.found.0.path.now c.args.path.now k.path c.root.ensures.shallow there in
     record {
-      clear = tree-clear c.args.end c.args.store.now c.args.session c.args.handle 0 c.args.path.now c.in-Ok.key.mask k.target k.mask
-          (sym c.check_path.ensures.valid ∙ c.is_err.ensures.negation ∙ ap not c.if-is_err.false)
-          (subst (λ (r : ℕ). bit_and c.in-Ok.key.mask r ≡ r) c.rights-asked.ensures c.if-key-asked.false) (sym c.is_full.ensures ∙ c.if-is_full.false) goes refl;
-      text = found-text c.args.store.now c.args.session c.args.handle k.target c.in-Ok.key.path.now c.args.path.now k.path c.in-Ok-roomy_path_below.text.items text.names
+      clear = c.in-Ok.ensures.clear;
+      text = found-text c.args.store.now c.args.session c.args.handle k.target c.in-Ok.found.0.path.now c.args.path.now k.path c.in-Ok-roomy_path_below.text.items text.names
           (text.valid short) text.folded;
       room = text.room;
-      from = c.in-Ok.key.node;
-      at = found-at c.args.store.now c.args.session c.args.handle k.target c.in-Ok.key.node k.node;
-      target = c.in-Ok-find.ensures.found;
+      from = c.in-Ok.found.0.node;
+      at = found-at c.args.store.now c.args.session c.args.handle k.target c.in-Ok.found.0.node k.node;
+      target = c.in-Ok.ensures.found;
     }
 
-pub returns-in-Err-ask-clause-refused : goal.returns-in-Err-ask-clause-refused
-returns-in-Err-ask-clause-refused g c =
-    let status = status_by g.C.Callback.answers c.args.asking.now c.args.store.now c.args.session c.args.handle in
-    let k = c.in-Ok.ensures in
-    let chain = tree-causes c.args.end c.args.store.now c.args.session c.args.handle status c.args.path.now c.in-Ok.key.mask k.target k.mask in
-    let asks = c.in-Err-ask.ensures.err (path_at c.args.session c.args.handle c.args.store.now.handles.handles)
-    (asked-at c.args.store.now c.args.session c.args.handle c.in-Ok.ensures.target c.in-Ok.key.path.now c.in-Ok.ensures.path) in
-    grind (arith, nat_tests, common_steps, chain, asks)
-
-pub returns-in-Ok-roomy_path_below-clause-asked : goal.returns-in-Ok-roomy_path_below-clause-asked
-returns-in-Ok-roomy_path_below-clause-asked g c =
-    c.in-Ok-ask.ensures.ok (path_at c.args.session c.args.handle c.args.store.now.handles.handles)
-    (asked-at c.args.store.now c.args.session c.args.handle c.in-Ok.ensures.target c.in-Ok.key.path.now c.in-Ok.ensures.path)
+pub returns-in-Err-roomy_path_below-clause-refused : goal.returns-in-Err-roomy_path_below-clause-refused
+returns-in-Err-roomy_path_below-clause-refused g c = (c.in-Ok.ensures.clear, refl, c.in-Ok.ensures.asked)
