@@ -79,7 +79,7 @@ impl<C: Callback> Registry for SeatedHive<C> {
         }
     }
 
-    #[tactic(auto, using(crate::proofs::NumberedChanges::accepted))]
+    #[tactic(auto, using(reg_calls::proofs::AcceptedChanges::accepted))]
     fn apply(&mut self, session: u8, moment: u64, change: Change) -> ChangeReply {
         self.apply(session, moment, change)
     }
