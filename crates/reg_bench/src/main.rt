@@ -23,7 +23,7 @@ use crate::row::Row;
 use crate::stage::Stage;
 use anyhow::{Result, bail};
 use reg_callbacks::{Callback, NoCallback};
-use reg_calls::Hive;
+use reg_calls::{Hive, SeatedHive};
 use reg_fixtures::{PlainHive, Registry};
 use std::alloc::Global;
 use std::env;
@@ -57,7 +57,12 @@ fn run_with<C: Callback>(
 ) -> Result<()> {
     let mut hive = Hive::new(alloc, b"ROOT", &[1], 0)?;
     register_all(&mut hive, callbacks)?;
-    row.run(rt, alloc, &mut Stage::Hive(hive), takes_time)
+    row.run(
+        rt,
+        alloc,
+        &mut Stage::Hive(SeatedHive::new(hive)?),
+        takes_time,
+    )
 }
 
 fn run_with_callbacks(rt: &(impl Print + Clock), alloc: Global, takes_time: bool) -> Result<()> {

@@ -25,7 +25,7 @@ impl<H: Registry> Stage<H> {
         Ok(Stage::Maps(PlainMaps::new(alloc)?))
     }
 
-    /// How many entries the journal has.
+    /// How many entries it has had.
     pub fn entries(&self) -> u64 {
         match self {
             Stage::Hive(hive) => hive.len() as u64,

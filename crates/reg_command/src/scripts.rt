@@ -8,7 +8,7 @@ ghost use Rattle.reg_command.specs.Internal.Steps.{IsScriptHive, SendStops};
 
 use crate::failure::Stop;
 use reg_callbacks::{Callback, NoCallback};
-use reg_calls::{Hive, NewFault};
+use reg_calls::{Hive, NewFault, SeatedHive};
 use reg_image::write_hive;
 use reg_script::{FRESH_DESCRIPTOR, run, run_to};
 use std::alloc::Global;
@@ -25,19 +25,30 @@ fn fresh_hive(alloc: Global) -> Result<Hive<NoCallback>, NewFault>
     Hive::new(alloc, ROOT_NAME, &FRESH_DESCRIPTOR, 0)
 }
 
+/// A script's hive with all its sessions seated.
+fn seated_hive(alloc: Global) -> Result<SeatedHive<NoCallback>, NewFault>
+    ensures { IfOk result (λ seated. IsScriptHive seated.hive) }
+{
+    let hive = fresh_hive(alloc)?;
+    match SeatedHive::new(hive) {
+        Ok(seated) => Ok(seated),
+        Err(_) => Err(NewFault::Memory),
+    }
+}
+
 /// Runs a script on a hive and writes its replies.
 fn run_on<R: Read, W: Write, C: Callback>(
     alloc: Global,
-    hive: &mut Hive<C>,
+    seated: &mut SeatedHive<C>,
     input: &mut R,
     output: &mut W,
 ) -> Result<(), Stop>
-    ensures ok { OnOk result (IsScriptHive hive.old →
+    ensures ok { OnOk result (IsScriptHive seated.old.hive →
         RunsScript (R.remaining input.old) (R.remaining input.new) (W.contents output.old) (W.contents output.new)) }
-    ensures err { IfErr result (λ stop. IsScriptHive hive.old →
+    ensures err { IfErr result (λ stop. IsScriptHive seated.old.hive →
         RunStops stop (R.remaining input.old) (R.remaining input.new) (W.contents output.old) (W.contents output.new)) }
 {
-    match run(alloc, input, output, hive) {
+    match run(alloc, input, output, &mut seated.hive, &mut seated.shares) {
         Ok(()) => Ok(()),
         Err(ended) => Err(Stop::Script(ended)),
     }
@@ -53,8 +64,8 @@ pub fn run_script<R: Read, W: Write>(
     ensures err { IfErr result (λ stop. RunStops stop (R.remaining input.old) (R.remaining input.new) (W.contents output.old)
         (W.contents output.new)) }
 {
-    match fresh_hive(alloc) {
-        Ok(mut hive) => run_on(alloc, &mut hive, input, output),
+    match seated_hive(alloc) {
+        Ok(mut seated) => run_on(alloc, &mut seated, input, output),
         Err(_) => Err(Stop::Memory),
     }
 }
@@ -79,19 +90,25 @@ fn send_image<W: Write, C: Callback>(
 /// Runs a script on a hive, without its replies, and writes the image of what it leaves.
 fn image_after<R: Read, W: Write, C: Callback>(
     alloc: Global,
-    hive: &mut Hive<C>,
+    seated: &mut SeatedHive<C>,
     sequence: u32,
     input: &mut R,
     output: &mut W,
 ) -> Result<(), Stop>
-    ensures ok { OnOk result (IsScriptHive hive.old →
+    ensures ok { OnOk result (IsScriptHive seated.old.hive →
         WritesImage sequence (R.remaining input.old) (R.remaining input.new) (W.contents output.old) (W.contents output.new)) }
-    ensures err { IfErr result (λ stop. IsScriptHive hive.old →
+    ensures err { IfErr result (λ stop. IsScriptHive seated.old.hive →
         ImageStops sequence stop (R.remaining input.old) (R.remaining input.new) (W.contents output.old) (W.contents output.new)) }
 {
     let mut replies = io::sink();
-    match run_to(alloc, input, &mut replies, hive) {
-        Ok(moment) => send_image(hive, moment, sequence, output),
+    match run_to(
+        alloc,
+        input,
+        &mut replies,
+        &mut seated.hive,
+        &mut seated.shares,
+    ) {
+        Ok(moment) => send_image(&seated.hive, moment, sequence, output),
         Err(fault) => Err(Stop::Script(fault)),
     }
 }
@@ -108,8 +125,8 @@ pub fn run_to_image<R: Read, W: Write>(
     ensures err { IfErr result (λ stop. ImageStops sequence stop (R.remaining input.old) (R.remaining input.new) (W.contents output.old)
         (W.contents output.new)) }
 {
-    match fresh_hive(alloc) {
-        Ok(mut hive) => image_after(alloc, &mut hive, sequence, input, output),
+    match seated_hive(alloc) {
+        Ok(mut seated) => image_after(alloc, &mut seated, sequence, input, output),
         Err(_) => Err(Stop::Memory),
     }
 }

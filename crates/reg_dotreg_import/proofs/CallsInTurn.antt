@@ -8,7 +8,7 @@ use Rattle.reg_heap.specs.Edits.{values_at}
 use Rattle.reg_model.specs.declared.call.Change.{Change}
 use Rattle.reg_model.specs.declared.call.Change.TheVariants.{OpenRoot, CreateKey, SetValue, DeleteValue, DeleteTree, Close}
 use Rattle.reg_model.specs.declared.reply.ChangeReply.{ChangeReply}
-use Rattle.reg_calls.specs.Views.{View, IsAccepted, entry_of}
+use Rattle.reg_calls.specs.Views.{View, IsAccepted, entry_of, next_of}
 use Rattle.reg_dotreg_reader.specs.declared.entry.Entry.{Entry}
 use Rattle.reg_dotreg_reader.specs.declared.entry.Entry.TheVariants.{Key, GoneKey, Value, GoneValue}
 use Rattle.reg_dotreg_reader.specs.declared.entry.Numbered.{Numbered}
@@ -30,15 +30,16 @@ pub accepts-one : (moment : ℕ) (change : Change) (old new : View) (reply : Cha
     Accepts moment old (change ∷ []) new
 accepts-one moment change old new reply a = (new, reply, a, refl)
 
--- each is one entry of the journal
+-- each has a number
 pub accepts-length : (moment : ℕ) (changes : List Change) (old new : View) → Accepts moment old changes new →
-    length new.journal ≡ length old.journal + length changes
-accepts-length moment [] old new same = ap (λ (v : View). length v.journal) same ∙ omega (arith)
+    next_of new ≡ next_of old + length changes
+accepts-length moment [] old new same = ap next_of same ∙ omega (arith)
 accepts-length moment (change ∷ changes) old new a =
     let rest = accepts-length moment changes a.0 new a.3 in
     let one : length a.0.journal ≡ length old.journal + 1 =
     ap length a.2.journal ∙ length-append old.journal (entry_of old 0 moment change ∷ []) in
-    omega (arith, rest, one)
+    let base = a.2.base in
+    omega (arith, rest, one, base)
 
 -- ---- entries in turn
 
@@ -95,7 +96,7 @@ led-on now next moment h s front n old mid new same all one =
 
 -- ---- one entry
 
--- where an import stands by handles of which the key's and the journal's length are known
+-- where an import stands by handles of which the key's and the next number are known
 hands-as : (s t : Stand) (root key key' next next' : ℕ) → key' ≡ key → next' ≡ next →
     ◌≡◌ {A = Hands} (record { stand = t; root = root; key = key'; next = next' }) (record { stand = t; root = root; key = key; next = next })
 hands-as s t root key key' next next' ke ne = rw (ke, ne) refl
@@ -110,8 +111,8 @@ module _ (handles : Handles) (old new : View) (s : Stand) where
       record {
         led = subst (λ (cs : List Change). Accepts handles.moment old cs new) (sym is) a;
         last_is = hands-as s (after_entry handles.moment s e) handles.root (hands_after handles.moment h e).key handles.key
-            (length old.journal + length (calls_of_entry h e)) (length new.journal) (sym same)
-            (accepts-length handles.moment changes old new a ∙ ap (λ (cs : List Change). length old.journal + length cs) (sym is));
+            (next_of old + length (calls_of_entry h e)) (next_of new) (sym same)
+            (accepts-length handles.moment changes old new a ∙ ap (λ (cs : List Change). next_of old + length cs) (sym is));
       }
 
   pub value-made : (name : List ℕ) (kind : ℕ) (bytes : List ℕ) (handle : Option ℕ) →
@@ -169,7 +170,7 @@ module _ (handles : Handles) (v : View) (s : Stand) where
 -- a key made, once the last one's handle was closed
 pub key-made-by : (handles : Handles) (old mid new : View) (s : Stand) (path : List ℕ) (key : ℕ) (given : List ℕ) →
     Accepts handles.moment old (leaving (hands_of handles old s)) mid →
-    IsMade mid new handles.moment (CreateKey handles.root path ALL_RIGHTS None) (Some key) → ◌≡◌ {A = Option ℕ} (Some key) (Some (length mid.journal)) →
+    IsMade mid new handles.moment (CreateKey handles.root path ALL_RIGHTS None) (Some key) → ◌≡◌ {A = Option ℕ} (Some key) (Some (next_of mid)) →
     IsEntryMade handles.moment (hands_of handles old s) (Key path) old new
     (hands_of (record handles { key = key; path = given }) new (after_entry handles.moment s (Key path)))
 key-made-by handles old mid new s path key given left m number =
@@ -179,8 +180,8 @@ key-made-by handles old mid new s path key given left m number =
     let there = accepts-length handles.moment (leaving h) old mid left in
     record {
       led = all;
-      last_is = hands-as s (after_entry handles.moment s (Key path)) handles.root (length old.journal + length (leaving h)) key
-          (length old.journal + length (calls_of_entry h (Key path))) (length new.journal) (number-is key (length mid.journal) number ∙ there)
+      last_is = hands-as s (after_entry handles.moment s (Key path)) handles.root (next_of old + length (leaving h)) key
+          (next_of old + length (calls_of_entry h (Key path))) (next_of new) (number-is key (next_of mid) number ∙ there)
           (accepts-length handles.moment (calls_of_entry h (Key path)) old new all);
     }
   where
@@ -191,16 +192,16 @@ key-made-by handles old mid new s path key given left m number =
 
 -- the root opened
 pub hands-opened : (handles : Handles) (old mid : View) (reply : ChangeReply) → handles.key ≡ handles.root →
-    ◌≡◌ {A = Option ℕ} (Some handles.root) (Some (length old.journal)) → IsAccepted old mid 0 handles.moment (OpenRoot ALL_RIGHTS) reply →
+    ◌≡◌ {A = Option ℕ} (Some handles.root) (Some (next_of old)) → IsAccepted old mid 0 handles.moment (OpenRoot ALL_RIGHTS) reply →
     hands_of handles mid (begun old.keys.tree) ≡ opened old
-hands-opened handles old mid reply same number a = by (number-is handles.root (length old.journal) number)
+hands-opened handles old mid reply same number a = by (number-is handles.root (next_of old) number)
   where
     number-is : (n m : ℕ) → ◌≡◌ {A = Option ℕ} (Some n) (Some m) → n ≡ m
     number-is n m e = cc
 
-    by : handles.root ≡ length old.journal → hands_of handles mid (begun old.keys.tree) ≡ opened old
+    by : handles.root ≡ next_of old → hands_of handles mid (begun old.keys.tree) ≡ opened old
     by is =
-        let next : length mid.journal ≡ length old.journal + 1 =
+        let next : next_of mid ≡ next_of old + 1 =
         accepts-length handles.moment (OpenRoot ALL_RIGHTS ∷ []) old mid (accepts-one handles.moment (OpenRoot ALL_RIGHTS) old mid reply a) in
         rw (same, is, next) refl
 

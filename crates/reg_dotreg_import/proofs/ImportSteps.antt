@@ -15,7 +15,7 @@ use Rattle.reg_model.specs.Histories.{replay}
 use Rattle.reg_model.proofs.JournalGrowth.{replay-push}
 use Rattle.reg_model.proofs.LegalJournals.{rising-all}
 use Rattle.reg_model.proofs.AcceptedCalls.{Target, create-met, set-met, drop-met, delete-tree-met, both_false, not_false}
-use Rattle.reg_calls.specs.Views.{View, IsHive, IsAccepted, state, entry_of}
+use Rattle.reg_calls.specs.Views.{View, IsHive, IsAccepted, next_of, state, entry_of}
 use Rattle.reg_dotreg_import.specs.declared.entries.TheConstants.{ALL_RIGHTS}
 use Rattle.reg_dotreg_import.specs.ImportStops.{IsOpenAt}
 use Rattle.reg_dotreg_import.specs.Imports.{numbers_of}
@@ -40,27 +40,27 @@ stepped old new moment change reply h a =
     world-is new a.hive ∙ ap (λ (t : Tree). replay t new.journal) a.origin ∙ ap (replay old.origin) a.journal ∙ replay-push old.origin old.journal e
     ∙ ap (λ (w : World). after w e) (sym (world-is old h))
 
-pub below : (v : View) → IsHive v → AllByRecursion (λ (x : Handle). x.number < length v.journal) v.handles
-below v h = let r = rising-all v.origin v.journal h.legal in subst (AllByRecursion (λ (x : Handle). x.number < length v.journal)) (sym h.handles) r.below
+pub below : (v : View) → IsHive v → AllByRecursion (λ (x : Handle). x.number < next_of v) v.handles
+below v h = let r = rising-all v.base v.origin v.journal h.legal in subst (AllByRecursion (λ (x : Handle). x.number < next_of v)) (sym h.handles) r.below
 
 -- a handle that is opened has the number of the entry
 told : (old new : View) (moment : ℕ) (change : Change) (handle : Option ℕ) (o : Opening) → (rule_of change).opens ≡ Some o →
-    IsMade old new moment change handle → handle ≡ Some (length old.journal)
+    IsMade old new moment change handle → handle ≡ Some (next_of old)
 unfolding reply_to
 told old new moment change handle o e m =
-    m.opened ∙ ap (λ (r : ChangeReply). r.handle) m.accepted.says ∙ ap (λ (o : Option Opening). if_opened o (length old.journal)) e
+    m.opened ∙ ap (λ (r : ChangeReply). r.handle) m.accepted.says ∙ ap (λ (o : Option Opening). if_opened o (next_of old)) e
 
 number-is : (n m : ℕ) → Some n ≡ Some m → n ≡ m
 number-is n m e = cc
 
 pub key-told : (old new : View) (moment root : ℕ) (path : List ℕ) (key : Option ℕ) → IsMade old new moment (CreateKey root path ALL_RIGHTS None) key →
-    key ≡ Some (length old.journal)
+    key ≡ Some (next_of old)
 key-told old new moment root path key m =
     told old new moment (CreateKey root path ALL_RIGHTS None) key (record { path = path; mask = ALL_RIGHTS }) refl m
 
 -- ---- a handle to the root
 
-pub root-told : (old new : View) (moment : ℕ) (root : Option ℕ) → IsMade old new moment (OpenRoot ALL_RIGHTS) root → root ≡ Some (length old.journal)
+pub root-told : (old new : View) (moment : ℕ) (root : Option ℕ) → IsMade old new moment (OpenRoot ALL_RIGHTS) root → root ≡ Some (next_of old)
 root-told old new moment root m = told old new moment (OpenRoot ALL_RIGHTS) root (record { path = []; mask = ALL_RIGHTS }) refl m
 
 module _ (old new : View) (moment : ℕ) (hive : IsHive old) where
@@ -73,15 +73,15 @@ module _ (old new : View) (moment : ℕ) (hive : IsHive old) where
   root-opened root m =
       let w = root-world (Some root) m in
       let e = entry_of old 0 moment (OpenRoot ALL_RIGHTS) in
-      let number = number-is root (length old.journal) (root-told old new moment (Some root) m) in
+      let number = number-is root (next_of old) (root-told old new moment (Some root) m) in
       record {
         hive = m.accepted.hive;
         tree_is = ap (λ (w : World). w.tree) w;
         root_open = subst (λ (n : ℕ). IsOpenAt new.handles n []) (sym number)
-            (subst (λ (hs : List Handle). IsOpenAt hs (length old.journal) []) (sym (ap (λ (w : World). w.handles) w))
+            (subst (λ (hs : List Handle). IsOpenAt hs (next_of old) []) (sym (ap (λ (w : World). w.handles) w))
             (open-new old.handles e [] refl (below old hive)));
         own = subst (λ (n : ℕ). AreOpen (numbers_of old.handles) n n new.handles) (sym number)
-            (subst (λ (hs : List Handle). AreOpen (numbers_of old.handles) (length old.journal) (length old.journal) hs)
+            (subst (λ (hs : List Handle). AreOpen (numbers_of old.handles) (next_of old) (next_of old) hs)
             (sym (ap (λ (w : World). w.handles) w)) (open-first old.handles (opened e [] ALL_RIGHTS) (below old hive)));
       }
 
@@ -147,10 +147,10 @@ module _ (before : List ℕ) (old new : View) (moment root : ℕ) (tree : Tree) 
       let at = led-here before old new moment root root tree r root [] r.root_open met.target in
       let e = entry_of old 0 moment change in
       let w = stepped old new moment change m.reply r.hive m.accepted in
-      let number = number-is key (length old.journal) (key-told old new moment root path (Some key) m) in
+      let number = number-is key (next_of old) (key-told old new moment root path (Some key) m) in
       let here = path_from 0 root old.handles path in
       let hs = sym (ap (λ (w : World). w.handles) w) in
-      let root_below = open-below old.handles root (length old.journal) [] (below old r.hive) r.root_open in
+      let root_below = open-below old.handles root (next_of old) [] (below old r.hive) r.root_open in
       record {
         rooted = record {
           hive = m.accepted.hive;
@@ -158,11 +158,11 @@ module _ (before : List ℕ) (old new : View) (moment root : ℕ) (tree : Tree) 
               ∙ ap (λ (t : Tree). with_keys t [] (path_of path) None moment) r.tree_is;
           root_open = subst (λ (hs : List Handle). IsOpenAt hs root []) hs (open-more old.handles (opened e here ALL_RIGHTS) root [] root_below r.root_open);
           own = subst (λ (n : ℕ). AreOpen before root n new.handles) (sym number)
-              (subst (AreOpen before root (length old.journal)) hs (open-second before root old.handles (opened e here ALL_RIGHTS) r.own root_below));
+              (subst (AreOpen before root (next_of old)) hs (open-second before root old.handles (opened e here ALL_RIGHTS) r.own root_below));
         };
         key_open = subst (λ (n : ℕ). IsOpenAt new.handles n (folded_path path)) (sym number)
-            (subst (λ (p : Path). IsOpenAt new.handles (length old.journal) (p ++ folded_path path)) at
-            (subst (λ (hs : List Handle). IsOpenAt hs (length old.journal) here) hs (open-new old.handles e here refl (below old r.hive))));
+            (subst (λ (p : Path). IsOpenAt new.handles (next_of old) (p ++ folded_path path)) at
+            (subst (λ (hs : List Handle). IsOpenAt hs (next_of old) here) hs (open-new old.handles e here refl (below old r.hive))));
         good = not_false (is_path path) (both_false (not (is_path path)) (not (is_mask ALL_RIGHTS)) met.good).0;
       }
 

@@ -8,7 +8,7 @@ use Rattle.reg_heap.specs.Edits.{folded_path, values_at}
 use Rattle.reg_model.specs.declared.call.Change.{Change}
 use Rattle.reg_model.specs.declared.call.Change.TheVariants.{OpenRoot, CreateKey, SetValue, DeleteValue, DeleteTree, Close}
 use Rattle.reg_model.specs.declared.reply.ChangeReply.{ChangeReply}
-use Rattle.reg_calls.specs.Views.{View, IsAccepted}
+use Rattle.reg_calls.specs.Views.{View, next_of, IsAccepted}
 use Rattle.reg_dotreg_reader.specs.declared.entry.Entry.{Entry}
 use Rattle.reg_dotreg_reader.specs.declared.entry.Entry.TheVariants.{Key, GoneKey, Value, GoneValue}
 use Rattle.reg_dotreg_import.specs.Imports.{Stand, begun, after_entry}
@@ -70,7 +70,7 @@ calls_of moment h (e ∷ es) = calls_of_entry h e ++ calls_of moment (hands_afte
 
 -- once the root was opened in a hive
 abbrev pub opened : View → Hands
-opened old = record { stand = begun old.keys.tree; root = length old.journal; key = length old.journal; next = length old.journal + 1 }
+opened old = record { stand = begun old.keys.tree; root = next_of old; key = next_of old; next = next_of old + 1 }
 
 -- the calls of a whole import: the root opened, those of the entries, and both handles closed
 abbrev pub import_calls : ℕ → View → List Entry → List Change

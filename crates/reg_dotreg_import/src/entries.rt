@@ -11,7 +11,7 @@ use crate::ImportFault;
 use crate::lookup::{lacks_key, lacks_value};
 use crate::made::{close, make};
 use reg_callbacks::Callback;
-use reg_calls::Hive;
+use reg_calls::SeatedHive;
 use reg_dotreg_reader::{Entry, Numbered};
 use reg_model::{Bytes, Change};
 use std::alloc::Global;
@@ -34,12 +34,12 @@ struct Handles {
 
 impl Handles {
     /// Closes the handle that values went to, unless it is the root's.
-    fn leave<C: Callback>(&self, hive: &mut Hive<C>)
-        ensures callbacks { callbacks_of hive.new ≡ callbacks_of hive.old }
-        ensures rooted { (before : List ℕ) → (s : Stand) → IsImporting before self.now (view_of hive.old) s →
-            IsRooted before self.now.root self.now.root (view_of hive.new) s.tree }
-        ensures led { (before : List ℕ) → (s : Stand) → IsImporting before self.now (view_of hive.old) s →
-            Accepts self.now.moment (view_of hive.old) (leaving (hands_of self.now (view_of hive.old) s)) (view_of hive.new) }
+    fn leave<C: Callback>(&self, hive: &mut SeatedHive<C>)
+        ensures callbacks { callbacks_of hive.new.hive ≡ callbacks_of hive.old.hive }
+        ensures rooted { (before : List ℕ) → (s : Stand) → IsImporting before self.now (view_of hive.old.hive) s →
+            IsRooted before self.now.root self.now.root (view_of hive.new.hive) s.tree }
+        ensures led { (before : List ℕ) → (s : Stand) → IsImporting before self.now (view_of hive.old.hive) s →
+            Accepts self.now.moment (view_of hive.old.hive) (leaving (hands_of self.now (view_of hive.old.hive) s)) (view_of hive.new.hive) }
     {
         if self.key != self.root {
             close(hive, self.moment, self.key);
@@ -49,20 +49,20 @@ impl Handles {
     /// Makes a key where it isn't there, and goes on with its values.
     fn key<C: Callback>(
         &mut self,
-        hive: &mut Hive<C>,
+        hive: &mut SeatedHive<C>,
         line: u64,
         path: Bytes,
     ) -> Result<(), ImportFault>
-        ensures callbacks { callbacks_of hive.new ≡ callbacks_of hive.old }
+        ensures callbacks { callbacks_of hive.new.hive ≡ callbacks_of hive.old.hive }
         ensures moment { self.new.moment ≡ self.old.moment }
-        ensures ok { (before : List ℕ) → (s : Stand) → IsImporting before self.old (view_of hive.old) s →
-            OnOk result (IsImporting before self.new (view_of hive.new) (after_entry self.old.moment s (Entry.Key path))) }
-        ensures led { (before : List ℕ) → (s : Stand) → IsImporting before self.old (view_of hive.old) s →
-            OnOk result (IsEntryMade self.old.moment (hands_of self.old (view_of hive.old) s) (Entry.Key path) (view_of hive.old) (view_of hive.new)
-            (hands_of self.new (view_of hive.new) (after_entry self.old.moment s (Entry.Key path)))) }
-        ensures err { (before : List ℕ) → (s : Stand) → IsImporting before self.old (view_of hive.old) s →
-            IfErr result (IsStoppedAt (asks_of C.answers hive.old) self.old.moment line (hands_of self.old (view_of hive.old) s) (Entry.Key path)
-            (view_of hive.old) (view_of hive.new)) }
+        ensures ok { (before : List ℕ) → (s : Stand) → IsImporting before self.old (view_of hive.old.hive) s →
+            OnOk result (IsImporting before self.new (view_of hive.new.hive) (after_entry self.old.moment s (Entry.Key path))) }
+        ensures led { (before : List ℕ) → (s : Stand) → IsImporting before self.old (view_of hive.old.hive) s →
+            OnOk result (IsEntryMade self.old.moment (hands_of self.old (view_of hive.old.hive) s) (Entry.Key path) (view_of hive.old.hive) (view_of hive.new.hive)
+            (hands_of self.new (view_of hive.new.hive) (after_entry self.old.moment s (Entry.Key path)))) }
+        ensures err { (before : List ℕ) → (s : Stand) → IsImporting before self.old (view_of hive.old.hive) s →
+            IfErr result (IsStoppedAt (asks_of C.answers hive.old.hive) self.old.moment line (hands_of self.old (view_of hive.old.hive) s) (Entry.Key path)
+            (view_of hive.old.hive) (view_of hive.new.hive)) }
     {
         let copy = path.try_clone(self.alloc)?;
         self.leave(hive);
@@ -83,21 +83,21 @@ impl Handles {
     /// Takes a key away with all that is below it, where it is there.
     fn gone_key<C: Callback>(
         &self,
-        hive: &mut Hive<C>,
+        hive: &mut SeatedHive<C>,
         line: u64,
         path: Bytes,
     ) -> Result<(), ImportFault>
-        ensures callbacks { callbacks_of hive.new ≡ callbacks_of hive.old }
-        ensures ok { (before : List ℕ) → (s : Stand) → IsImporting before self.now (view_of hive.old) s →
-            OnOk result (IsImporting before self.now (view_of hive.new) (after_entry self.now.moment s (Entry.GoneKey path))) }
-        ensures led { (before : List ℕ) → (s : Stand) → IsImporting before self.now (view_of hive.old) s →
-            OnOk result (IsEntryMade self.now.moment (hands_of self.now (view_of hive.old) s) (Entry.GoneKey path) (view_of hive.old) (view_of hive.new)
-            (hands_of self.now (view_of hive.new) (after_entry self.now.moment s (Entry.GoneKey path)))) }
-        ensures err { (before : List ℕ) → (s : Stand) → IsImporting before self.now (view_of hive.old) s →
-            IfErr result (IsStoppedAt (asks_of C.answers hive.old) self.now.moment line (hands_of self.now (view_of hive.old) s) (Entry.GoneKey path)
-            (view_of hive.old) (view_of hive.new)) }
+        ensures callbacks { callbacks_of hive.new.hive ≡ callbacks_of hive.old.hive }
+        ensures ok { (before : List ℕ) → (s : Stand) → IsImporting before self.now (view_of hive.old.hive) s →
+            OnOk result (IsImporting before self.now (view_of hive.new.hive) (after_entry self.now.moment s (Entry.GoneKey path))) }
+        ensures led { (before : List ℕ) → (s : Stand) → IsImporting before self.now (view_of hive.old.hive) s →
+            OnOk result (IsEntryMade self.now.moment (hands_of self.now (view_of hive.old.hive) s) (Entry.GoneKey path) (view_of hive.old.hive) (view_of hive.new.hive)
+            (hands_of self.now (view_of hive.new.hive) (after_entry self.now.moment s (Entry.GoneKey path)))) }
+        ensures err { (before : List ℕ) → (s : Stand) → IsImporting before self.now (view_of hive.old.hive) s →
+            IfErr result (IsStoppedAt (asks_of C.answers hive.old.hive) self.now.moment line (hands_of self.now (view_of hive.old.hive) s) (Entry.GoneKey path)
+            (view_of hive.old.hive) (view_of hive.new.hive)) }
     {
-        if lacks_key(hive.tree(), path.as_slice()) {
+        if lacks_key(hive.hive.tree(), path.as_slice()) {
             return Ok(());
         }
         let change = Change::DeleteTree {
@@ -111,21 +111,21 @@ impl Handles {
     /// Sets a value of the key that values go to.
     fn value<C: Callback>(
         &self,
-        hive: &mut Hive<C>,
+        hive: &mut SeatedHive<C>,
         line: u64,
         name: Bytes,
         kind: u32,
         bytes: Bytes,
     ) -> Result<(), ImportFault>
-        ensures callbacks { callbacks_of hive.new ≡ callbacks_of hive.old }
-        ensures ok { (before : List ℕ) → (s : Stand) → IsImporting before self.now (view_of hive.old) s →
-            OnOk result (IsImporting before self.now (view_of hive.new) (after_entry self.now.moment s (Entry.Value name kind bytes))) }
-        ensures led { (before : List ℕ) → (s : Stand) → IsImporting before self.now (view_of hive.old) s →
-            OnOk result (IsEntryMade self.now.moment (hands_of self.now (view_of hive.old) s) (Entry.Value name kind bytes) (view_of hive.old) (view_of hive.new)
-            (hands_of self.now (view_of hive.new) (after_entry self.now.moment s (Entry.Value name kind bytes)))) }
-        ensures err { (before : List ℕ) → (s : Stand) → IsImporting before self.now (view_of hive.old) s →
-            IfErr result (IsStoppedAt (asks_of C.answers hive.old) self.now.moment line (hands_of self.now (view_of hive.old) s) (Entry.Value name kind bytes)
-            (view_of hive.old) (view_of hive.new)) }
+        ensures callbacks { callbacks_of hive.new.hive ≡ callbacks_of hive.old.hive }
+        ensures ok { (before : List ℕ) → (s : Stand) → IsImporting before self.now (view_of hive.old.hive) s →
+            OnOk result (IsImporting before self.now (view_of hive.new.hive) (after_entry self.now.moment s (Entry.Value name kind bytes))) }
+        ensures led { (before : List ℕ) → (s : Stand) → IsImporting before self.now (view_of hive.old.hive) s →
+            OnOk result (IsEntryMade self.now.moment (hands_of self.now (view_of hive.old.hive) s) (Entry.Value name kind bytes) (view_of hive.old.hive) (view_of hive.new.hive)
+            (hands_of self.now (view_of hive.new.hive) (after_entry self.now.moment s (Entry.Value name kind bytes)))) }
+        ensures err { (before : List ℕ) → (s : Stand) → IsImporting before self.now (view_of hive.old.hive) s →
+            IfErr result (IsStoppedAt (asks_of C.answers hive.old.hive) self.now.moment line (hands_of self.now (view_of hive.old.hive) s) (Entry.Value name kind bytes)
+            (view_of hive.old.hive) (view_of hive.new.hive)) }
     {
         let change = Change::SetValue {
             handle: self.key,
@@ -140,21 +140,21 @@ impl Handles {
     /// Takes a value of that key away, where it has one of that name.
     fn gone_value<C: Callback>(
         &self,
-        hive: &mut Hive<C>,
+        hive: &mut SeatedHive<C>,
         line: u64,
         name: Bytes,
     ) -> Result<(), ImportFault>
-        ensures callbacks { callbacks_of hive.new ≡ callbacks_of hive.old }
-        ensures ok { (before : List ℕ) → (s : Stand) → IsImporting before self.now (view_of hive.old) s →
-            OnOk result (IsImporting before self.now (view_of hive.new) (after_entry self.now.moment s (Entry.GoneValue name))) }
-        ensures led { (before : List ℕ) → (s : Stand) → IsImporting before self.now (view_of hive.old) s →
-            OnOk result (IsEntryMade self.now.moment (hands_of self.now (view_of hive.old) s) (Entry.GoneValue name) (view_of hive.old) (view_of hive.new)
-            (hands_of self.now (view_of hive.new) (after_entry self.now.moment s (Entry.GoneValue name)))) }
-        ensures err { (before : List ℕ) → (s : Stand) → IsImporting before self.now (view_of hive.old) s →
-            IfErr result (IsStoppedAt (asks_of C.answers hive.old) self.now.moment line (hands_of self.now (view_of hive.old) s) (Entry.GoneValue name)
-            (view_of hive.old) (view_of hive.new)) }
+        ensures callbacks { callbacks_of hive.new.hive ≡ callbacks_of hive.old.hive }
+        ensures ok { (before : List ℕ) → (s : Stand) → IsImporting before self.now (view_of hive.old.hive) s →
+            OnOk result (IsImporting before self.now (view_of hive.new.hive) (after_entry self.now.moment s (Entry.GoneValue name))) }
+        ensures led { (before : List ℕ) → (s : Stand) → IsImporting before self.now (view_of hive.old.hive) s →
+            OnOk result (IsEntryMade self.now.moment (hands_of self.now (view_of hive.old.hive) s) (Entry.GoneValue name) (view_of hive.old.hive) (view_of hive.new.hive)
+            (hands_of self.now (view_of hive.new.hive) (after_entry self.now.moment s (Entry.GoneValue name)))) }
+        ensures err { (before : List ℕ) → (s : Stand) → IsImporting before self.now (view_of hive.old.hive) s →
+            IfErr result (IsStoppedAt (asks_of C.answers hive.old.hive) self.now.moment line (hands_of self.now (view_of hive.old.hive) s) (Entry.GoneValue name)
+            (view_of hive.old.hive) (view_of hive.new.hive)) }
     {
-        if lacks_value(hive.tree(), self.path.as_slice(), name.as_slice()) {
+        if lacks_value(hive.hive.tree(), self.path.as_slice(), name.as_slice()) {
             return Ok(());
         }
         let change = Change::DeleteValue {
@@ -167,19 +167,19 @@ impl Handles {
 
     fn apply<C: Callback>(
         &mut self,
-        hive: &mut Hive<C>,
+        hive: &mut SeatedHive<C>,
         numbered: Numbered,
     ) -> Result<(), ImportFault>
-        ensures callbacks { callbacks_of hive.new ≡ callbacks_of hive.old }
+        ensures callbacks { callbacks_of hive.new.hive ≡ callbacks_of hive.old.hive }
         ensures moment { self.new.moment ≡ self.old.moment }
-        ensures ok { (before : List ℕ) → (s : Stand) → IsImporting before self.old (view_of hive.old) s →
-            OnOk result (IsImporting before self.new (view_of hive.new) (after_entry self.old.moment s numbered.entry)) }
-        ensures led { (before : List ℕ) → (s : Stand) → IsImporting before self.old (view_of hive.old) s →
-            OnOk result (IsEntryMade self.old.moment (hands_of self.old (view_of hive.old) s) numbered.entry (view_of hive.old) (view_of hive.new)
-            (hands_of self.new (view_of hive.new) (after_entry self.old.moment s numbered.entry))) }
-        ensures err { (before : List ℕ) → (s : Stand) → IsImporting before self.old (view_of hive.old) s →
-            IfErr result (IsStoppedAt (asks_of C.answers hive.old) self.old.moment numbered.line (hands_of self.old (view_of hive.old) s) numbered.entry
-            (view_of hive.old) (view_of hive.new)) }
+        ensures ok { (before : List ℕ) → (s : Stand) → IsImporting before self.old (view_of hive.old.hive) s →
+            OnOk result (IsImporting before self.new (view_of hive.new.hive) (after_entry self.old.moment s numbered.entry)) }
+        ensures led { (before : List ℕ) → (s : Stand) → IsImporting before self.old (view_of hive.old.hive) s →
+            OnOk result (IsEntryMade self.old.moment (hands_of self.old (view_of hive.old.hive) s) numbered.entry (view_of hive.old.hive) (view_of hive.new.hive)
+            (hands_of self.new (view_of hive.new.hive) (after_entry self.old.moment s numbered.entry))) }
+        ensures err { (before : List ℕ) → (s : Stand) → IsImporting before self.old (view_of hive.old.hive) s →
+            IfErr result (IsStoppedAt (asks_of C.answers hive.old.hive) self.old.moment numbered.line (hands_of self.old (view_of hive.old.hive) s) numbered.entry
+            (view_of hive.old.hive) (view_of hive.new.hive)) }
     {
         let Numbered { line, entry } = numbered;
         match entry {
@@ -192,19 +192,19 @@ impl Handles {
 
     fn apply_all<C: Callback>(
         &mut self,
-        hive: &mut Hive<C>,
+        hive: &mut SeatedHive<C>,
         entries: Vec<Numbered>,
     ) -> Result<(), ImportFault>
-        ensures callbacks { callbacks_of hive.new ≡ callbacks_of hive.old }
+        ensures callbacks { callbacks_of hive.new.hive ≡ callbacks_of hive.old.hive }
         ensures moment { self.new.moment ≡ self.old.moment }
-        ensures ok { (before : List ℕ) → (s : Stand) → IsImporting before self.old (view_of hive.old) s →
-            OnOk result (IsImporting before self.new (view_of hive.new) (after_entries self.old.moment s (entries_of entries.items))) }
-        ensures led { (before : List ℕ) → (s : Stand) → IsImporting before self.old (view_of hive.old) s →
-            OnOk result (AreEntriesMade self.old.moment (hands_of self.old (view_of hive.old) s) (entries_of entries.items) (view_of hive.old)
-            (view_of hive.new) (hands_of self.new (view_of hive.new) (after_entries self.old.moment s (entries_of entries.items)))) }
-        ensures err { (before : List ℕ) → (s : Stand) → IsImporting before self.old (view_of hive.old) s →
-            IfErr result (λ fault. StopsAmong (asks_of C.answers hive.old) self.old.moment fault (hands_of self.old (view_of hive.old) s) entries.items
-            (view_of hive.old) (view_of hive.new)) }
+        ensures ok { (before : List ℕ) → (s : Stand) → IsImporting before self.old (view_of hive.old.hive) s →
+            OnOk result (IsImporting before self.new (view_of hive.new.hive) (after_entries self.old.moment s (entries_of entries.items))) }
+        ensures led { (before : List ℕ) → (s : Stand) → IsImporting before self.old (view_of hive.old.hive) s →
+            OnOk result (AreEntriesMade self.old.moment (hands_of self.old (view_of hive.old.hive) s) (entries_of entries.items) (view_of hive.old.hive)
+            (view_of hive.new.hive) (hands_of self.new (view_of hive.new.hive) (after_entries self.old.moment s (entries_of entries.items)))) }
+        ensures err { (before : List ℕ) → (s : Stand) → IsImporting before self.old (view_of hive.old.hive) s →
+            IfErr result (λ fault. StopsAmong (asks_of C.answers hive.old.hive) self.old.moment fault (hands_of self.old (view_of hive.old.hive) s) entries.items
+            (view_of hive.old.hive) (view_of hive.new.hive)) }
     {
         for numbered in entries {
             self.apply(hive, numbered)?;
@@ -225,18 +225,18 @@ impl Handles {
 /// be open, and the hive is of use to nobody: drop it.
 pub fn import<C: Callback>(
     alloc: Global,
-    hive: &mut Hive<C>,
+    hive: &mut SeatedHive<C>,
     moment: u64,
     entries: Vec<Numbered>,
 ) -> Result<(), ImportFault>
-    ensures callbacks { callbacks_of hive.new ≡ callbacks_of hive.old }
-    ensures ok { OnOk result ((view_of hive.new).keys.tree ≡ imported moment (view_of hive.old).keys.tree (entries_of entries.items)) }
-    ensures calls { OnOk result (Accepts moment (view_of hive.old) (import_calls moment (view_of hive.old) (entries_of entries.items)) (view_of hive.new)) }
-    ensures handles { OnOk result (numbers_of (view_of hive.new).handles ≡ numbers_of (view_of hive.old).handles) }
-    ensures err { IfErr result (λ fault. ImportStops (asks_of C.answers hive.old) moment fault (view_of hive.old) entries.items (view_of hive.new)) }
+    ensures callbacks { callbacks_of hive.new.hive ≡ callbacks_of hive.old.hive }
+    ensures ok { OnOk result ((view_of hive.new.hive).keys.tree ≡ imported moment (view_of hive.old.hive).keys.tree (entries_of entries.items)) }
+    ensures calls { OnOk result (Accepts moment (view_of hive.old.hive) (import_calls moment (view_of hive.old.hive) (entries_of entries.items)) (view_of hive.new.hive)) }
+    ensures handles { OnOk result (numbers_of (view_of hive.new.hive).handles ≡ numbers_of (view_of hive.old.hive).handles) }
+    ensures err { IfErr result (λ fault. ImportStops (asks_of C.answers hive.old.hive) moment fault (view_of hive.old.hive) entries.items (view_of hive.new.hive)) }
 {
     // Only for its clauses: what is true of every hive.
-    let _ = hive.len();
+    let _ = hive.hive.len();
     let change = Change::OpenRoot { mask: ALL_RIGHTS };
     let Some(root) = make(hive, moment, 0, change)? else {
         unreachable!()

@@ -9,21 +9,21 @@ ghost use Rattle.reg_dotreg_import.specs.Internal.Standing.{IsMade, IsFaultOf};
 
 use crate::ImportFault;
 use reg_callbacks::Callback;
-use reg_calls::Hive;
+use reg_calls::SeatedHive;
 use reg_model::Change;
 use reg_model::statuses::NOT_ENOUGH_MEMORY;
 
 /// Makes a change in session 0, and tells the handle that it opened. Where it is refused, nothing changed.
 pub fn make<C: Callback>(
-    hive: &mut Hive<C>,
+    hive: &mut SeatedHive<C>,
     moment: u64,
     line: u64,
     change: Change,
 ) -> Result<Option<u64>, ImportFault>
-    ensures callbacks { callbacks_of hive.new ≡ callbacks_of hive.old }
-    ensures ok { IfOk result (λ handle. IsMade (view_of hive.old) (view_of hive.new) moment change handle) }
-    ensures same { IfErr result (λ _. view_of hive.new ≡ view_of hive.old) }
-    ensures err { IfErr result (λ fault. IsFaultOf (asks_of C.answers hive.old) (view_of hive.old) moment line change fault) }
+    ensures callbacks { callbacks_of hive.new.hive ≡ callbacks_of hive.old.hive }
+    ensures ok { IfOk result (λ handle. IsMade (view_of hive.old.hive) (view_of hive.new.hive) moment change handle) }
+    ensures same { IfErr result (λ _. view_of hive.new.hive ≡ view_of hive.old.hive) }
+    ensures err { IfErr result (λ fault. IsFaultOf (asks_of C.answers hive.old.hive) (view_of hive.old.hive) moment line change fault) }
 {
     let reply = hive.apply(0, moment, change);
     let status = reply.status;
@@ -37,10 +37,10 @@ pub fn make<C: Callback>(
 }
 
 /// Closes a handle of session 0. That is never refused.
-pub fn close<C: Callback>(hive: &mut Hive<C>, moment: u64, handle: u64)
-    ensures callbacks { callbacks_of hive.new ≡ callbacks_of hive.old }
-    ensures closed { IsHive (view_of hive.old) → is_some (look 0 handle (view_of hive.old).handles) ≡ true →
-        (reply : ChangeReply) × IsAccepted (view_of hive.old) (view_of hive.new) 0 moment (Change.Close handle) reply }
+pub fn close<C: Callback>(hive: &mut SeatedHive<C>, moment: u64, handle: u64)
+    ensures callbacks { callbacks_of hive.new.hive ≡ callbacks_of hive.old.hive }
+    ensures closed { IsHive (view_of hive.old.hive) → is_some (look 0 handle (view_of hive.old.hive).handles) ≡ true →
+        (reply : ChangeReply) × IsAccepted (view_of hive.old.hive) (view_of hive.new.hive) 0 moment (Change.Close handle) reply }
 {
     let _ = hive.apply(0, moment, Change::Close { handle });
 }

@@ -1,10 +1,8 @@
 -- What an edit did, put together of what its steps did.
-use Rattle.std.proofs.Common.{◌≡◌, ◌∙◌, ◌+◌, ◌≤◌, ℕ, Bool, true, false, true≢false, List, [], length, map, ap, sym, subst}
+use Rattle.std.proofs.Common.{◌≡◌, ◌∙◌, ℕ, Bool, true, false, true≢false, List, [], map, ap, sym, subst}
 use Rattle.std.specs.Prelude.{Option}
 use Rattle.reg_text.specs.Failures.{Stays}
 use Rattle.std.specs.Io.KnownBytes.{Appends, Consumes, IsAtEnd}
-use Rattle.reg_heap.specs.ByteWords.{word}
-use Rattle.reg_heap.specs.declared.limits.TheConstants.{BINS_LIMIT}
 use Rattle.reg_model.specs.Callbacks.{Callbacks, no_callbacks}
 use Rattle.reg_callbacks.specs.Asking.{Answers, asks}
 use Rattle.reg_callbacks.specs.declared.row.Row.{Row}
@@ -18,9 +16,6 @@ use Rattle.reg_script.specs.declared.engine.ScriptFault.{ScriptFault}
 use Rattle.reg_script.specs.declared.failed.FailedLine.{FailedLine}
 use Rattle.reg_script.specs.declared.failed.StrictFault.{StrictFault}
 use Rattle.reg_script.specs.declared.failed.StrictFault.TheVariants.{Script as ByFault, Line as AtLine}
-use Rattle.reg_tree_image.specs.declared.LoadFault.{LoadFault}
-use Rattle.reg_tree_image.specs.Loads.{MeetsFault, IsRefused}
-use Rattle.reg_image.specs.Loads.{IsLoaded}
 use Rattle.reg_edits.specs.Edits.{Opens, Leads, IsHalted, RunStops, Edits, EditStops, EditBlames, are_changed, next_sequence}
 use Rattle.reg_edits.specs.declared.edits.Edited.{Edited}
 use Rattle.reg_edits.specs.declared.edits.EditFault.{EditFault}
@@ -31,16 +26,6 @@ use Rattle.reg_edits.proofs.KeptKeys.{script_kept}
 pub none_asked : {C : Type 0} (answers : C → Answers) (rows : List (Row C)) → rows ≡ [] →
     asks (map (λ row. answers row.callback) rows) ≡ no_callbacks
 none_asked {C = C} answers rows none = ap (λ (some : List (Row C)). asks (map (λ row. answers row.callback) some)) none
-
--- ---- the load
-
-pub opens : (unread left : Option (List ℕ)) (hive : View) (sequence : ℕ) →
-    ((image : List ℕ) × Consumes unread left image × IsLoaded image hive × (sequence ≡ word image 4)) → Opens unread left hive sequence
-opens unread left hive sequence h = record { image = h.0; consumed = h.1; loaded = h.2; numbered = h.3 }
-
-pub met : (fault : LoadFault) (unread left : Option (List ℕ)) →
-    ((image : List ℕ) × Consumes unread left image × (length image ≤ 4096 + BINS_LIMIT) × IsRefused fault image left) → MeetsFault fault unread left
-met fault unread left h = record { image = h.0; consumed = h.1; within = h.2; refused = h.3 }
 
 -- ---- the script
 

@@ -7,9 +7,10 @@ ghost use Rattle.reg_callbacks.specs.Lists.{rows_of};
 ghost use Rattle.reg_calls.specs.HiveView.{view_of, callbacks_of};
 ghost use Rattle.reg_edits.specs.Edits.{next_sequence as following, are_changed, Leads, RunStops, Edits, EditStops, EditBlames, IsFreshHive};
 
+use crate::loading::{LoadedHive, load_seated};
 use reg_callbacks::{Callback, NoCallback};
-use reg_calls::{Hive, NewFault};
-use reg_image::{LoadFault, NumberedHive, load_numbered};
+use reg_calls::{Hive, NewFault, SeatedHive};
+use reg_image::LoadFault;
 use reg_script::{
     FRESH_DESCRIPTOR, FailedLine, Ran, ScriptFault, StrictFault, run_counted, run_strictly,
 };
@@ -34,7 +35,7 @@ pub struct Edited {
 /// What ended an edit before there was anything to save.
 #[derive(Debug, Drop)]
 pub enum EditFault {
-    /// The image doesn't load; nothing was read of the script.
+    /// The image doesn't load, or there is no memory for its hive; nothing was read of the script.
     Load(LoadFault),
     /// The script ended early.
     Script(ScriptFault),
@@ -64,11 +65,10 @@ pub fn is_changed<C: Callback>(hive: &Hive<C>) -> bool
     ensures { result ≡ are_changed (view_of hive.now).journal }
 {
     for number in 0..hive.len() {
-        let Some(entry) = hive.entry(number) else {
-            unreachable!()
-        };
-        if entry.changes_keys() {
-            return true;
+        if let Some(entry) = hive.entry(number) {
+            if entry.changes_keys() {
+                return true;
+            }
         }
     }
     false
@@ -79,23 +79,37 @@ fn run_on<R: Read, W: Write, C: Callback>(
     alloc: Global,
     begin: u64,
     keeps_going: bool,
-    hive: &mut Hive<C>,
+    seated: &mut SeatedHive<C>,
     input: &mut R,
     output: &mut W,
 ) -> Result<Ran, EditFault>
-    requires { rows_of (callbacks_of hive.old) ≡ [] }
-    ensures ok { IfOk result (λ ran. Leads keeps_going begin (view_of hive.old) (view_of hive.new) ran.moment ran.failed
+    requires { rows_of (callbacks_of seated.old.hive) ≡ [] }
+    ensures ok { IfOk result (λ ran. Leads keeps_going begin (view_of seated.old.hive) (view_of seated.new.hive) ran.moment ran.failed
         (R.remaining input.old) (R.remaining input.new) (W.contents output.old) (W.contents output.new)) }
-    ensures err { IfErr result (λ fault. RunStops fault keeps_going begin (view_of hive.old) (R.remaining input.old) (R.remaining input.new)
+    ensures err { IfErr result (λ fault. RunStops fault keeps_going begin (view_of seated.old.hive) (R.remaining input.old) (R.remaining input.new)
         (W.contents output.old) (W.contents output.new)) }
 {
     if keeps_going {
-        return match run_counted(alloc, begin, input, output, hive) {
+        return match run_counted(
+            alloc,
+            begin,
+            input,
+            output,
+            &mut seated.hive,
+            &mut seated.shares,
+        ) {
             Ok(ran) => Ok(ran),
             Err(fault) => Err(EditFault::Script(fault)),
         };
     }
-    match run_strictly(alloc, begin, input, output, hive) {
+    match run_strictly(
+        alloc,
+        begin,
+        input,
+        output,
+        &mut seated.hive,
+        &mut seated.shares,
+    ) {
         Ok(moment) => Ok(Ran { moment, failed: 0 }),
         Err(StrictFault::Script(fault)) => Err(EditFault::Script(fault)),
         Err(StrictFault::Line(line)) => Err(EditFault::Line(line)),
@@ -122,8 +136,12 @@ pub fn edit<F: Source, R: Read, W: Write>(
     ensures failures { MatchResult result (λ _. Stays (F.failures file.old) (F.failures file.new))
         (λ fault. EditBlames fault (F.failures file.old) (F.failures file.new)) }
 {
-    let NumberedHive { mut hive, sequence } = load_numbered::<F, NoCallback>(alloc, file)?;
-    let ran = run_on(alloc, begin, keeps_going, &mut hive, input, output)?;
+    let LoadedHive {
+        mut seated,
+        sequence,
+    } = load_seated(alloc, file)?;
+    let ran = run_on(alloc, begin, keeps_going, &mut seated, input, output)?;
+    let hive = seated.hive;
     let is_changed = is_changed(&hive);
     Ok(Edited {
         hive,

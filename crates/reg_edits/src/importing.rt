@@ -8,11 +8,12 @@ ghost use Rattle.reg_calls.specs.HiveView.{view_of, callbacks_of};
 ghost use Rattle.reg_edits.specs.TextImports.{IsText, IsNoText, root_name, Applies, ApplyStops, Imports, ImportEnds, ReadStops, TextBlames, ImportBlames};
 
 use crate::edits::{Edited, is_changed, next_sequence};
-use reg_callbacks::{Callback, NoCallback};
-use reg_calls::Hive;
+use crate::loading::{LoadedHive, load_seated};
+use reg_callbacks::Callback;
+use reg_calls::{Hive, SeatedHive};
 use reg_dotreg_import::ImportFault;
 use reg_dotreg_reader::{Numbered, ReadFault, read_entries, units_in};
-use reg_image::{LoadFault, NumberedHive, load_numbered};
+use reg_image::LoadFault;
 use reg_text::Source;
 use std::alloc::Global;
 use std::io;
@@ -23,7 +24,7 @@ const PART: usize = 65_536;
 /// What ended an import before there was anything to save.
 #[derive(Debug, Drop)]
 pub enum ImportEnd {
-    /// The image doesn't load; nothing was read of the text.
+    /// The image doesn't load, or there is no memory for its hive; nothing was read of the text.
     Load(LoadFault),
     /// A read of the text failed.
     Input(io::Error),
@@ -81,19 +82,19 @@ fn read_text_for<C: Callback>(
 fn apply_text<C: Callback>(
     alloc: Global,
     moment: u64,
-    hive: &mut Hive<C>,
+    hive: &mut SeatedHive<C>,
     text: &[u8],
 ) -> Result<(), ImportEnd>
-    requires { rows_of (callbacks_of hive.old) ≡ [] }
-    ensures ok { OnOk result (Applies moment text.now (view_of hive.old) (view_of hive.new)) }
-    ensures err { IfErr result (λ fault. ApplyStops fault moment text.now (view_of hive.old)) }
+    requires { rows_of (callbacks_of hive.old.hive) ≡ [] }
+    ensures ok { OnOk result (Applies moment text.now (view_of hive.old.hive) (view_of hive.new.hive)) }
+    ensures err { IfErr result (λ fault. ApplyStops fault moment text.now (view_of hive.old.hive)) }
 {
-    let entries = read_text_for(alloc, hive, text)?;
+    let entries = read_text_for(alloc, &hive.hive, text)?;
     match reg_dotreg_import::import(alloc, hive, moment, entries) {
         Ok(()) => Ok(()),
         Err(fault) => {
             // Only for its clauses: what stopped it met a hive.
-            let _ = hive.len();
+            let _ = hive.hive.len();
             Err(ImportEnd::Entry(fault))
         }
     }
@@ -155,9 +156,13 @@ pub fn import<F: Source, R: Source>(
         (λ _. Stays (F.failures file.old) (F.failures file.new) × Stays (R.failures input.old) (R.failures input.new))
         (λ fault. ImportBlames fault (F.failures file.old) (F.failures file.new) (R.failures input.old) (R.failures input.new)) }
 {
-    let NumberedHive { mut hive, sequence } = load_numbered::<F, NoCallback>(alloc, file)?;
+    let LoadedHive {
+        mut seated,
+        sequence,
+    } = load_seated(alloc, file)?;
     let text = read_whole(alloc, input)?;
-    apply_text(alloc, moment, &mut hive, text.as_slice())?;
+    apply_text(alloc, moment, &mut seated, text.as_slice())?;
+    let hive = seated.hive;
     let is_changed = is_changed(&hive);
     Ok(Edited {
         hive,

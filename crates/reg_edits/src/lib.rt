@@ -4,10 +4,13 @@
 //! whether it is to be saved; [`import`] the same of the entries of a .reg text; and [`fresh_hive`] makes a hive of one root. It stands
 //! on reg_script, which runs scripts, on reg_dotreg_reader and reg_dotreg_import, and on reg_image, which loads the hive. Its types are
 //! [`Edited`], [`EditFault`], [`ImportEnd`] and [`FreshFault`].
+//!
+//! `loading` loads a file's hive and seats its sessions, `edits` has the edit and `importing` the import.
 #![tactic(auto)]
 
 mod edits;
 mod importing;
+mod loading;
 
 pub use edits::{EditFault, Edited, FreshFault, edit, fresh_hive};
 pub use importing::{ImportEnd, import};

@@ -3,26 +3,28 @@
 //! A program or a test that takes a type of this bound is checked without all that a hive is made of.
 //! Its one contract: a change that is answered 0 is an entry more, and what is counted are the entries. What else a call does only
 //! the hive's own contracts say. It stands on reg_calls. Its trait is [`Registry`], and [`PlainHive`] the type that programs choose.
-ghost use Rattle.std.specs.Prelude.{◌≡◌, ◌+◌, ◌<◌, ℕ, IfOk, length};
+ghost use Rattle.std.specs.Prelude.{◌≡◌, ◌+◌, ◌<◌, ℕ, IfOk};
 ghost use Rattle.reg_model.specs.declared.limits.TheConstants.{SESSIONS_LIMIT};
 ghost use Rattle.reg_calls.specs.HiveView.{view_of};
+ghost use Rattle.reg_calls.specs.Views.{next_of};
 
 use reg_arena::Arena;
 use reg_callbacks::{Callback, NoCallback};
-use reg_calls::{Hive, NewFault};
+use reg_calls::{Hive, NewFault, SeatedHive};
 use reg_model::{Answer, Change, ChangeReply, Notice, Query};
 use reg_tree::Tree;
 use std::alloc::Global;
 
-/// A hive on which no callback is ever registered.
-pub type PlainHive = Hive<NoCallback>;
+/// A hive with the shares of its sessions, on which no callback is ever registered.
+pub type PlainHive = SeatedHive<NoCallback>;
 
-/// What answers the calls of sessions. Each method is the one of that name of [`Hive`].
+/// What answers the calls of sessions. Each method is the one of that name of [`SeatedHive`], or of its [`Hive`].
 pub trait Registry: Drop {
-    /// How many entries its journal has.
+    /// How many entries it has had: the number of the next.
     ghost entries: { Self → ℕ };
 
-    /// One of one root, with no entry: [`Hive::new`], whose faults these are.
+    /// One of one root, with no entry, whose sessions have seats: [`Hive::new`], whose faults these are. `Memory` comes also where it
+    /// lacks for the seats.
     fn fresh(
         alloc: Global,
         root_name: &[u8],
@@ -36,10 +38,11 @@ pub trait Registry: Drop {
         requires { session < SESSIONS_LIMIT }
         ensures { result.status ≡ 0 → entries self.new ≡ entries self.old + 1 };
 
-    /// Answers a question of a session.
-    fn read(&self, session: u8, query: &Query) -> Answer;
+    /// Answers a question of a session, below 64.
+    fn read(&self, session: u8, query: &Query) -> Answer
+        requires { session < SESSIONS_LIMIT };
 
-    /// How many entries the journal has.
+    /// How many entries it has had.
     fn len(&self) -> usize
         ensures { result ≡ entries self.now };
 
@@ -60,16 +63,20 @@ pub trait Registry: Drop {
     fn tree(&self) -> &Tree;
 }
 
-impl<C: Callback> Registry for Hive<C> {
-    ghost entries = { λ hive. length (view_of hive).journal };
+impl<C: Callback> Registry for SeatedHive<C> {
+    ghost entries = { λ seated. next_of (view_of seated.hive) };
 
     fn fresh(
         alloc: Global,
         root_name: &[u8],
         descriptor: &[u8],
         moment: u64,
-    ) -> Result<Hive<C>, NewFault> {
-        Hive::new(alloc, root_name, descriptor, moment)
+    ) -> Result<SeatedHive<C>, NewFault> {
+        let hive = Hive::new(alloc, root_name, descriptor, moment)?;
+        match SeatedHive::new(hive) {
+            Ok(seated) => Ok(seated),
+            Err(_) => Err(NewFault::Memory),
+        }
     }
 
     #[tactic(auto, using(reg_calls::proofs::AcceptedChanges::accepted))]
@@ -82,15 +89,15 @@ impl<C: Callback> Registry for Hive<C> {
     }
 
     fn len(&self) -> usize {
-        self.len()
+        self.hive.len()
     }
 
     fn open_handles(&self) -> usize {
-        self.open_handles()
+        self.hive.open_handles()
     }
 
     fn pending(&self) -> usize {
-        self.pending()
+        self.hive.pending()
     }
 
     fn take_notice(&mut self, session: u8) -> Option<Notice> {
@@ -98,10 +105,10 @@ impl<C: Callback> Registry for Hive<C> {
     }
 
     fn arena(&self) -> &Arena {
-        self.arena()
+        self.hive.arena()
     }
 
     fn tree(&self) -> &Tree {
-        self.tree()
+        self.hive.tree()
     }
 }

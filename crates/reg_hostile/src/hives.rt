@@ -40,7 +40,11 @@ pub trait Subject: Registry {
 
 impl Subject for PlainHive {
     fn loaded<R: Read>(alloc: Global, input: &mut R) -> Result<PlainHive, LoadFault> {
-        load(alloc, input)
+        let hive = load(alloc, input)?;
+        match PlainHive::new(hive) {
+            Ok(seated) => Ok(seated),
+            Err(_) => Err(LoadFault::Memory),
+        }
     }
 
     fn ran<W: Write>(
@@ -50,11 +54,11 @@ impl Subject for PlainHive {
         writer: &mut W,
     ) -> Result<(), ScriptFault> {
         let mut input = script;
-        run(alloc, &mut input, writer, self)
+        run(alloc, &mut input, writer, &mut self.hive, &mut self.shares)
     }
 
     fn imaged(&self, alloc: Global) -> Result<Vec<u8>, AllocError> {
-        match image(alloc, self, 0, 0) {
+        match image(alloc, &self.hive, 0, 0) {
             Ok(bytes) => Ok(bytes),
             Err(_) => Err(AllocError),
         }
@@ -65,11 +69,11 @@ impl Subject for PlainHive {
     }
 
     fn add_callback(&mut self) -> Result<Cookie, CallbackFault<NoCallback>> {
-        self.register(NoCallback, 1)
+        self.hive.register(NoCallback, 1)
     }
 
     fn take_callback(&mut self, cookie: Cookie) -> bool {
-        self.unregister(cookie).is_ok()
+        self.hive.unregister(cookie).is_ok()
     }
 }
 

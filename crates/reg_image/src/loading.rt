@@ -6,7 +6,7 @@ ghost use Rattle.reg_heap.specs.ByteWords.{word};
 ghost use Rattle.reg_heap.specs.declared.limits.TheConstants.{BINS_LIMIT};
 ghost use Rattle.reg_text.specs.Failures.{Stays};
 ghost use Rattle.reg_callbacks.specs.Lists.{rows_of, made_of};
-ghost use Rattle.reg_calls.specs.HiveView.{view_of, callbacks_of};
+ghost use Rattle.reg_calls.specs.HiveView.{view_of, noted_of, callbacks_of};
 ghost use Rattle.reg_tree_image.specs.Loads.{IsRefused, IsBlamed};
 ghost use Rattle.reg_image.specs.Loads.{IsLoaded};
 
@@ -28,11 +28,12 @@ pub struct NumberedHive<C> {
 /// Loads a hive from an image, read as [`load_tree`](reg_tree_image::load_tree) reads it: its base block, then the bins behind it and
 /// no byte more.
 ///
-/// The hive is a new one, whose journal is empty, and no callback is registered. The faults are those of that call, and `Memory` also
-/// where it lacks for the hive itself.
+/// The hive is a new one: its journal is empty, no session has a seat, and no callback is registered. The faults are those of that call,
+/// and `Memory` also where it lacks for the hive itself.
 pub fn load<R: Source, C: Callback>(alloc: Global, input: &mut R) -> Result<Hive<C>, LoadFault>
     ensures ok { IfOk result (λ hive. (image : List ℕ) × Consumes (R.remaining input.old) (R.remaining input.new) image
         × IsLoaded image (view_of hive)) }
+    ensures noted { IfOk result (λ hive. noted_of hive ≡ []) }
     ensures callbacks { IfOk result (λ hive. (rows_of (callbacks_of hive) ≡ []) × (made_of (callbacks_of hive) ≡ 0)) }
     ensures err { IfErr result (λ fault. (image : List ℕ) × Consumes (R.remaining input.old) (R.remaining input.new) image
         × (length image ≤ 4096 + BINS_LIMIT) × IsRefused fault image (R.remaining input.new)) }
@@ -52,6 +53,7 @@ pub fn load_numbered<R: Source, C: Callback>(
 ) -> Result<NumberedHive<C>, LoadFault>
     ensures ok { IfOk result (λ numbered. (image : List ℕ) × Consumes (R.remaining input.old) (R.remaining input.new) image
         × IsLoaded image (view_of numbered.hive) × (numbered.sequence ≡ word image 4)) }
+    ensures noted { IfOk result (λ numbered. noted_of numbered.hive ≡ []) }
     ensures callbacks { IfOk result (λ numbered.
         (rows_of (callbacks_of numbered.hive) ≡ []) × (made_of (callbacks_of numbered.hive) ≡ 0)) }
     ensures err { IfErr result (λ fault. (image : List ℕ) × Consumes (R.remaining input.old) (R.remaining input.new) image

@@ -2,9 +2,9 @@
 ghost use Rattle.std.specs.Prelude.{◌==◌, length, if◌then◌else◌};
 
 use crate::asserts::assert_report;
-use crate::support::replies;
+use crate::support::{fresh, replies};
 use reg_callbacks::{Callback, CallbackFault, Cookie};
-use reg_calls::Hive;
+use reg_calls::SeatedHive;
 use reg_model::{Change, Query};
 use std::alloc::{AllocError, Global};
 use std::test::Fail;
@@ -45,9 +45,9 @@ fn returned(answer: Result<Cookie, CallbackFault>) -> u32 {
 const LINES: &str = "set 0 =v 4 x01\nset 1 =v 4 x01\ncreate 0 =B 983103\n";
 
 /// Registers a callback at 100 and one at 200, and tells what lines are replied.
-fn with_two(alloc: Global, hive: &mut Hive) -> Result<(String, u32), Fail> {
-    let low = hive.register(boxed(alloc, 87)?, 100);
-    let high = hive.register(boxed(alloc, 5)?, 200);
+fn with_two(alloc: Global, hive: &mut SeatedHive) -> Result<(String, u32), Fail> {
+    let low = hive.hive.register(boxed(alloc, 87)?, 100);
+    let high = hive.hive.register(boxed(alloc, 5)?, 200);
     match (low, high) {
         (Ok(_), Ok(cookie)) => Ok((replies(alloc, hive, LINES)?, cookie.number)),
         _ => Err("not registered".into()),
@@ -55,16 +55,16 @@ fn with_two(alloc: Global, hive: &mut Hive) -> Result<(String, u32), Fail> {
 }
 
 /// Takes out a callback, and tells what lines are replied then, and what a third callback answers that comes back from 100.
-fn with_one(alloc: Global, hive: &mut Hive, number: u32) -> Result<(String, u32), Fail> {
-    if hive.unregister(Cookie { number }).is_err() {
+fn with_one(alloc: Global, hive: &mut SeatedHive, number: u32) -> Result<(String, u32), Fail> {
+    if hive.hive.unregister(Cookie { number }).is_err() {
         return Err("not taken out".into());
     }
     let text = replies(alloc, hive, LINES)?;
-    let third = returned(hive.register(boxed(alloc, 9)?, 100));
+    let third = returned(hive.hive.register(boxed(alloc, 9)?, 100));
     Ok((text, third))
 }
 
-fn told_in(alloc: Global, hive: &mut Hive) -> Result<String, Fail> {
+fn told_in(alloc: Global, hive: &mut SeatedHive) -> Result<String, Fail> {
     let _opened = replies(alloc, hive, "root 983103\ncreate 0 =A 983103\n")?;
     let (two, number) = with_two(alloc, hive)?;
     let (one, third) = with_one(alloc, hive, number)?;
@@ -78,7 +78,7 @@ fn told_in(alloc: Global, hive: &mut Hive) -> Result<String, Fail> {
 }
 
 fn told(alloc: Global) -> Result<String, Fail> {
-    let mut hive = Hive::new(alloc, b"ROOT", &[7; 20], 0)?;
+    let mut hive = fresh(alloc)?;
     told_in(alloc, &mut hive)
 }
 

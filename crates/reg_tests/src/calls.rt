@@ -1,9 +1,11 @@
 //! A question that is copied and run, and the copies of its answer and of a journal's entry. What is compared is the `Debug` text of a copy,
 //! which has every field.
 use crate::asserts::assert_report;
-use crate::support::replies;
-use reg_calls::Hive;
+use crate::support::{fresh, replies};
+use reg_callbacks::NoCallback;
+use reg_calls::{Hive, SeatedHive};
 use reg_fixtures::PlainHive;
+use reg_journal::Share;
 use reg_model::{Bytes, Call, Entry, Outcome, Query, Step};
 use std::alloc::Global;
 use std::test::Fail;
@@ -28,14 +30,19 @@ fn copied(alloc: Global, step: &Step, outcomes: &[Outcome]) -> Result<String, Fa
 }
 
 /// What is answered to a call as the one step of a run.
-fn run_one(alloc: Global, hive: &mut PlainHive, call: Call) -> Result<Vec<Outcome>, Fail> {
+fn run_one(
+    alloc: Global,
+    hive: &mut Hive<NoCallback>,
+    shares: &mut Vec<Share>,
+    call: Call,
+) -> Result<Vec<Outcome>, Fail> {
     let step = Step {
         session: 0,
         moment: 9,
         call,
     };
     let steps = vec![in alloc; step]?;
-    Ok(hive.run(steps)?)
+    Ok(hive.run(shares, steps)?)
 }
 
 /// The text of a copy of an entry.
@@ -46,10 +53,13 @@ fn copied_entry(alloc: Global, entry: Option<&Entry>) -> Result<String, Fail> {
     }
 }
 
-fn told_in(alloc: Global, hive: &mut PlainHive) -> Result<String, Fail> {
-    let _set = replies(alloc, hive, "root 983103\nat 7\nset 0 =name 3 x0809\n")?;
+fn told_in(
+    alloc: Global,
+    hive: &mut Hive<NoCallback>,
+    shares: &mut Vec<Share>,
+) -> Result<String, Fail> {
     let call = question(alloc)?;
-    let outcomes = run_one(alloc, hive, call.try_clone(alloc)?)?;
+    let outcomes = run_one(alloc, hive, shares, call.try_clone(alloc)?)?;
     let step = Step {
         session: 3,
         moment: 9,
@@ -61,8 +71,17 @@ fn told_in(alloc: Global, hive: &mut PlainHive) -> Result<String, Fail> {
 }
 
 fn told(alloc: Global) -> Result<String, Fail> {
-    let mut hive = Hive::new(alloc, b"ROOT", &[7; 20], 0)?;
-    told_in(alloc, &mut hive)
+    let mut seated: PlainHive = fresh(alloc)?;
+    let _set = replies(
+        alloc,
+        &mut seated,
+        "root 983103\nat 7\nset 0 =name 3 x0809\n",
+    )?;
+    let SeatedHive {
+        mut hive,
+        mut shares,
+    } = seated;
+    told_in(alloc, &mut hive, &mut shares)
 }
 
 #[test]

@@ -6,7 +6,7 @@
 //! take more than a test has: a full journal, bins without room and want of memory.
 use crate::support::replies;
 use reg_callbacks::Callback;
-use reg_calls::Hive;
+use reg_calls::SeatedHive;
 use reg_fixtures::drafted;
 use reg_image::load;
 use reg_model::{Change, Query};
@@ -234,14 +234,14 @@ fn lines_of(alloc: Global, text: &str) -> Result<String, AllocError> {
 }
 
 /// Registers three callbacks, whose digits rise with their altitudes. The one in the middle answers this status, and the others 0.
-fn register(hive: &mut Hive<Noting>, status: u32, asked: &Rc<Cell<u32>>) -> Result<(), Fail> {
+fn register(hive: &mut SeatedHive<Noting>, status: u32, asked: &Rc<Cell<u32>>) -> Result<(), Fail> {
     for (altitude, digit, status) in [(100, 1, 0), (300, 3, 0), (200, 2, status)] {
         let callback = Noting {
             digit,
             status,
             asked: asked.clone()?,
         };
-        if hive.register(callback, altitude).is_err() {
+        if hive.hive.register(callback, altitude).is_err() {
             return Err("not registered".into());
         }
     }
@@ -251,7 +251,7 @@ fn register(hive: &mut Hive<Noting>, status: u32, asked: &Rc<Cell<u32>>) -> Resu
 /// What a hive replies to a call after a setup, and which callbacks were asked of the call.
 fn asked_in(
     alloc: Global,
-    hive: &mut Hive<Noting>,
+    hive: &mut SeatedHive<Noting>,
     setup: &str,
     call: &str,
     status: u32,
@@ -273,7 +273,7 @@ fn asked_of(
 ) -> Result<String, Fail> {
     let image = drafted(alloc, 5, table)?;
     let mut input = image.as_slice();
-    let mut hive = load(alloc, &mut input)?;
+    let mut hive = SeatedHive::new(load(alloc, &mut input)?)?;
     asked_in(alloc, &mut hive, setup, call, status)
 }
 

@@ -1,9 +1,8 @@
 //! Keys below one key made and deleted at random, beside a plain map of their names. A script makes and deletes them and, behind each batch,
 //! asks for all; the map tells what is replied. The lists that stand in the bins then have the map's names, in its order.
 use crate::asserts::assert_same;
-use crate::support::replies;
+use crate::support::{fresh, replies};
 use reg_arena::Arena;
-use reg_calls::Hive;
 use reg_fixtures::{PlainHive, SubkeyLists, allocated, subkeys};
 use reg_workload::Chance;
 use std::alloc::{AllocError, Global};
@@ -178,11 +177,11 @@ fn check(alloc: Global, hive: &mut PlainHive, plan: &mut Plan) -> Result<(), Fai
         plan.run_batch(making)?;
         plan.ask_for_all()?;
         check_replies(alloc, hive, plan)?;
-        check_bins(alloc, hive.arena(), plan)?;
+        check_bins(alloc, hive.hive.arena(), plan)?;
     }
     plan.delete_all()?;
     check_replies(alloc, hive, plan)?;
-    check_bins(alloc, hive.arena(), plan)
+    check_bins(alloc, hive.hive.arena(), plan)
 }
 
 fn check_end(alloc: Global, hive: &mut PlainHive) -> Result<(), Fail> {
@@ -190,11 +189,11 @@ fn check_end(alloc: Global, hive: &mut PlainHive) -> Result<(), Fail> {
     if text.as_str() != "0\n" {
         return Err("the parent isn't deleted".into());
     }
-    assert_same(&allocated(alloc, hive.arena())?, &2)
+    assert_same(&allocated(alloc, hive.hive.arena())?, &2)
 }
 
 fn check_all(alloc: Global, plan: &mut Plan) -> Result<(), Fail> {
-    let mut hive = Hive::new(alloc, b"ROOT", &[7; 20], 0)?;
+    let mut hive = fresh(alloc)?;
     check(alloc, &mut hive, plan)?;
     check_end(alloc, &mut hive)
 }

@@ -1,5 +1,5 @@
 -- Where an import stands: its handles, and the tree that was made so far.
-use Rattle.std.specs.Prelude.{◌≡◌, ◌<◌, ◌⊎◌, ℕ, true, List, [], ◌∷◌, ◌++◌, length, Option, None}
+use Rattle.std.specs.Prelude.{◌≡◌, ◌<◌, ◌⊎◌, ℕ, true, List, [], ◌∷◌, ◌++◌, Option, None}
 use Rattle.std.specs.List.{AllByRecursion}
 use Rattle.reg_names.specs.Names.{is_path}
 use Rattle.reg_heap.specs.Paths.{Tree}
@@ -11,7 +11,7 @@ use Rattle.reg_model.specs.Worlds.{Handle}
 use Rattle.reg_model.specs.Callbacks.{Callbacks}
 use Rattle.reg_model.specs.Causes.{change_cause}
 use Rattle.reg_model.specs.Replies.{refusal}
-use Rattle.reg_calls.specs.Views.{View, IsHive, IsAccepted, IsApplied, state}
+use Rattle.reg_calls.specs.Views.{View, IsHive, IsAccepted, IsApplied, next_of, state}
 use Rattle.reg_dotreg_reader.specs.declared.entry.Entry.{Entry}
 use Rattle.reg_dotreg_import.specs.Imports.{Stand, numbers_of}
 use Rattle.reg_dotreg_import.specs.ImportCalls.{Accepts, Hands, calls_of_entry, calls_of, hands_after, hands_behind}
@@ -54,7 +54,7 @@ pub record IsImporting (before : List ℕ) (handles : Handles) (v : View) (s : S
 
 -- where an import stands, by its handles
 abbrev pub hands_of : Handles → View → Stand → Hands
-hands_of handles v s = record { stand = s; root = handles.root; key = handles.key; next = length v.journal }
+hands_of handles v s = record { stand = s; root = handles.root; key = handles.key; next = next_of v }
 
 -- an entry was made by its calls, and left an import standing there
 pub record IsEntryMade (moment : ℕ) (h : Hands) (e : Entry) (old new : View) (last : Hands) : Type 0 where

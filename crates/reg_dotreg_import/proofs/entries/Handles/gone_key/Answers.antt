@@ -11,7 +11,7 @@ use Rattle.reg_dotreg_import.proofs.entries.Handles.gone_key.Goals as goal
 
 pub returns-then-lacks_key-clause-led : goal.returns-then-lacks_key-clause-led
 returns-then-lacks_key-clause-led g c before s i =
-    let old = view_of c.args.hive.now in
+    let old = view_of c.args.hive.now.hive in
     let now = c.args.self.now in
     let absent = key-absent before now old s i c.tree.result.now.tree c.args.path c.as_slice.result.now c.lacks_key.result
     (ap (λ (k : Keys). k.tree) c.tree.ensures.keys) c.as_slice.ensures c.lacks_key.ensures in
@@ -19,27 +19,27 @@ returns-then-lacks_key-clause-led g c before s i =
 
 pub returns-in_err-make-clause-err : goal.returns-in_err-make-clause-err
 returns-in_err-make-clause-err g c before s i =
-    let old = view_of c.args.hive.now in
-    let new = view_of c.make.new.hive in
+    let old = view_of c.args.hive.now.hive in
+    let new = view_of c.make.new.hive.hive in
     let now = c.args.self.now in
     let h = hands_of now old s in
     let absent = key-absent before now old s i c.tree.result.now.tree c.args.path c.as_slice.result.now c.lacks_key.result
     (ap (λ (k : Keys). k.tree) c.tree.ensures.keys) c.as_slice.ensures c.lacks_key.ensures in
-    if_err (IsStoppedAt (asks_of g.C.Callback.answers c.args.hive.now) now.moment c.args.line h (GoneKey c.args.path) old new)
+    if_err (IsStoppedAt (asks_of g.C.Callback.answers c.args.hive.now.hive) now.moment c.args.line h (GoneKey c.args.path) old new)
     c.from_residual.result _ c.from_residual.ensures.1
-    (stopped-later g.C.Callback.answers (callbacks_of c.args.hive.now) (callbacks_of c.args.hive.now) now.moment c.args.line h (GoneKey c.args.path) old old new []
+    (stopped-later g.C.Callback.answers (callbacks_of c.args.hive.now.hive) (callbacks_of c.args.hive.now.hive) now.moment c.args.line h (GoneKey c.args.path) old old new []
     (DeleteTree now.root c.args.path) _ refl
     c.in_err-make.ensures.same (gone_key-calls h c.args.path (absent ∙ c.if-lacks_key.false)) refl i.rooted.tree_is
     (asks-gone_key before now old s i c.args.path (absent ∙ c.if-lacks_key.false)) c.in_err-make.ensures.err)
 
 pub returns-clause-ok : goal.returns-clause-ok
 returns-clause-ok g c before s i =
-    gone_key-applied before c.args.self.now (view_of c.args.hive.now) s i (view_of c.make.new.hive) c.args.path c.in_ok-make.field-0 c.in_ok-make.ensures.ok
+    gone_key-applied before c.args.self.now (view_of c.args.hive.now.hive) s i (view_of c.make.new.hive.hive) c.args.path c.in_ok-make.field-0 c.in_ok-make.ensures.ok
 
 pub returns-clause-led : goal.returns-clause-led
 returns-clause-led g c before s i =
-    let old = view_of c.args.hive.now in
+    let old = view_of c.args.hive.now.hive in
     let now = c.args.self.now in
     let absent = key-absent before now old s i c.tree.result.now.tree c.args.path c.as_slice.result.now c.lacks_key.result
     (ap (λ (k : Keys). k.tree) c.tree.ensures.keys) c.as_slice.ensures c.lacks_key.ensures in
-    gone_key-made now old (view_of c.make.new.hive) s c.args.path c.in_ok-make.field-0 (absent ∙ c.if-lacks_key.false) c.in_ok-make.ensures.ok
+    gone_key-made now old (view_of c.make.new.hive.hive) s c.args.path c.in_ok-make.field-0 (absent ∙ c.if-lacks_key.false) c.in_ok-make.ensures.ok
