@@ -19,10 +19,10 @@ import repository
 from repository import TOP, Untried, folder_of, tell
 
 SOURCES = ("src", "specs", "proofs")
-# What one check takes of memory, in bytes. A further job of it takes about half as much.
+# What a check of one job takes of memory, in bytes. A further job takes about half as much.
 MEMORY = 3_000_000_000
-# The most jobs of one check.
-JOBS = 4
+# The fewest and the most jobs of one check. With one alone processors are idle while others wait for the library.
+FEWEST, JOBS = 2, 4
 
 
 class Failed(Exception):
@@ -40,9 +40,14 @@ def free_memory():
         return free
 
 
+def taken(jobs):
+    """What a check of so many jobs takes of memory, in bytes."""
+    return MEMORY * (1 + jobs) / 2
+
+
 def checks_at_once():
     """How many checks the processors and the free memory hold."""
-    return max(1, min(len(os.sched_getaffinity(0)), int(0.85 * free_memory() / MEMORY)))
+    return max(1, min(len(os.sched_getaffinity(0)), int(0.85 * free_memory() / taken(FEWEST))))
 
 
 def size_of(crate):
@@ -181,6 +186,7 @@ class Build:
 
     def __init__(self, program, at_once, rooms, out):
         self.program, self.at_once, self.rooms, self.out = program, at_once, rooms, out
+        self.memory = 0.85 * free_memory()
         every = repository.crates()
         self.uses = {it: every[it] for it in repository.below([program])}
         self.count, self.done, self.begun = len(self.uses) + 1, [], time.monotonic()
@@ -195,10 +201,12 @@ class Build:
         """Starts each library that nothing is missing for, while there is room, those with the longest chain behind them first."""
         ready = [it for it in self.left if self.is_ready(it)]
         for at, crate in enumerate(ready):
-            idle = self.at_once - sum(jobs for _, jobs in self.running.values())
+            idle = self.at_once - len(self.running)
             if idle < 1:
                 return
-            jobs = max(1, min(JOBS, idle // (len(ready) - at)))
+            jobs = max(FEWEST, min(JOBS, idle // (len(ready) - at)))
+            if self.running and sum(taken(it) for _, it in self.running.values()) + taken(jobs) > self.memory:
+                return
             room = Room(self.rooms, crate)
             self.left.remove(crate)
             self.running[crate] = room, jobs
