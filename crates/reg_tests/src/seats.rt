@@ -55,7 +55,15 @@ fn shared(
         open(other, &mut share),
         open(own, &mut share),
     );
-    Ok(format!(in alloc; "{} {} {}, {} and {} entries, {} counted", first, strange, last, own.len(), other.len(), share.count())?)
+    Ok(format!(in alloc;
+        "{} {} {}, {} and {} entries, {} counted",
+        first,
+        strange,
+        last,
+        own.len(),
+        other.len(),
+        share.count()
+    )?)
 }
 
 fn told_of_shares(alloc: Global) -> Result<String, Fail> {
@@ -66,7 +74,10 @@ fn told_of_shares(alloc: Global) -> Result<String, Fail> {
 
 #[test]
 fn seats_are_given_once_and_to_64_sessions_at_most(rt: HostRuntime) -> Result<(), Fail> {
-    assert_report(told_of_seats(rt.alloc()), "Count\nCount\n2 shares\nSeated\n")
+    assert_report(
+        told_of_seats(rt.alloc()),
+        "Count\nCount\n2 shares\nSeated\n",
+    )
 }
 
 #[test]
