@@ -26,6 +26,8 @@ mod random_keys;
 #[cfg(test)]
 mod rows;
 #[cfg(test)]
+mod seats;
+#[cfg(test)]
 mod support;
 #[cfg(test)]
 mod trees;
