@@ -110,7 +110,7 @@ abbrev pub coded_booked : Coded Booked
 coded_booked =
     code_by (View × List ℕ) (coded× coded_view (coded_list coded_ℕ)) (λ b. (b.view, b.noted)) (λ p. record { view = p.0; noted = p.1 }) (λ _. refl)
 
--- the same of a hive's parts; room is kept for the closing of each open handle; and each node that is kept is that of its key
+-- what is true of a hive's parts: they are a hive; room is kept for the closing of each open handle; and each node that is kept is that of its key
 pub record HiveInvariant (origin : Tree) (base : ℕ) (before : List (List Notice)) (journal : List Entry) (store : Store) (room : ℕ) : Type 0 where
   pub hive : IsHive (view_with origin base before journal store)
   pub room_kept : length store.handles.handles ≤ room

@@ -1,5 +1,5 @@
 ghost use Rattle.std.specs.Prelude.{◌≡◌, ◌≢◌, ◌<◌, ◌≤◌, ◌↔◌, ◌⊎◌, ◌+◌, ◌-◌, [], Some, None, true, false, length, map, nat_lt, replicate, slice_get, option_copied, vec_len, ℕ, if◌then◌else◌};
-ghost use Rattle.std.specs.Prelude.{IfOk, IfErr, IfSome, OnErr, OnOk, IsErrOf, IsTrue, All};
+ghost use Rattle.std.specs.Prelude.{IfOk, IfErr, IfNone, IfSome, OnErr, OnOk, IsErrOf, IsTrue, All};
 ghost use Rattle.std.specs.List.{range_with_len};
 ghost use Rattle.std.specs.FinMap.{insert, empty};
 ghost use Rattle.reg_names.specs.Names.{is_key_name};
@@ -138,10 +138,13 @@ impl<C: Callback> Hive<C> {
         }
     }
 
-    /// How many changes the hive accepted: the number of the next entry. Those of the journal are legal: each was accepted after those
-    /// before it (clause `legal`); and all else that is true of every hive is so of this one (clause `hive`).
+    /// How many changes the hive accepted: the number of the next entry. The first has the number 0, and before it no session was told
+    /// anything (clauses `base`, `before`). Those of the journal are legal: each was accepted after those before it (clause `legal`);
+    /// and all else that is true of every hive is so of this one (clause `hive`).
     pub fn len(&self) -> usize
         ensures len { result ≡ next_of (view_of self.now) }
+        ensures base { (view_of self.now).base ≡ 0 }
+        ensures before { (view_of self.now).before ≡ [] }
         ensures legal { IsLegal (view_of self.now).base (view_of self.now).origin (view_of self.now).journal }
         ensures hive { IsHive (view_of self.now) }
     {
@@ -223,19 +226,28 @@ impl<C: Callback> Hive<C> {
     }
 
     /// How many changes of a session were accepted: its row in the journal's book, which is the number of its entries (clause `kept`).
-    /// `None` where it has no seat.
+    /// `None` where it has no seat, and then none was (clause `unseated`).
     pub fn row(&self, session: u8) -> Option<u64>
         ensures row { result ≡
             (if nat_lt session (length (noted_of self.now)) then Some (row_of (noted_of self.now) (view_of self.now).journal session) else None) }
         ensures kept { IfSome result (λ row. row ≡ count_of session (view_of self.now).journal) }
+        ensures unseated { IfNone result (count_of session (view_of self.now).journal ≡ 0) }
     {
         self.core.row(session)
     }
 
+    /// How many sessions have seats: those below that number, at most 64.
+    pub fn seats(&self) -> usize
+        ensures seats { result ≡ length (noted_of self.now) }
+        ensures few { result ≤ SESSIONS_LIMIT }
+    {
+        self.core.seats()
+    }
+
     /// Answers a change of a share's session at a moment (100 ns units since 1601). An accepted change becomes the journal's next
     /// entry, and the share counts it; after a refusal, by the rules or by a callback, hive and share are as before. 1009 comes before all
-    /// other refusals, exactly where the share's count isn't its session's row: at a hive that didn't give the share. 8 and 1450 for space
-    /// come only in place of an acceptance, or where a callback answers them.
+    /// other refusals, exactly where the share's session has no seat or its row isn't the share's count: a share that is used only at the
+    /// hive that gave it never meets 1009. 8 and 1450 for space come only in place of an acceptance, or where a callback answers them.
     pub fn apply(&mut self, share: &mut Share, moment: u64, change: Change) -> ChangeReply
         ensures order { is_falling (altitudes_of (callbacks_of self.old)) ≡ true }
         ensures callbacks { callbacks_of self.new ≡ callbacks_of self.old }

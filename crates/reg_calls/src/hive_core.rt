@@ -1,5 +1,5 @@
 //! A hive without its callbacks.
-ghost use Rattle.std.specs.Prelude.{ℕ, ◌≡◌, ◌≢◌, ◌<◌, ◌≤◌, ◌↔◌, ◌⊎◌, [], Some, None, IsSome, length, map, nat_lt, replicate, slice_get, option_copied, ◌+◌, ◌-◌, false, if◌then◌else◌, IfOk, IfSome, IsErrOf, IsTrue, OnOk, OnErr};
+ghost use Rattle.std.specs.Prelude.{ℕ, ◌≡◌, ◌≢◌, ◌<◌, ◌≤◌, ◌↔◌, ◌⊎◌, [], Some, None, IsSome, length, map, nat_lt, replicate, slice_get, option_copied, ◌+◌, ◌-◌, false, if◌then◌else◌, IfNone, IfOk, IfSome, IsErrOf, IsTrue, OnOk, OnErr};
 ghost use Rattle.std.specs.List.{range_with_len};
 ghost use Rattle.reg_heap.specs.Trees.{IsTree, IsWithinLimits};
 ghost use Rattle.reg_arena.specs.Arena.{IsSound};
@@ -162,6 +162,8 @@ impl Core {
     /// How many entries the hive has had: the number of the next one.
     pub fn len(&self) -> usize
         ensures len { result ≡ next_of self.now.view }
+        ensures base { self.now.view.base ≡ 0 }
+        ensures before { self.now.view.before ≡ [] }
         ensures legal { IsLegal self.now.view.base self.now.view.origin self.now.view.journal }
         ensures hive { IsHive self.now.view }
     {
@@ -236,8 +238,17 @@ impl Core {
     pub fn row(&self, session: u8) -> Option<u64>
         ensures row { result ≡ (if nat_lt session (length self.now.noted) then Some (row_of self.now.noted self.now.view.journal session) else None) }
         ensures kept { IfSome result (λ row. row ≡ count_of session self.now.view.journal) }
+        ensures unseated { IfNone result (count_of session self.now.view.journal ≡ 0) }
     {
         self.journal.row(session)
+    }
+
+    /// How many sessions have seats.
+    pub fn seats(&self) -> usize
+        ensures seats { result ≡ length self.now.noted }
+        ensures few { result ≤ SESSIONS_LIMIT }
+    {
+        self.journal.seats()
     }
 
     /// Whether the share's session has a seat whose row is the share's count.

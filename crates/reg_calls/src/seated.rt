@@ -61,6 +61,7 @@ impl<C: Callback> SeatedHive<C> {
     /// Seats all 64 sessions at a hive. `Seated` exactly where it gave seats before, else `Memory`; the hive is dropped then.
     pub fn new(hive: Hive<C>) -> Result<SeatedHive<C>, SeatFault>
         ensures hive { IfOk result (λ seated. view_of seated.hive ≡ view_of hive) }
+        ensures noted { IfOk result (λ seated. noted_of seated.hive ≡ replicate SESSIONS_LIMIT 0) }
         ensures callbacks { IfOk result (λ seated. callbacks_of seated.hive ≡ callbacks_of hive) }
         ensures again { IsErrOf result SeatFault.Seated ↔ (noted_of hive ≢ []) }
         ensures err { IfErr result (λ fault. (fault ≡ SeatFault.Seated) ⊎ (fault ≡ SeatFault.Memory)) }
@@ -75,6 +76,7 @@ impl<C: Callback> SeatedHive<C> {
         requires { session < SESSIONS_LIMIT }
         ensures order { is_falling (altitudes_of (callbacks_of self.old.hive)) ≡ true }
         ensures callbacks { callbacks_of self.new.hive ≡ callbacks_of self.old.hive }
+        ensures noted { noted_of self.new.hive ≡ noted_of self.old.hive }
         ensures applied { IsApplied (asks_of C.answers self.old.hive) (view_of self.old.hive) (view_of self.new.hive) session moment change result }
     {
         apply_by(&mut self.hive, &mut self.shares, session, moment, change)
@@ -93,6 +95,7 @@ impl<C: Callback> SeatedHive<C> {
     /// Hands a session its next notice, as [`Hive::take_notice`] does.
     pub fn take_notice(&mut self, session: u8) -> Option<Notice>
         ensures notice { IsNoticeTaken (view_of self.old.hive) (view_of self.new.hive) session result }
+        ensures noted { noted_of self.new.hive ≡ noted_of self.old.hive }
         ensures callbacks { callbacks_of self.new.hive ≡ callbacks_of self.old.hive }
     {
         self.hive.take_notice(session)

@@ -95,18 +95,18 @@ none_blamed (Line line) keeps_going begin old unread left before after read now_
 
 pub edits : (keeps_going : Bool) (begin : ℕ) (edited : Edited) (file file_left unread left before after : Option (List ℕ)) (old : View)
     (sequence moment failed : ℕ) → Opens file file_left old sequence →
-    Leads keeps_going begin old (view_of edited.hive) moment failed unread left before after →
+    Leads keeps_going begin old (view_of edited.seated.hive) moment failed unread left before after →
     edited.moment ≡ moment → edited.failed ≡ failed → edited.sequence ≡ next_sequence sequence →
-    edited.is_changed ≡ are_changed (view_of edited.hive).journal → Edits keeps_going begin edited file file_left unread left before after
+    edited.is_changed ≡ are_changed (view_of edited.seated.hive).journal → Edits keeps_going begin edited file file_left unread left before after
 edits keeps_going begin edited file file_left unread left before after old sequence moment failed o led moment_is failed_is next changed = record {
   old = old;
   sequence = sequence;
   opens = o;
-  leads = subst (λ (n : ℕ). Leads keeps_going begin old (view_of edited.hive) n edited.failed unread left before after) (sym moment_is)
-      (subst (λ (n : ℕ). Leads keeps_going begin old (view_of edited.hive) moment n unread left before after) (sym failed_is) led);
+  leads = subst (λ (n : ℕ). Leads keeps_going begin old (view_of edited.seated.hive) n edited.failed unread left before after) (sym moment_is)
+      (subst (λ (n : ℕ). Leads keeps_going begin old (view_of edited.seated.hive) moment n unread left before after) (sym failed_is) led);
   next = next;
   changed = record {
     by_calls = changed;
-    same = λ same. script_kept begin old (view_of edited.hive) led.script led.text moment led.lines o.loaded.journal (sym changed ∙ same);
+    same = λ same. script_kept begin old (view_of edited.seated.hive) led.script led.text moment led.lines o.loaded.journal (sym changed ∙ same);
   };
 }

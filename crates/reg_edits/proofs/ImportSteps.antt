@@ -92,8 +92,8 @@ apply_blames Memory moment bytes old file file_after text text_after h stays sti
 
 -- the whole
 pub imports : (moment : ℕ) (edited : Edited) (file file_left unread left : Option (List ℕ)) (text : List ℕ) (old : View) (sequence : ℕ) →
-    Opens file file_left old sequence → IsAtEnd left → Consumes unread left text → Applies moment text old (view_of edited.hive) →
-    edited.moment ≡ moment → edited.sequence ≡ next_sequence sequence → edited.is_changed ≡ are_changed (view_of edited.hive).journal →
+    Opens file file_left old sequence → IsAtEnd left → Consumes unread left text → Applies moment text old (view_of edited.seated.hive) →
+    edited.moment ≡ moment → edited.sequence ≡ next_sequence sequence → edited.is_changed ≡ are_changed (view_of edited.seated.hive).journal →
     edited.failed ≡ 0 → Imports moment edited file file_left unread left
 imports moment edited file file_left unread left text old sequence o at_end consumed made saved_at next changed none_failed = record {
   old = old;
@@ -107,7 +107,7 @@ imports moment edited file file_left unread left text old sequence o at_end cons
   next = next;
   changed = record {
     by_calls = changed;
-    same = λ same. calls_kept moment old (view_of edited.hive) (import_calls moment old (entries_of made.entries)) made.calls o.loaded.journal
+    same = λ same. calls_kept moment old (view_of edited.seated.hive) (import_calls moment old (entries_of made.entries)) made.calls o.loaded.journal
         (sym changed ∙ same);
   };
   none_failed = none_failed;

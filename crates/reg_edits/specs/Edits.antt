@@ -64,9 +64,9 @@ pub record Edits (keeps_going : Bool) (begin : ℕ) (edited : Edited) (file file
   pub old : View
   pub sequence : ℕ
   pub opens : Opens file file_left old sequence
-  pub leads : Leads keeps_going begin old (view_of edited.hive) edited.moment edited.failed unread left before after
+  pub leads : Leads keeps_going begin old (view_of edited.seated.hive) edited.moment edited.failed unread left before after
   pub next : edited.sequence ≡ next_sequence sequence
-  pub changed : IsChanged old (view_of edited.hive) edited.is_changed
+  pub changed : IsChanged old (view_of edited.seated.hive) edited.is_changed
 
 -- a script was ended by a fault; where it doesn't go on behind a line that fails, none of those before had failed
 abbrev pub IsHalted : (keeps_going : Bool) → ScriptFault → (begin : ℕ) → (old last : View) → (unread left before after : Option (List ℕ)) → Type 0
@@ -100,5 +100,7 @@ EditBlames fault before after = Stays before after
 pub record IsFreshHive (name : List ℕ) (hive : View) : Type 0 where
   pub is_hive : IsHive hive
   pub origin : hive.origin ≡ insert empty [] (made_root name fresh_descriptor 0)
+  pub base : hive.base ≡ 0
+  pub before : hive.before ≡ []
   pub journal : hive.journal ≡ []
   pub cells : IsNewHive hive.keys name fresh_descriptor 0

@@ -58,10 +58,10 @@ pub record Imports (moment : ℕ) (edited : Edited) (file file_left unread left 
   pub at_end : IsAtEnd left
   pub text : List ℕ
   pub consumed : Consumes unread left text
-  pub applies : Applies moment text old (view_of edited.hive)
+  pub applies : Applies moment text old (view_of edited.seated.hive)
   pub saved_at : edited.moment ≡ moment
   pub next : edited.sequence ≡ next_sequence sequence
-  pub changed : IsChanged old (view_of edited.hive) edited.is_changed
+  pub changed : IsChanged old (view_of edited.seated.hive) edited.is_changed
   pub none_failed : edited.failed ≡ 0
 
 -- why an input wasn't read to its end, and how far it was: a read failed, or there was no memory for what comes

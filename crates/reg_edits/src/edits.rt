@@ -18,10 +18,10 @@ use reg_text::Source;
 use std::alloc::Global;
 use std::io::{Read, Write};
 
-/// A file's hive after an edit, and what its image is to be saved with.
+/// A file's hive after an edit, with the shares of all its sessions, and what its image is to be saved with.
 #[derive(Drop)]
 pub struct Edited {
-    pub hive: Hive<NoCallback>,
+    pub seated: SeatedHive<NoCallback>,
     /// The moment of the image, in units of 100 ns since 1601.
     pub moment: u64,
     /// The sequence number of the image: that of the file's image, and one more.
@@ -141,10 +141,9 @@ pub fn edit<F: Source, R: Read, W: Write>(
         sequence,
     } = load_seated(alloc, file)?;
     let ran = run_on(alloc, begin, keeps_going, &mut seated, input, output)?;
-    let hive = seated.hive;
-    let is_changed = is_changed(&hive);
+    let is_changed = is_changed(&seated.hive);
     Ok(Edited {
-        hive,
+        seated,
         moment: ran.moment,
         sequence: next_sequence(sequence),
         is_changed,

@@ -162,10 +162,9 @@ pub fn import<F: Source, R: Source>(
     } = load_seated(alloc, file)?;
     let text = read_whole(alloc, input)?;
     apply_text(alloc, moment, &mut seated, text.as_slice())?;
-    let hive = seated.hive;
-    let is_changed = is_changed(&hive);
+    let is_changed = is_changed(&seated.hive);
     Ok(Edited {
-        hive,
+        seated,
         moment,
         sequence: next_sequence(sequence),
         is_changed,

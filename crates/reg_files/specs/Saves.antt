@@ -36,7 +36,7 @@ IsTreeToSave own (Anew tree) = (are_sparse own.bins.bytes ≡ true) × (tree.tre
 abbrev pub IsToSave : EditRequest → Edited → Option Saved → Type 0
 IsToSave edit edited None = is_saved edit edited ≡ false
 IsToSave edit edited (Some saved) =
-    (is_saved edit edited ≡ true) × IsTreeToSave (view_of edited.hive).keys saved.tree × (saved.moment ≡ edited.moment)
+    (is_saved edit edited ≡ true) × IsTreeToSave (view_of edited.seated.hive).keys saved.tree × (saved.moment ≡ edited.moment)
     × (saved.sequence ≡ edited.sequence)
 
 -- of a fresh hive: its bins as they stand, at moment 0, with sequence number 1

@@ -42,13 +42,13 @@ fn to_save<'a>(
 ) -> Result<Option<Saved<'a>>, Fault>
     ensures ok { IfOk result (λ saved. IsToSave request.entry edited.now saved) }
     ensures err { IfErr result (λ fault. (is_saved request.entry edited.now ≡ true)
-        × (are_sparse (view_of edited.now.hive).keys.bins.bytes ≡ true) × IsNotRebuilt fault) }
+        × (are_sparse (view_of edited.now.seated.hive).keys.bins.bytes ≡ true) × IsNotRebuilt fault) }
 {
     if !edited.is_changed || request.dry_run {
         return Ok(None);
     }
     Ok(Some(Saved {
-        tree: tree_to_save(alloc, edited.hive.tree())?,
+        tree: tree_to_save(alloc, edited.seated.hive.tree())?,
         moment: edited.moment,
         sequence: edited.sequence,
     }))

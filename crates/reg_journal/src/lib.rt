@@ -11,7 +11,7 @@
 
 mod share;
 
-ghost use Rattle.std.specs.Prelude.{◌≡◌, ◌≢◌, ◌+◌, ◌-◌, ◌*◌, ◌^◌, ◌<◌, ◌≤◌, ◌↔◌, ◌⊎◌, ◌++◌, ◌∷◌, [], None, Some, IfOk, IfSome, IsErrOf, IsOk, IsTrue, OnErr, OnOk, length, map, nat_lt, replicate, slice_get, slice_index, slice_set, vec_len, if◌then◌else◌, option_copied};
+ghost use Rattle.std.specs.Prelude.{◌≡◌, ◌≢◌, ◌+◌, ◌-◌, ◌*◌, ◌^◌, ◌<◌, ◌≤◌, ◌↔◌, ◌⊎◌, ◌++◌, ◌∷◌, [], None, Some, IfNone, IfOk, IfSome, IsErrOf, IsOk, IsTrue, OnErr, OnOk, length, map, nat_lt, replicate, slice_get, slice_index, slice_set, vec_len, if◌then◌else◌, option_copied};
 ghost use Rattle.std.specs.List.{range_with_len};
 ghost use Rattle.reg_model.specs.declared.limits.TheConstants.{SESSIONS_LIMIT};
 ghost use Rattle.reg_model.specs.Histories.{count_of};
@@ -137,11 +137,13 @@ impl Journal {
         Ok(shares)
     }
 
-    /// How many entries a session has had, each of which is kept (clause `kept`); `None` where it has no seat.
+    /// How many entries a session has had, each of which is kept (clause `kept`); `None` where it has no seat, and then it has had none
+    /// (clause `unseated`).
     #[tactic(auto, using(crate::proofs::Book::row_is))]
     pub fn row(&self, session: u8) -> Option<u64>
         ensures row { result ≡ (if nat_lt session (length self.now.noted) then Some (row_of self.now.noted self.now.entries session) else None) }
         ensures kept { IfSome result (λ row. row ≡ count_of session self.now.entries) }
+        ensures unseated { IfNone result (count_of session self.now.entries ≡ 0) }
     {
         self.rows.get(session as usize).copied()
     }
@@ -163,9 +165,10 @@ impl Journal {
         at < self.rows.len() && self.rows[at] == share.count
     }
 
-    /// How many entries were ever appended: the number of the next one.
+    /// How many entries were ever appended: the number of the next one. The first one has the number 0 (clause `first`).
     pub fn len(&self) -> usize
-        ensures { result ≡ self.now.base + length self.now.entries }
+        ensures len { result ≡ self.now.base + length self.now.entries }
+        ensures first { self.now.base ≡ 0 }
     {
         self.base + self.entries.len()
     }

@@ -12,6 +12,8 @@ mod callbacks;
 #[cfg(test)]
 mod calls;
 #[cfg(test)]
+mod causes;
+#[cfg(test)]
 mod copies;
 #[cfg(test)]
 mod devices;

@@ -6,7 +6,7 @@
 //! take more than a test has: a full journal, bins without room and want of memory.
 use crate::support::replies;
 use reg_callbacks::Callback;
-use reg_calls::SeatedHive;
+use reg_calls::{Hive, SeatedHive};
 use reg_fixtures::drafted;
 use reg_image::load;
 use reg_model::{Change, Query};
@@ -160,7 +160,7 @@ const REFUSED: &str = "77 | 32";
 
 /// Answers a status to each call, and notes that it was asked: its digit behind those of the callbacks that were asked before.
 #[derive(Drop)]
-struct Noting {
+pub struct Noting {
     digit: u32,
     status: u32,
     asked: Rc<Cell<u32>>,
@@ -234,14 +234,14 @@ fn lines_of(alloc: Global, text: &str) -> Result<String, AllocError> {
 }
 
 /// Registers three callbacks, whose digits rise with their altitudes. The one in the middle answers this status, and the others 0.
-fn register(hive: &mut SeatedHive<Noting>, status: u32, asked: &Rc<Cell<u32>>) -> Result<(), Fail> {
+pub fn register(hive: &mut Hive<Noting>, status: u32, asked: &Rc<Cell<u32>>) -> Result<(), Fail> {
     for (altitude, digit, status) in [(100, 1, 0), (300, 3, 0), (200, 2, status)] {
         let callback = Noting {
             digit,
             status,
             asked: asked.clone()?,
         };
-        if hive.hive.register(callback, altitude).is_err() {
+        if hive.register(callback, altitude).is_err() {
             return Err("not registered".into());
         }
     }
@@ -258,7 +258,7 @@ fn asked_in(
 ) -> Result<String, Fail> {
     let asked = Rc::new(alloc, Cell::new(0))?;
     let _made = replies(alloc, hive, setup)?;
-    register(hive, status, &asked)?;
+    register(&mut hive.hive, status, &asked)?;
     let reply = replies(alloc, hive, call)?;
     Ok(format!(in alloc; "{} | {}", reply.as_str().trim_end(), asked.get())?)
 }

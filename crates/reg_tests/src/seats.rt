@@ -29,7 +29,7 @@ fn told_of_seats(alloc: Global) -> Result<String, Fail> {
 }
 
 /// The one share of a hive of one session.
-fn share_of(hive: &mut Hive<NoCallback>) -> Result<Share, Fail> {
+pub fn share_of(hive: &mut Hive<NoCallback>) -> Result<Share, Fail> {
     match hive.seat(1)?.pop() {
         Some(share) => Ok(share),
         None => Err("there is no share".into()),
@@ -42,7 +42,8 @@ fn open(hive: &mut Hive<NoCallback>, share: &mut Share) -> u32 {
         .status
 }
 
-/// A call by a hive's share, one by that share at another hive, and one more at its own.
+/// A call by a hive's share, one by that share at another hive, and one more at its own; the rows of both hives' books then, and of a
+/// session without a seat.
 fn shared(
     alloc: Global,
     own: &mut Hive<NoCallback>,
@@ -56,13 +57,16 @@ fn shared(
         open(own, &mut share),
     );
     Ok(format!(in alloc;
-        "{} {} {}, {} and {} entries, {} counted",
+        "{} {} {}, {} and {} entries, {} counted, rows {:?} {:?} {:?}",
         first,
         strange,
         last,
         own.len(),
         other.len(),
-        share.count()
+        share.count(),
+        own.row(0),
+        other.row(0),
+        own.row(1)
     )?)
 }
 
@@ -84,6 +88,6 @@ fn seats_are_given_once_and_to_64_sessions_at_most(rt: HostRuntime) -> Result<()
 fn a_share_that_has_counted_a_call_is_1009_at_another_hive(rt: HostRuntime) -> Result<(), Fail> {
     assert_report(
         told_of_shares(rt.alloc()),
-        "0 1009 0, 2 and 0 entries, 2 counted",
+        "0 1009 0, 2 and 0 entries, 2 counted, rows Some(2) Some(0) None",
     )
 }
