@@ -72,11 +72,7 @@ fn told(alloc: Global, status: u32) -> Result<String, Fail> {
 }
 
 /// What a hive with three callbacks tells a share of another hive that has counted a call, and which of them were asked.
-fn told_strange(
-    alloc: Global,
-    share: &mut Share,
-    hive: &mut Hive<Noting>,
-) -> Result<String, Fail> {
+fn told_strange(alloc: Global, share: &mut Share, hive: &mut Hive<Noting>) -> Result<String, Fail> {
     let asked = Rc::new(alloc, Cell::new(0))?;
     register(hive, 0, &asked)?;
     let change = Change::OpenRoot { mask: 983_103 };
