@@ -15,7 +15,7 @@ pub struct Answer {
 /// What a question is answered.
 #[derive(Debug, Drop)]
 pub enum AnswerBody {
-    /// The refusal's number: 2, 5, 6, 8, 87, 259 or 1018.
+    /// The refusal's number: 2, 5, 6, 8, 87, 259, 1009 or 1018.
     Refused {
         status: u32,
     },

@@ -24,7 +24,7 @@ pub fn front_is_legal()
 {}
 
 /// The number of an entry of a legal journal is that of the first and its index.
-pub fn number_is_index()
+pub fn numbers_go_on_from_the_base()
     ensures { (base : ℕ) → (origin : Tree) → (past : List Entry) → (e : Entry) → (more : List Entry) → IsLegal base origin (past ++ e ∷ more) → e.number ≡ base + length past }
 {}
 
