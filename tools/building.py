@@ -246,7 +246,8 @@ class Build:
         folder = folder_of(self.program)
         words = open(f"{folder}/args", encoding="utf-8").read().splitlines() if os.path.isfile(f"{folder}/args") else []
         log = f"{folder}/out/build.log"
-        command = started(folder, log, "run", "--", *words)
+        jobs = JOBS if taken(JOBS) <= self.memory else FEWEST
+        command = started(folder, log, "run", "--jobs", str(jobs), "--", *words)
         try:
             status = command.wait()
         finally:

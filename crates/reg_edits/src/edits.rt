@@ -4,7 +4,7 @@ ghost use Rattle.std.specs.Prelude.{◌≡◌, ◌↔◌, [], IfOk, IfErr, IsErr
 ghost use Rattle.reg_names.specs.Names.{is_key_name};
 ghost use Rattle.reg_text.specs.Failures.{Stays};
 ghost use Rattle.reg_callbacks.specs.Lists.{rows_of};
-ghost use Rattle.reg_calls.specs.HiveView.{view_of, callbacks_of};
+ghost use Rattle.reg_calls.specs.HiveView.{view_of, noted_of, callbacks_of};
 ghost use Rattle.reg_edits.specs.Edits.{next_sequence as following, are_changed, Leads, RunStops, Edits, EditStops, EditBlames, IsFreshHive};
 
 use crate::loading::{LoadedHive, load_seated};
@@ -160,9 +160,11 @@ pub enum FreshFault {
     Memory,
 }
 
-/// A hive of one root of that name at moment 0, with the descriptor of a script's root.
+/// A hive of one root of that name at moment 0, with the descriptor of a script's root. No session has a seat, and no callback is registered.
 pub fn fresh_hive(alloc: Global, name: &[u8]) -> Result<Hive<NoCallback>, FreshFault>
     ensures ok { IfOk result (λ hive. IsFreshHive name.now (view_of hive)) }
+    ensures noted { IfOk result (λ hive. noted_of hive ≡ []) }
+    ensures callbacks { IfOk result (λ hive. rows_of (callbacks_of hive) ≡ []) }
     ensures name { IsErrOf result FreshFault.Name ↔ (is_key_name name.now ≡ false) }
 {
     match Hive::new(alloc, name, &FRESH_DESCRIPTOR, 0) {

@@ -44,37 +44,43 @@ fn told_of(
     Ok(())
 }
 
-/// What `told_of` tells of a hive's changes at another hive, which has made the first before three callbacks were registered. The one in
-/// the middle answers this status, and the others 0.
+/// What `told_of` tells of a hive's changes at another hive, on which lines were run before three callbacks were registered. The one in the
+/// middle answers this status, and the others 0. Last stands what it tells of an OpenRoot with a mask that has no meaning.
 fn told_with(
     alloc: Global,
     made: &Hive<NoCallback>,
     hive: &mut SeatedHive<Noting>,
+    lines: &str,
     status: u32,
 ) -> Result<String, Fail> {
     let asked = Rc::new(alloc, Cell::new(0))?;
-    let _opened = replies(alloc, hive, "root 983103")?;
-    register(&mut hive.hive, status, &asked)?;
+    let _replies = replies(alloc, hive, lines)?;
+    register(hive, status, &asked)?;
     let mut text = String::new(alloc);
-    for number in 1..made.len() {
+    for number in 0..made.len() {
         if let Some(entry) = made.entry(number) {
             told_of(alloc, &mut text, hive, &entry.change, &asked)?;
         }
     }
+    let bad_mask = Change::OpenRoot { mask: 1_048_576 };
+    told_of(alloc, &mut text, hive, &bad_mask, &asked)?;
     Ok(text)
 }
 
-fn told(alloc: Global, status: u32) -> Result<String, Fail> {
+fn told(alloc: Global, lines: &str, status: u32) -> Result<String, Fail> {
     let mut made = fresh(alloc)?;
     let mut hive = fresh(alloc)?;
     let _replies = replies(alloc, &mut made, CHANGES)?;
-    told_with(alloc, &made.hive, &mut hive, status)
+    told_with(alloc, &made.hive, &mut hive, lines, status)
 }
 
 /// What a hive with three callbacks tells a share of another hive that has counted a call, and which of them were asked.
-fn told_strange(alloc: Global, share: &mut Share, hive: &mut Hive<Noting>) -> Result<String, Fail> {
-    let asked = Rc::new(alloc, Cell::new(0))?;
-    register(hive, 0, &asked)?;
+fn told_strange(
+    alloc: Global,
+    share: &mut Share,
+    hive: &mut Hive<Noting>,
+    asked: &Rc<Cell<u32>>,
+) -> Result<String, Fail> {
     let change = Change::OpenRoot { mask: 983_103 };
     let cause = hive.cause(share, 0, &change);
     let status = hive.apply(share, 0, change).status;
@@ -84,17 +90,19 @@ fn told_strange(alloc: Global, share: &mut Share, hive: &mut Hive<Noting>) -> Re
 
 fn told_to_a_stranger(alloc: Global) -> Result<String, Fail> {
     let mut own: Hive<NoCallback> = Hive::new(alloc, b"ROOT", &[7; 20], 0)?;
-    let mut other: Hive<Noting> = Hive::new(alloc, b"ROOT", &[7; 20], 0)?;
     let mut share = share_of(&mut own)?;
-    let _seats = other.seat(1)?;
     let _opened = own.apply(&mut share, 0, Change::OpenRoot { mask: 983_103 });
-    told_strange(alloc, &mut share, &mut other)
+    let mut other = fresh(alloc)?;
+    let asked = Rc::new(alloc, Cell::new(0))?;
+    register(&mut other, 0, &asked)?;
+    let mut hive = other.hive;
+    told_strange(alloc, &mut share, &mut hive, &asked)
 }
 
 #[test]
 fn the_cause_asks_as_the_call_does(rt: HostRuntime) -> Result<(), Fail> {
     assert_report(
-        told(rt.alloc(), 0),
+        told(rt.alloc(), "", 0),
         "\
 None 321, 0 321
 None 321, 0 321
@@ -104,11 +112,13 @@ None 321, 0 321
 None 321, 0 321
 None 321, 0 321
 None 321, 0 321
+None 321, 0 321
 None 0, 0 0
+Some(87) 0, 87 0
 ",
     )?;
     assert_report(
-        told(rt.alloc(), 77),
+        told(rt.alloc(), "root 983103", 77),
         "\
 Some(77) 32, 77 32
 Some(77) 32, 77 32
@@ -118,7 +128,29 @@ Some(77) 32, 77 32
 Some(77) 32, 77 32
 Some(77) 32, 77 32
 Some(77) 32, 77 32
+Some(77) 32, 77 32
 None 0, 0 0
+Some(87) 0, 87 0
+",
+    )
+}
+
+#[test]
+fn the_cause_of_an_early_refusal_asks_nobody(rt: HostRuntime) -> Result<(), Fail> {
+    assert_report(
+        told(rt.alloc(), "", 77),
+        "\
+Some(77) 32, 77 32
+Some(6) 0, 6 0
+Some(6) 0, 6 0
+Some(6) 0, 6 0
+Some(6) 0, 6 0
+Some(6) 0, 6 0
+Some(6) 0, 6 0
+Some(6) 0, 6 0
+Some(6) 0, 6 0
+Some(6) 0, 6 0
+Some(87) 0, 87 0
 ",
     )
 }

@@ -2,6 +2,7 @@
 use crate::asserts::assert_report;
 use reg_arena::ArenaFault;
 use reg_calls::{NewFault, RunFault};
+use reg_journal::SeatFault;
 use reg_names::NameFault;
 use reg_records::RecordFault;
 use reg_script::ScriptFault;
@@ -99,7 +100,11 @@ fn hives_told(text: &mut String) -> Result<(), Fail> {
         text,
         &[NewFault::Name, NewFault::Descriptor, NewFault::Memory],
     )?;
-    tell(text, &[RunFault::Memory])
+    tell(
+        text,
+        &[SeatFault::Seated, SeatFault::Count, SeatFault::Memory],
+    )?;
+    tell(text, &[RunFault::Session, RunFault::Memory])
 }
 
 fn told(alloc: Global) -> Result<String, Fail> {
@@ -154,6 +159,10 @@ no memory
 the root's name is no key name
 the descriptor is empty or too long
 no memory
+seats were given before
+no session, or more than 64
+no memory
+a session of the steps has no share in its place, or one that isn't current
 no memory for the outcomes
 ";
     assert_report(told(rt.alloc()), wanted)

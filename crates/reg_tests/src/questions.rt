@@ -6,7 +6,7 @@
 //! take more than a test has: a full journal, bins without room and want of memory.
 use crate::support::replies;
 use reg_callbacks::Callback;
-use reg_calls::{Hive, SeatedHive};
+use reg_calls::SeatedHive;
 use reg_fixtures::drafted;
 use reg_image::load;
 use reg_model::{Change, Query};
@@ -234,14 +234,18 @@ fn lines_of(alloc: Global, text: &str) -> Result<String, AllocError> {
 }
 
 /// Registers three callbacks, whose digits rise with their altitudes. The one in the middle answers this status, and the others 0.
-pub fn register(hive: &mut Hive<Noting>, status: u32, asked: &Rc<Cell<u32>>) -> Result<(), Fail> {
+pub fn register(
+    hive: &mut SeatedHive<Noting>,
+    status: u32,
+    asked: &Rc<Cell<u32>>,
+) -> Result<(), Fail> {
     for (altitude, digit, status) in [(100, 1, 0), (300, 3, 0), (200, 2, status)] {
         let callback = Noting {
             digit,
             status,
             asked: asked.clone()?,
         };
-        if hive.register(callback, altitude).is_err() {
+        if hive.hive.register(callback, altitude).is_err() {
             return Err("not registered".into());
         }
     }
@@ -258,7 +262,7 @@ fn asked_in(
 ) -> Result<String, Fail> {
     let asked = Rc::new(alloc, Cell::new(0))?;
     let _made = replies(alloc, hive, setup)?;
-    register(&mut hive.hive, status, &asked)?;
+    register(hive, status, &asked)?;
     let reply = replies(alloc, hive, call)?;
     Ok(format!(in alloc; "{} | {}", reply.as_str().trim_end(), asked.get())?)
 }

@@ -43,7 +43,7 @@ fn open(hive: &mut Hive<NoCallback>, share: &mut Share) -> u32 {
 }
 
 /// A call by a hive's share, one by that share at another hive, and one more at its own; the rows of both hives' books then, and of a
-/// session without a seat.
+/// session without a seat, and how many seats there are.
 fn shared(
     alloc: Global,
     own: &mut Hive<NoCallback>,
@@ -57,7 +57,7 @@ fn shared(
         open(own, &mut share),
     );
     Ok(format!(in alloc;
-        "{} {} {}, {} and {} entries, {} counted, rows {:?} {:?} {:?}",
+        "{} {} {}, {} and {} entries, {} counted, rows {:?} {:?} {:?}, {} seat",
         first,
         strange,
         last,
@@ -66,7 +66,8 @@ fn shared(
         share.count(),
         own.row(0),
         other.row(0),
-        own.row(1)
+        own.row(1),
+        own.seats()
     )?)
 }
 
@@ -88,6 +89,6 @@ fn seats_are_given_once_and_to_64_sessions_at_most(rt: HostRuntime) -> Result<()
 fn a_share_that_has_counted_a_call_is_1009_at_another_hive(rt: HostRuntime) -> Result<(), Fail> {
     assert_report(
         told_of_shares(rt.alloc()),
-        "0 1009 0, 2 and 0 entries, 2 counted, rows Some(2) Some(0) None",
+        "0 1009 0, 2 and 0 entries, 2 counted, rows Some(2) Some(0) None, 1 seat",
     )
 }
