@@ -1,0 +1,4 @@
+pub mod Locked
+pub mod Sessions
+pub mod Jobs
+pub mod Gather
