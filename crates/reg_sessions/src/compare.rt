@@ -43,6 +43,7 @@ fn is_receipt(entry: &Entry, receipts: &[Receipt], place: usize) -> bool
 }
 
 /// Compares a hive's journal with the receipts of all sessions, in one pass with a place in each session's receipts.
+#[tactic(auto, using(crate::proofs::Compared::small, crate::proofs::Compared::found, crate::proofs::Compared::starts, crate::proofs::Compared::goes_on, crate::proofs::Compared::stray, crate::proofs::Compared::differs, crate::proofs::Compared::is_short, crate::proofs::Compared::gathered))]
 pub fn first_gap<C: Callback>(hive: &Hive<C>, number: u8, sessions: &[Session]) -> Option<Gap>
     requires { length sessions.now ≤ SESSIONS_LIMIT }
     ensures some { IfSome result (λ g. Differ (view_of hive.now).journal number sessions.now g.session g.place) }

@@ -56,6 +56,7 @@ fn do_one<Rt: Wait, G: HiveGate, C: Callback>(
 }
 
 /// Does all work of a session, in order.
+#[tactic(auto, using(crate::proofs::JobsDone::done_none, crate::proofs::JobsDone::done_next))]
 fn do_all<Rt: Wait, G: HiveGate, C: Callback>(
     rt: &Rt,
     registry: &Registry<C>,
@@ -100,6 +101,7 @@ impl Job {
 }
 
 /// Makes room in each job.
+#[tactic(auto, using(crate::proofs::JobsDone::same_more, crate::proofs::JobsDone::room_more))]
 fn make_rooms(jobs: &mut [Job]) -> Result<(), AllocError>
     ensures same { (i : ℕ) (d : Job) → i < length jobs.old → IsSameJob (slice_index_or jobs.old i d) (slice_index_or jobs.new i d) }
     ensures room { OnOk result ((i : ℕ) (d : Job) → i < length jobs.old → HasRoom (slice_index_or jobs.new i d)) }
@@ -134,6 +136,7 @@ fn run_jobs<Rt: Threads + Wait + Sync, G: HiveGate>(
 /// Runs each job on a thread of its own, and waits for all. Where the system gives no thread, jobs run one after another. Each job keeps
 /// its session and its work, and has one outcome more for each work, in order. `Memory` where there is none for the outcomes; then no job
 /// was begun. Each work names a hive that is there, and each session has a seat at each hive.
+#[tactic(auto, using(crate::proofs::JobsDone::is_done, crate::proofs::JobsDone::still_ready))]
 pub fn drive<Rt: Threads + Wait + Sync, G: HiveGate>(
     rt: &Rt,
     registry: &Registry,

@@ -117,6 +117,7 @@ fn opened<C: Callback>(registry: Registry<C>) -> Audit<C>
 }
 
 /// The first difference at a hive.
+#[tactic(auto, using(crate::proofs::Totals::audited))]
 fn first_at<C: Callback>(audit: &Audit<C>, hive: u8, sessions: &[Session]) -> Option<Spot>
     requires few { length sessions.now ≤ SESSIONS_LIMIT }
     requires hive { hive < length audit.now }

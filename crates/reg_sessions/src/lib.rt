@@ -33,6 +33,3 @@ pub use locked::Locked;
 pub use registry::{HIVES_LIMIT, Registry};
 pub use session::Session;
 pub use start::{StartFault, start};
-
-#[cfg(test)]
-mod tests;

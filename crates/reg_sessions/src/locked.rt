@@ -1,5 +1,5 @@
 //! What stands behind a hive's lock, and what is done while it is held.
-ghost use Rattle.std.specs.Prelude.{◌≡◌, ◌≢◌, ◌+◌, ◌≤◌, Some, IfErr, ◌⊎◌, unwrap_or};
+ghost use Rattle.std.specs.Prelude.{◌≡◌, ◌≢◌, ◌+◌, ◌<◌, ◌≤◌, ◌↔◌, ◌⊎◌, Some, IfErr, IsTrue, unwrap_or};
 ghost use Rattle.reg_model.specs.declared.answer.AnswerBody.TheVariants.{Refused};
 ghost use Rattle.reg_model.specs.declared.statuses.TheConstants.{BAD_DATABASE, NOT_ENOUGH_MEMORY};
 ghost use Rattle.reg_model.specs.Replies.{refusal};
@@ -90,13 +90,7 @@ impl<C: Callback> Locked<C> {
     }
 
     /// Answers a change for whose receipt there is no memory: 1009 as of `change`, else its first cause, or else 8. Takes no memory.
-    pub(crate) fn lack(
-        &self,
-        share: &Share,
-        mark: u64,
-        moment: u64,
-        change: &Change,
-    ) -> ChangeReply
+    pub(crate) fn lack(&self, share: &Share, mark: u64, moment: u64, change: &Change) -> ChangeReply
         ensures refused { result.status ≢ 0 }
         ensures lawful { result.status ≢ BAD_DATABASE → result.status ≢ NOT_ENOUGH_MEMORY → IsLawfulReply share.now moment change.now result }
     {

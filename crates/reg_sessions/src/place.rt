@@ -45,11 +45,7 @@ fn closes(change: &Change) -> bool
 
 /// Makes room for a receipt, beside that for the closing of each open handle, and of one more that the change may open. A Close has its
 /// room already, if any handle is open.
-fn make_room(
-    receipts: &mut Vec<Receipt>,
-    handles: usize,
-    is_close: bool,
-) -> Result<(), AllocError>
+fn make_room(receipts: &mut Vec<Receipt>, handles: usize, is_close: bool) -> Result<(), AllocError>
     requires { vec_len receipts.old + handles ≤ vec_capacity receipts.old }
     ensures receipts { receipts.new.items ≡ receipts.old.items }
     ensures kept { vec_len receipts.new + handles ≤ vec_capacity receipts.new }

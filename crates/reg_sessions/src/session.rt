@@ -48,6 +48,7 @@ impl Session {
     }
 
     /// Adds the session's seat at one hive more.
+    #[tactic(auto, using(crate::proofs::SessionPlaces::one_place_more))]
     pub(crate) fn add(&mut self, place: Place) -> Result<(), AllocError>
         requires { place.seat.session ≡ self.old.number }
         ensures ok { OnOk result (self.new ≡ record self.old { places = self.old.places ++ place ∷ [] }) }
@@ -86,6 +87,7 @@ impl Session {
     /// `Hive::apply` of reg_calls. Where it is accepted, and only then, the session has one receipt more, of this moment, change and
     /// reply. 1009 also where the hive has fewer entries than the session's mark there; never at the hive that gave the seat. Want of
     /// memory is 8, where nothing else refuses the change; a Close takes none.
+    #[tactic(auto, using(crate::proofs::SessionPlaces::place_set))]
     pub fn change<Rt: Wait, G: HiveGate, C: Callback>(
         &mut self,
         rt: &Rt,
@@ -112,6 +114,7 @@ impl Session {
 
     /// Asks a question at a hive: it waits for the hive's lock, and is answered as by `Hive::read` of reg_calls. 1009 as of `change`. After
     /// an answer with status 0 the session's mark there is its `at`.
+    #[tactic(auto, using(crate::proofs::SessionPlaces::place_set))]
     pub fn ask<Rt: Wait, G: HiveGate, C: Callback>(
         &mut self,
         rt: &Rt,

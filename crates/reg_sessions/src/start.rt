@@ -44,6 +44,7 @@ impl From<AllocError> for StartFault {
 }
 
 /// The sessions below `n`, which have no seat yet.
+#[tactic(auto, using(crate::proofs::Starts::fresh_more, crate::proofs::Starts::fresh_new))]
 fn fresh_sessions(alloc: Global, n: u8) -> Result<Vec<Session>, AllocError>
     ensures { IfOk result (λ v. (vec_len v ≡ n) × AreFresh 0 0 v.items) }
 {
@@ -127,6 +128,7 @@ fn locked<C: Callback>(
 /// Puts hives behind locks, and starts the sessions below `n`, each with a seat at each hive, no receipt, and marks of 0. The hives get
 /// the numbers from 0 on, in order. `Hives` where there is none or more than 16, else `Sessions` where `n` is 0 or above 64, else `Used`
 /// where a hive gave seats before or has an entry, else `Memory`; the hives are dropped then.
+#[tactic(auto, using(crate::proofs::Starts::in_order, crate::proofs::Starts::each_fresh))]
 pub fn start<C: Callback>(
     alloc: Global,
     hives: Vec<Hive<C>>,

@@ -30,6 +30,8 @@ mod rows;
 #[cfg(test)]
 mod seats;
 #[cfg(test)]
+mod sessions;
+#[cfg(test)]
 mod support;
 #[cfg(test)]
 mod trees;

@@ -1,0 +1,7 @@
+pub mod Admitted
+pub mod SessionPlaces
+pub mod Starts
+pub mod JobsDone
+pub mod Compared
+pub mod Totals
+pub mod RowsOfLimits

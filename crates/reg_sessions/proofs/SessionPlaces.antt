@@ -1,0 +1,23 @@
+-- What a session has at each of its hives, after a call at one of them.
+use Rattle.std.proofs.Common.{◌≡◌, ◌+◌, ◌==◌, ◌≤◌, ◌<◌, ℕ, List, [], ◌∷◌, ◌++◌, length, get_or, set, inl, inr, ◌⊎◌, length-append, refl, sym, arith, if◌then◌else◌}
+use Rattle.std.proofs.lemmas.List.{get_or-set_same, get_or-set_other, get_or_append_left}
+use Rattle.std.proofs.lemmas.Bool.{cases_lt}
+use Rattle.std.proofs.Math.Seq.{get_or-append_seam}
+use Rattle.std.proofs.lemmas.Bool.Decides.{nat_tests}
+use Rattle.reg_journal.specs.Kept.{Seat, seat}
+use Rattle.reg_sessions.specs.Sessions.{PlaceState, no_place}
+
+pub place_set : (ps : List PlaceState) (i h : ℕ) (p : PlaceState) → i < length ps → get_or (set ps i p) h no_place ≡ (if h == i then p else get_or ps h no_place)
+place_set ps i h p within = grind (arith, nat_tests, get_or-set_same ps i p no_place, get_or-set_other ps i h p no_place)
+
+pub one_place_more : (ps : List PlaceState) (p : PlaceState) (n : ℕ) → ((h : ℕ) → h < length ps → (get_or ps h no_place).seat.session ≡ n) → p.seat.session ≡ n
+    → (h : ℕ) → h < length (ps ++ p ∷ []) → (get_or (ps ++ p ∷ []) h no_place).seat.session ≡ n
+one_place_more ps p n all one h below =
+    elim (cases_lt h (length ps)) [
+      | inl b ↦ rw (get_or_append_left ps (p ∷ []) no_place h b) (all h b)
+      | inr b ↦ (let at : h ≡ length ps = omega (arith, below, length-append ps (p ∷ [])) in rw (at, get_or-append_seam ps p [] no_place) one)
+    ]
+
+-- the seat of a session's number
+pub own_seat : (x : Seat) (n : ℕ) → x.session ≡ n → x ≡ seat n x.count
+own_seat x n own = cc
