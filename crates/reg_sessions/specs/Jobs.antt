@@ -57,10 +57,18 @@ pub record IsDone (old new : Job) : Type 0 where
   pub work : new.work.items ≡ old.work.items
   pub done : AreDone old.session old.work.items old.outcomes.items new.session new.outcomes.items
 
+-- each work names one of so many hives
+abbrev pub AreWithin : ℕ → List Work → Type 0
+AreWithin hives work = (i : ℕ) (d : Work) → i < length work → (slice_index_or work i d).hive < hives
+
 -- a job can be run at so many hives: its session has a seat at each, and each work names one
 pub record IsReady (hives : ℕ) (job : Job) : Type 0 where
   pub seats : length job.session.places ≡ hives
-  pub within : (i : ℕ) (d : Work) → i < length job.work.items → (slice_index_or job.work.items i d).hive < hives
+  pub within : AreWithin hives job.work.items
+
+-- so can all jobs
+abbrev pub AreReady : ℕ → List Job → Type 0
+AreReady hives jobs = (i : ℕ) (d : Job) → i < length jobs → IsReady hives (slice_index_or jobs i d)
 
 -- there is room for an outcome of each work
 abbrev pub HasRoom : Job → Type 0

@@ -1,5 +1,5 @@
 ghost use Rattle.std.specs.Prelude.{◌≡◌, ◌+◌, ◌<◌, ◌≤◌, ◌==◌, ℕ, [], ◌++◌, length, slice_index_or, vec_len, vec_capacity, OnErr, OnOk, true, if◌then◌else◌};
-ghost use Rattle.reg_sessions.specs.Jobs.{AreDone, IsDone, IsReady, HasRoom, IsSameJob, receipts_of_one, is_of_kind};
+ghost use Rattle.reg_sessions.specs.Jobs.{AreDone, AreReady, AreWithin, IsDone, IsReady, HasRoom, IsSameJob, receipts_of_one, is_of_kind};
 ghost use Rattle.reg_sessions.specs.Sessions.{receipts_at};
 
 use crate::gate::HiveGate;
@@ -67,7 +67,7 @@ fn do_all<Rt: Wait, G: HiveGate, C: Callback>(
 )
     requires room { vec_len outcomes.old + length work.now ≤ vec_capacity outcomes.old }
     requires seats { length session.old.places ≡ registry.now.hives }
-    requires hives { (i : ℕ) (d : Work) → i < length work.now → (slice_index_or work.now i d).hive < registry.now.hives }
+    requires hives { AreWithin registry.now.hives work.now }
     ensures { AreDone session.old work.now outcomes.old.items session.new outcomes.new.items }
 {
     for one in work {
@@ -143,7 +143,7 @@ pub fn drive<Rt: Threads + Wait + Sync, G: HiveGate>(
     jobs: &mut [Job],
     gate: &G,
 ) -> Result<(), DriveFault>
-    requires ready { (i : ℕ) (d : Job) → i < length jobs.old → IsReady registry.now.hives (slice_index_or jobs.old i d) }
+    requires ready { AreReady registry.now.hives jobs.old }
     ensures done { OnOk result ((i : ℕ) (d : Job) → i < length jobs.old → IsDone (slice_index_or jobs.old i d) (slice_index_or jobs.new i d)) }
     ensures err { OnErr result ((i : ℕ) (d : Job) → i < length jobs.old → IsSameJob (slice_index_or jobs.old i d) (slice_index_or jobs.new i d)) }
 {

@@ -28,7 +28,7 @@ mod start;
 pub use drive::{DriveFault, drive};
 pub use gate::{HiveGate, OpenGate};
 pub use gather::{Audit, GatherFault, gather};
-pub use job::{Ask, Done, Job, Work};
+pub use job::{Ask, Done, Job, Work, are_ready};
 pub use locked::Locked;
 pub use registry::{HIVES_LIMIT, Registry};
 pub use session::Session;

@@ -22,6 +22,8 @@ mod faults;
 #[cfg(test)]
 mod large_images;
 #[cfg(test)]
+mod locks;
+#[cfg(test)]
 mod questions;
 #[cfg(test)]
 mod random_keys;
@@ -31,6 +33,8 @@ mod rows;
 mod seats;
 #[cfg(test)]
 mod sessions;
+#[cfg(test)]
+mod soak;
 #[cfg(test)]
 mod support;
 #[cfg(test)]
