@@ -12,7 +12,7 @@ use Rattle.reg_model.specs.declared.reply.Entry.{Entry}
 use Rattle.reg_model.specs.declared.reply.Receipt.{Receipt}
 use Rattle.reg_model.specs.Histories.{is_of, entries_of, receipt_of, receipts_of}
 use Rattle.reg_sessions.specs.Sessions.{SessionState, receipts_at, no_session}
-use Rattle.reg_sessions.specs.Gather.{receipts_by, IsGathered, Differ}
+use Rattle.reg_sessions.specs.Gathering.{receipts_by, IsGathered, Differ}
 
 -- each session's place is the number of its entries so far, whose receipts are those up to there
 pub record Compared (journal : List Entry) (h : ℕ) (ss : List SessionState) (i : ℕ) (places : List ℕ) : Type 0 where
@@ -170,6 +170,9 @@ gathered journal h ss places p all s =
 
 pub small : (journal : List Entry) (h : ℕ) (ss : List SessionState) (i : ℕ) (places : List ℕ) (s : ℕ) → Compared journal h ss i places → s < length ss → slice_index places s ≤ i
 small journal h ss i places s p known = p.small s known
+
+pub denied : (b : Bool) → b ≡ true → b ≡ false → ⊥
+denied b t f = cc
 
 -- an entry as code finds it
 pub found : (journal : List Entry) (i : ℕ) (e : Entry) → Some e ≡ slice_get journal i → (i < length journal) × (e ≡ get_or journal i e)

@@ -7,8 +7,6 @@ use Rattle.std.proofs.Math.Seq.{get_or-append_seam}
 use Rattle.std.specs.List.{range_with_len}
 use Rattle.std.proofs.lemmas.List.FromFn.{length-map-range_with_len, get_or-map-range_with_len}
 use Rattle.reg_journal.specs.Kept.{Seat, seat}
-use Rattle.reg_calls.specs.declared.hive.Hive.{Hive}
-use Rattle.reg_sessions.specs.Locked.{IsUnused, AreUnused}
 use Rattle.reg_sessions.specs.Sessions.{PlaceState, SessionState, IsFresh, AreFresh, AreInOrder, no_place, no_session, session_of}
 
 -- ---- sessions without a seat
@@ -125,20 +123,15 @@ same_number n k at ss x t s len all is here =
     ap (λ (y : Seat). y.session) a.0 ∙ sym (ap (λ (y : SessionState). y.number) (here ∙ get_or_default ss at s no_session below) ∙ (all at below).is_number)
 
 -- the session that got its seat
-pub seated_more : (n k at : ℕ) (ss : List SessionState) (x : Seat) (s : SessionState) (p : PlaceState) (new : SessionState) → at < length ss → AreFresh k at ss
+pub seated_more : (k at : ℕ) (ss : List SessionState) (x : Seat) (s : SessionState) (p : PlaceState) (new : SessionState) → at < length ss → AreFresh k at ss
     → s ≡ get_or ss at s → x ≡ seat at 0 → p ≡ record { seat = x; receipts = []; mark = 0 } → new ≡ record s { places = s.places ++ p ∷ [] }
     → AreFresh k (at + 1) (set ss at new)
 unfolding fresh_place
-seated_more n k at ss x s p new below all here share place is =
+seated_more k at ss x s p new below all here share place is =
     fresh_set k at ss new below all
     (is
     ∙ ap (λ (q : PlaceState). record s { places = s.places ++ q ∷ [] }) (place ∙ ap (λ (y : Seat). record { seat = y; receipts = []; mark = 0 }) share)
     ∙ ap (λ (y : SessionState). record y { places = y.places ++ fresh_place at ∷ [] }) (here ∙ get_or_default ss at s no_session below))
-
--- ---- hives
-
-pub unused_next : {C : Type 0} (h : Hive C) (hs : List (Hive C)) → AreUnused (h ∷ hs) → IsUnused h × AreUnused hs
-unused_next h hs all = (all 0 h (omega arith), (λ i d below. all (suc i) d (omega (arith, below))))
 
 -- ---- all sessions
 

@@ -1,5 +1,6 @@
 -- A journal that holds just the receipts of all sessions is as long as these together.
-use Rattle.std.proofs.Common.{◌≡◌, ◌+◌, ◌==◌, ◌≤◌, ◌<◌, ℕ, zero, suc, List, [], ◌∷◌, length, get_or, sum_by, refl, sym, ap, ◌∙◌, inl, inr, ◌⊎◌, arith, if◌then◌else◌, length-map}
+use Rattle.std.proofs.Common.{◌≡◌, ◌+◌, ◌==◌, ◌≤◌, ◌<◌, ℕ, zero, suc, List, [], ◌∷◌, length, get_or, sum_by, refl, sym, ap, ◌∙◌, inl, inr, ◌⊎◌, arith, if◌then◌else◌}
+use Rattle.std.proofs.lemmas.List.{length-map}
 use Rattle.std.proofs.lemmas.Bool.{cases_eq, cases_lt}
 use Rattle.std.proofs.lemmas.List.Sums.{sum_by-cons}
 use Rattle.std.proofs.Math.ListN.{get_or-eq_default}
@@ -9,7 +10,7 @@ use Rattle.reg_model.specs.declared.reply.Receipt.{Receipt}
 use Rattle.reg_model.specs.Histories.{entries_of, count_of, receipt_of}
 use Rattle.reg_calls.specs.Views.{Booked}
 use Rattle.reg_sessions.specs.Sessions.{SessionState, receipts_at, no_session}
-use Rattle.reg_sessions.specs.Gather.{IsAudited, IsGathered, journal_at, receipts_by}
+use Rattle.reg_sessions.specs.Gathering.{IsAudited, IsGathered, journal_at, receipts_by}
 
 -- f of each number below n, added up
 upto : (ℕ → ℕ) → ℕ → ℕ
@@ -79,7 +80,7 @@ added g [] = refl
 added g (x ∷ ss) = sum_by-cons g x ss ∙ ap (λ n. g x + n) (added g ss) ∙ sym (shift (λ s. g (get_or (x ∷ ss) s no_session)) (length ss))
 
 counts_are : (journal : List Entry) (h : ℕ) (ss : List SessionState) → IsGathered journal h ss → (s : ℕ) → count_of s journal ≡ length (receipts_by ss h s)
-counts_are journal h ss all s = sym (length-map receipt_of (entries_of s journal)) ∙ ap (λ (l : List Receipt). length l) (all s)
+counts_are journal h ss all s = sym (length-map (entries_of s journal) receipt_of) ∙ ap (λ (l : List Receipt). length l) (all s)
 
 totals : (journal : List Entry) (h : ℕ) (ss : List SessionState) → IsGathered journal h ss → length journal ≡ sum_by (λ s. length (receipts_at h s)) ss
 totals journal h ss all =

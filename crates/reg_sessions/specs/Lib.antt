@@ -1,4 +1,5 @@
+pub mod Internal
 pub mod Locked
 pub mod Sessions
 pub mod Jobs
-pub mod Gather
+pub mod Gathering

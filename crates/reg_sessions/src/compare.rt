@@ -4,7 +4,7 @@ ghost use Rattle.reg_model.specs.Histories.{receipt_of};
 ghost use Rattle.reg_model.specs.declared.limits.TheConstants.{SESSIONS_LIMIT};
 ghost use Rattle.reg_model.specs.declared.reply.Entry.{Entry as TheEntry};
 ghost use Rattle.reg_calls.specs.HiveView.{view_of};
-ghost use Rattle.reg_sessions.specs.Gather.{IsGathered, Differ};
+ghost use Rattle.reg_sessions.specs.Gathering.{IsGathered, Differ};
 
 use crate::session::Session;
 use reg_callbacks::Callback;

@@ -15,21 +15,21 @@
 #![tactic(auto)]
 
 mod compare;
-mod drive;
+mod driving;
 mod gate;
-mod gather;
+mod gathering;
 mod job;
 mod locked;
 mod place;
 mod registry;
 mod session;
-mod start;
+mod starting;
 
-pub use drive::{DriveFault, drive};
+pub use driving::{DriveFault, drive};
 pub use gate::{HiveGate, OpenGate};
-pub use gather::{Audit, GatherFault, gather};
+pub use gathering::{Audit, GatherFault, gather};
 pub use job::{Ask, Done, Job, Work, are_ready};
 pub use locked::Locked;
 pub use registry::{HIVES_LIMIT, Registry};
 pub use session::Session;
-pub use start::{StartFault, start};
+pub use starting::{StartFault, start};

@@ -3,9 +3,11 @@ ghost use Rattle.std.specs.Prelude.{◌≡◌, ◌≢◌, ◌+◌, ◌<◌, ◌�
 ghost use Rattle.reg_model.specs.declared.answer.AnswerBody.TheVariants.{Refused};
 ghost use Rattle.reg_model.specs.declared.statuses.TheConstants.{BAD_DATABASE, NOT_ENOUGH_MEMORY};
 ghost use Rattle.reg_model.specs.Replies.{refusal};
-ghost use Rattle.reg_calls.specs.HiveView.{view_of, noted_of};
+ghost use Rattle.reg_model.specs.declared.limits.TheConstants.{JOURNAL_LIMIT};
+ghost use Rattle.reg_calls.specs.HiveView.{asks_of, view_of, noted_of};
 ghost use Rattle.reg_calls.specs.Views.{next_of, IsAccepted, IsNoticeTaken};
-ghost use Rattle.reg_sessions.specs.Locked.{booked_of, IsAdmitted, IsLawfulReply, IsLawfulAnswer};
+ghost use Rattle.reg_sessions.specs.Locked.{booked_of, IsAdmitted, IsLawfulReply, IsLawfulAnswer, IsLawfulNotice};
+ghost use Rattle.reg_sessions.specs.Internal.Answered.{IsAnswered, IsCauseOf, IsAsked};
 
 use reg_callbacks::{Callback, CallbackFault, Cookie};
 use reg_calls::Hive;
@@ -21,10 +23,12 @@ pub struct Locked<C = Box<dyn Callback + Send>> {
 }
 
 impl<C> Model for Locked<C> {
-    ghost use Rattle.reg_calls.specs.Views.{Booked};
+    ghost use Rattle.reg_calls.specs.Views.{Booked, coded_booked};
     ghost use Rattle.reg_sessions.specs.Locked.{booked_of, IsAdmitted};
 
     ghost Value = { Booked };
+
+    ghost coded = { coded_booked };
 
     ghost view = { λ l. booked_of l.hive };
 
@@ -50,6 +54,32 @@ fn lacking(cause: Option<u32>) -> ChangeReply
     refused(cause.unwrap_or(NOT_ENOUGH_MEMORY))
 }
 
+/// Answers a change at a hive.
+fn apply<C: Callback>(
+    hive: &mut Hive<C>,
+    share: &mut Share,
+    moment: u64,
+    change: Change,
+) -> ChangeReply
+    ensures { IsAnswered (asks_of C.answers hive.old) (booked_of hive.old) (booked_of hive.new) share.old share.new moment change result }
+{
+    hive.apply(share, moment, change)
+}
+
+/// The cause of a change at a hive.
+fn cause<C: Callback>(hive: &Hive<C>, share: &Share, moment: u64, change: &Change) -> Option<u32>
+    ensures { IsCauseOf (asks_of C.answers hive.now) (booked_of hive.now) share.now moment change.now result }
+{
+    hive.cause(share, moment, change)
+}
+
+/// Answers a question at a hive.
+fn read<C: Callback>(hive: &Hive<C>, share: &Share, query: &Query) -> Answer
+    ensures { IsAsked (asks_of C.answers hive.now) (booked_of hive.now) share.now query.now result }
+{
+    hive.read(share, query)
+}
+
 impl<C: Callback> Locked<C> {
     /// The hive.
     pub(crate) fn hive(&self) -> &Hive<C>
@@ -61,7 +91,8 @@ impl<C: Callback> Locked<C> {
 
     /// Whether the hive has had fewer entries than a mark.
     fn is_behind(&self, mark: u64) -> bool
-        ensures { IsTrue result ↔ (next_of self.now.view < mark) }
+        ensures behind { IsTrue result ↔ (next_of self.now.view < mark) }
+        ensures few { next_of self.now.view ≤ JOURNAL_LIMIT }
     {
         (self.hive.len() as u64) < mark
     }
@@ -79,6 +110,7 @@ impl<C: Callback> Locked<C> {
         ensures accepted { result.status ≡ 0 → IsAccepted self.old.view self.new.view share.old.session moment change result }
         ensures number { result.status ≡ 0 → result.number ≡ Some (next_of self.old.view) }
         ensures later { result.status ≡ 0 → (share.old.count ≤ next_of self.old.view) × (mark ≤ next_of self.old.view) }
+        ensures few { next_of self.old.view ≤ JOURNAL_LIMIT }
         ensures counted { result.status ≡ 0 → share.new.count ≡ share.old.count + 1 }
         ensures refused { result.status ≢ 0 → (self.new ≡ self.old) × (share.new ≡ share.old) }
         ensures lawful { result.status ≢ BAD_DATABASE → IsLawfulReply share.old moment change result }
@@ -86,7 +118,7 @@ impl<C: Callback> Locked<C> {
         if self.is_behind(mark) {
             return refused(BAD_DATABASE);
         }
-        self.hive.apply(share, moment, change)
+        apply(&mut self.hive, share, moment, change)
     }
 
     /// Answers a change for whose receipt there is no memory: 1009 as of `change`, else its first cause, or else 8. Takes no memory.
@@ -97,7 +129,7 @@ impl<C: Callback> Locked<C> {
         if self.is_behind(mark) {
             return refused(BAD_DATABASE);
         }
-        lacking(self.hive.cause(share, moment, change))
+        lacking(cause(&self.hive, share, moment, change))
     }
 
     /// Answers a question of a session whose mark on the hive this is. 1009 as of `change`.
@@ -113,12 +145,13 @@ impl<C: Callback> Locked<C> {
                 },
             };
         }
-        self.hive.read(share, query)
+        read(&self.hive, share, query)
     }
 
     /// Hands a session its next notice.
     pub(crate) fn take_notice(&mut self, session: u8) -> Option<Notice>
         ensures notice { IsNoticeTaken self.old.view self.new.view session result }
+        ensures lawful { IsLawfulNotice session result }
         ensures noted { self.new.noted ≡ self.old.noted }
     {
         self.hive.take_notice(session)

@@ -1,5 +1,5 @@
 //! What a session has at one hive.
-ghost use Rattle.std.specs.Prelude.{◌≡◌, ◌≢◌, ◌+◌, ◌-◌, ◌^◌, ◌<◌, ◌≤◌, ◌==◌, [], ◌∷◌, ◌++◌, length, max, Some, false, true, IfOk, OnOk, vec_len, vec_capacity, if◌then◌else◌};
+ghost use Rattle.std.specs.Prelude.{◌≡◌, ◌≢◌, ◌+◌, ◌-◌, ◌^◌, ◌<◌, ◌≤◌, ◌==◌, [], ◌∷◌, ◌++◌, ℕ, length, max, Some, false, true, IfOk, OnOk, vec_len, vec_capacity, if◌then◌else◌};
 ghost use Rattle.reg_model.specs.declared.answer.AnswerBody.TheVariants.{Refused};
 ghost use Rattle.reg_model.specs.declared.statuses.TheConstants.{BAD_DATABASE, NOT_ENOUGH_MEMORY};
 ghost use Rattle.reg_sessions.specs.Locked.{IsLawfulReply, IsLawfulAnswer};
@@ -200,6 +200,7 @@ impl Place {
     ) -> Answer
         ensures kept { (self.new.receipts ≡ self.old.receipts) × (self.new.seat ≡ self.old.seat) }
         ensures mark { self.new.mark ≡ (if status_told result.body == 0 then result.at else self.old.mark) }
+        ensures refused { status_told result.body ≢ 0 → self.new ≡ self.old }
         ensures later { result.body ≢ Refused BAD_DATABASE → (self.old.seat.count ≤ result.at) × (self.old.mark ≤ result.at) }
         ensures lawful { result.body ≢ Refused BAD_DATABASE → IsLawfulAnswer self.old.seat query.now result }
     {

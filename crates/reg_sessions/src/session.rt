@@ -114,7 +114,7 @@ impl Session {
 
     /// Asks a question at a hive: it waits for the hive's lock, and is answered as by `Hive::read` of reg_calls. 1009 as of `change`. After
     /// an answer with status 0 the session's mark there is its `at`.
-    #[tactic(auto, using(crate::proofs::SessionPlaces::place_set))]
+    #[tactic(auto, using(crate::proofs::SessionPlaces::place_set, crate::proofs::SessionPlaces::set_same))]
     pub fn ask<Rt: Wait, G: HiveGate, C: Callback>(
         &mut self,
         rt: &Rt,

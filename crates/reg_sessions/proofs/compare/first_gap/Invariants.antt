@@ -1,6 +1,6 @@
 use Rattle.std.proofs.Common.{◌<◌, ◌≤◌, ℕ, length, slice_index}
 use Rattle.reg_calls.specs.HiveView.{view_of}
-use Rattle.reg_sessions.specs.Gather.{receipts_by}
+use Rattle.reg_sessions.specs.Gathering.{receipts_by}
 use Rattle.reg_sessions.proofs.Compared.{Compared}
 use Rattle.reg_sessions.proofs.compare.first_gap.Given as goal
 
