@@ -4,4 +4,5 @@ pub mod Starts
 pub mod JobsDone
 pub mod Compared
 pub mod Totals
+pub mod Crossings
 pub mod RowsOfLimits

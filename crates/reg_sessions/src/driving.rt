@@ -113,9 +113,9 @@ fn make_rooms(jobs: &mut [Job]) -> Result<(), AllocError>
 }
 
 /// Runs the jobs, which have room.
-fn run_jobs<Rt: Threads + Wait + Sync, G: HiveGate>(
+fn run_jobs<Rt: Threads + Wait + Sync, G: HiveGate, C: Callback + Send>(
     rt: &Rt,
-    registry: &Registry,
+    registry: &Registry<C>,
     jobs: &mut [Job],
     gate: &G,
 )
@@ -137,9 +137,9 @@ fn run_jobs<Rt: Threads + Wait + Sync, G: HiveGate>(
 /// its session and its work, and has one outcome more for each work, in order. `Memory` where there is none for the outcomes; then no job
 /// was begun. Each work names a hive that is there, and each session has a seat at each hive.
 #[tactic(auto, using(crate::proofs::JobsDone::is_done, crate::proofs::JobsDone::still_ready))]
-pub fn drive<Rt: Threads + Wait + Sync, G: HiveGate>(
+pub fn drive<Rt: Threads + Wait + Sync, G: HiveGate, C: Callback + Send>(
     rt: &Rt,
-    registry: &Registry,
+    registry: &Registry<C>,
     jobs: &mut [Job],
     gate: &G,
 ) -> Result<(), DriveFault>
