@@ -1,24 +1,21 @@
 -- What a lock's type admits, after calls; and what a session is told there.
 use Rattle.std.proofs.Common.{◌≡◌, ◌≢◌, ◌+◌, ◌<◌, ◌≤◌, ◌==◌, ◌++◌, ◌∷◌, ◌⊎◌, [], ℕ, Bool, true, false, IsTrue, List, Option, Some, None, length, if◌then◌else◌, inl, inr, arith, refl, sym, ap, ◌∙◌, subst, length-append, replicate, unwrap_or}
-use Rattle.std.specs.List.{filter}
 use Rattle.std.proofs.lemmas.List.Elements.{filter-append}
 use Rattle.std.proofs.lemmas.Bool.Decides.{nat_tests}
 use Rattle.std.proofs.lemmas.Bool.{cases_eq, cases_lt}
-use Rattle.reg_model.specs.Callbacks.{Callbacks, change_status}
-use Rattle.reg_model.specs.Causes.{change_cause}
+use Rattle.reg_model.specs.Callbacks.{Callbacks}
 use Rattle.reg_model.specs.Histories.{is_of, entries_of, count_of}
 use Rattle.reg_model.specs.Replies.{refusal, reply_to}
 use Rattle.reg_model.specs.declared.answer.Answer.{Answer}
 use Rattle.reg_model.specs.declared.answer.AnswerBody.TheVariants.{Refused}
 use Rattle.reg_model.specs.declared.call.Change.{Change}
 use Rattle.reg_model.specs.declared.call.Query.{Query}
-use Rattle.reg_model.specs.declared.notice.Notice.{Notice}
 use Rattle.reg_model.specs.declared.reply.Entry.{Entry}
 use Rattle.reg_model.specs.declared.reply.ChangeReply.{ChangeReply}
 use Rattle.reg_model.proofs.CallSteps.{not_zero}
 use Rattle.reg_journal.specs.Kept.{Seat, seat, IsCurrent, row_of}
 use Rattle.reg_journal.proofs.Book.{row_at_most, row_is}
-use Rattle.reg_calls.specs.Views.{View, Booked, state, next_of, entry_of, IsApplied, IsAppliedBy, IsAccepted, IsHive, IsNoticeTaken, IsRead}
+use Rattle.reg_calls.specs.Views.{View, Booked, state, next_of, entry_of, IsAppliedBy, IsAccepted, IsHive}
 use Rattle.reg_calls.proofs.AcceptedChanges.{either, refused}
 use Rattle.reg_sessions.specs.Locked.{IsAdmitted, IsLawfulReply, IsLawfulAnswer}
 use Rattle.reg_sessions.specs.Internal.Answered.{IsAnswered, IsCauseOf, IsAsked}

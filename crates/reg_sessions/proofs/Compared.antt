@@ -1,16 +1,15 @@
 -- A journal beside the receipts of all sessions, entry by entry.
-use Rattle.std.proofs.Common.{◌≡◌, ◌+◌, ◌==◌, ◌≤◌, ◌<◌, ◌≢◌, ℕ, Bool, true, false, cond, List, [], ◌∷◌, ◌++◌, length, get_or, map, slice_get, slice_index, set, take, drop, replicate, refl, sym, ap, ◌∙◌, subst, inl, inr, ◌⊎◌, Some, None, Option, arith, if◌then◌else◌, append_assoc, append-nil, eq-eqb, ne_eqb}
+use Rattle.std.proofs.Common.{◌≡◌, ◌+◌, ◌==◌, ◌≤◌, ◌<◌, ◌≢◌, ℕ, Bool, true, false, cond, List, [], ◌∷◌, ◌++◌, length, get_or, map, slice_get, slice_index, set, take, drop, replicate, refl, sym, ap, ◌∙◌, subst, inl, inr, Some, None, Option, arith, if◌then◌else◌, append_assoc, append-nil, eq-eqb, ne_eqb}
 use Rattle.std.specs.List.{filter}
 use Rattle.std.proofs.lemmas.List.{get_or-set_same, get_or-set_other, take_all, length-take-le, length-set, take-append-drop, take_more, map-append}
 use Rattle.std.proofs.lemmas.List.Elements.{filter_more, filter-append}
 use Rattle.std.proofs.lemmas.Bool.{cases_eq, cases_lt}
 use Rattle.std.proofs.lemmas.Option.{slice_get_past, slice_get-get_or, slice_get_within, get_or_from_slice_get}
 use Rattle.std.proofs.Math.ListN.{get_or-eq_default}
-use Rattle.std.proofs.Math.Seq.{get_or-append_seam}
 use Rattle.reg_journal.proofs.Book.{replicated}
 use Rattle.reg_model.specs.declared.reply.Entry.{Entry}
 use Rattle.reg_model.specs.declared.reply.Receipt.{Receipt}
-use Rattle.reg_model.specs.Histories.{is_of, entries_of, receipt_of, receipts_of}
+use Rattle.reg_model.specs.Histories.{is_of, receipt_of, receipts_of}
 use Rattle.reg_sessions.specs.Sessions.{SessionState, receipts_at, no_session}
 use Rattle.reg_sessions.specs.Gathering.{receipts_by, IsGathered, Differ}
 

@@ -1,10 +1,10 @@
 -- What a session has at each of its hives, after a call at one of them.
-use Rattle.std.proofs.Common.{◌≡◌, ◌+◌, ◌==◌, ◌≤◌, ◌<◌, ℕ, zero, suc, List, [], ◌∷◌, ◌++◌, length, get_or, set, inl, inr, ◌⊎◌, length-append, sym, ap, ◌∙◌, arith, if◌then◌else◌}
+use Rattle.std.proofs.Common.{◌≡◌, ◌==◌, ◌<◌, ℕ, zero, suc, List, [], ◌∷◌, ◌++◌, length, get_or, set, inl, inr, length-append, ap, ◌∙◌, arith, if◌then◌else◌}
 use Rattle.std.proofs.lemmas.List.{get_or-set_same, get_or-set_other, get_or_append_left, get_or_default}
 use Rattle.std.proofs.lemmas.Bool.{cases_lt}
 use Rattle.std.proofs.Math.Seq.{get_or-append_seam}
 use Rattle.std.proofs.lemmas.Bool.Decides.{nat_tests}
-use Rattle.reg_journal.specs.Kept.{Seat, seat}
+use Rattle.reg_journal.specs.Kept.{seat}
 use Rattle.reg_sessions.specs.Sessions.{PlaceState, no_place, place_of}
 
 pub place_set : (ps : List PlaceState) (i h : ℕ) (p : PlaceState) → i < length ps → get_or (set ps i p) h no_place ≡ (if h == i then p else get_or ps h no_place)

@@ -1,5 +1,5 @@
 -- What is known once the sessions are gathered.
-use Rattle.std.specs.Prelude.{◌≡◌, ◌≢◌, ◌<◌, ℕ, List, [], Option, Some, None, length, map, sum_by, slice_get}
+use Rattle.std.specs.Prelude.{◌≡◌, ◌≢◌, ◌<◌, ℕ, List, [], Option, Some, None, length, sum_by, slice_get}
 use Rattle.reg_model.specs.Histories.{receipts_of}
 use Rattle.reg_model.specs.declared.reply.Entry.{Entry}
 use Rattle.reg_model.specs.declared.reply.Receipt.{Receipt}

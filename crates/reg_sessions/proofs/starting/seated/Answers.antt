@@ -1,4 +1,4 @@
-use Rattle.std.proofs.Common.{◌≡◌, ◌≤◌, ◌<◌, ◌∙◌, ◌∷◌, ◌++◌, List, sym, ap, arith, rules, length}
+use Rattle.std.proofs.Common.{◌≡◌, ◌<◌, ◌∙◌, List, sym, ap, arith, rules, length}
 use Rattle.std.specs.Vec.Iter.{into_iter_items}
 use Rattle.reg_journal.specs.Kept.{Seat}
 use Rattle.reg_sessions.specs.Sessions.{PlaceState}

@@ -1,4 +1,4 @@
-use Rattle.std.proofs.Common.{◌≡◌, ◌≤◌, ◌∙◌, ℕ, Some, subst}
+use Rattle.std.proofs.Common.{◌≡◌, ◌≤◌, ◌∙◌, Some, subst}
 use Rattle.reg_calls.specs.HiveView.{view_of}
 use Rattle.reg_calls.specs.Views.{Booked, IsAccepted, next_of}
 use Rattle.reg_sessions.proofs.Admitted.{admitted-changed, accepted, number-told, count-within, counted-more, left, lawful, not-behind}
