@@ -22,8 +22,6 @@ mod faults;
 #[cfg(test)]
 mod large_images;
 #[cfg(test)]
-mod locks;
-#[cfg(test)]
 mod questions;
 #[cfg(test)]
 mod random_keys;
@@ -31,10 +29,6 @@ mod random_keys;
 mod rows;
 #[cfg(test)]
 mod seats;
-#[cfg(test)]
-mod sessions;
-#[cfg(test)]
-mod soak;
 #[cfg(test)]
 mod support;
 #[cfg(test)]

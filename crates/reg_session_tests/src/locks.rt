@@ -1,10 +1,10 @@
 //! The rules' row of two locks: two sessions change two hives, and each waits inside its hive's lock until the other is inside its own. That
 //! ends well only where the jobs run side by side, and each hive has a lock of its own.
-use crate::asserts::assert_report;
+use crate::asserts::{assert_report, tell_gathered};
 use reg_calls::Hive;
 use reg_model::{Bytes, Call, Change, Outcome};
 use reg_sessions::{
-    Ask, Done, HiveGate, Job, OpenGate, Registry, Session, Work, are_ready, drive, gather, start,
+    Ask, Done, HiveGate, Job, OpenGate, Registry, Session, Work, are_ready, drive, start,
 };
 use std::alloc::Global;
 use std::sync::Wait;
@@ -14,6 +14,7 @@ use std::thread::Threads;
 
 /// How often a flag is looked at before a wait is given up: so many turns, of so many reads.
 const TURNS: u32 = 1_000_000;
+
 const READS: u32 = 1_000;
 
 /// A gate at which session 0 in hive 0 and session 1 in hive 1 wait for one another.
@@ -74,7 +75,10 @@ fn opened<Rt: Wait>(rt: &Rt, registry: &Registry, session: &mut Session) -> Resu
         return Err("there is no such hive".into());
     }
     let open = Change::OpenRoot { mask: 983_103 };
-    match session.change(rt, registry, &OpenGate, hive, 0, &open).handle {
+    match session
+        .change(rt, registry, &OpenGate, hive, 0, &open)
+        .handle
+    {
         Some(handle) => Ok(handle),
         None => Err("the root was not opened".into()),
     }
@@ -159,21 +163,6 @@ fn two_jobs<Rt: Wait>(rt: &Rt, alloc: Global) -> Result<(Registry, Vec<Job>), Fa
         jobs.push(job(rt, alloc, &registry, session)?)?;
     }
     Ok((registry, jobs))
-}
-
-/// How many entries each hive has, once all sessions are gathered.
-fn tell_gathered(
-    registry: Registry,
-    sessions: Vec<Session>,
-    text: &mut String,
-) -> Result<(), Fail> {
-    let Ok(audit) = gather(registry, sessions) else {
-        return Err("not gathered".into());
-    };
-    for hive in 0..audit.hives() {
-        write!(text, "{} entries\n", audit.entries(hive as u8))?;
-    }
-    Ok(())
 }
 
 fn told<Rt: Threads + Wait + Sync>(rt: &Rt, alloc: Global) -> Result<String, Fail> {

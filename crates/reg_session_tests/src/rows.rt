@@ -1,11 +1,11 @@
 //! The rules' rows of sessions, on one thread: a loaded hive behind a lock, a callback that comes and goes there, and two hives in turn.
-use crate::asserts::assert_report;
-use crate::support::{fresh, replies};
+use crate::asserts::{assert_report, tell_gathered};
 use reg_callbacks::{Callback, Cookie};
 use reg_calls::{Hive, SeatedHive};
 use reg_image::{image, load};
 use reg_model::{AnswerBody, Bytes, Change, Query};
-use reg_sessions::{Audit, OpenGate, Registry, Session, gather, start};
+use reg_script::run;
+use reg_sessions::{OpenGate, Registry, Session, start};
 use std::alloc::{AllocError, Global};
 use std::sync::Wait;
 use std::test::Fail;
@@ -43,12 +43,20 @@ create 0 =A\\c 983103
 set 1 =v 4 x01000000
 set 1 = 1 x
 ";
-    let _replies = replies(alloc, hive, script)?;
+    let mut input = script.as_bytes();
+    let mut output = Vec::new(alloc);
+    run(
+        alloc,
+        &mut input,
+        &mut output,
+        &mut hive.hive,
+        &mut hive.shares,
+    )?;
     Ok(image(alloc, &hive.hive, 7, 1)?)
 }
 
 fn first_image(alloc: Global) -> Result<Vec<u8>, Fail> {
-    let mut hive = fresh(alloc)?;
+    let mut hive = SeatedHive::new(Hive::new(alloc, b"ROOT", &[7; 20], 0)?)?;
     image_of(alloc, &mut hive)
 }
 
@@ -82,7 +90,10 @@ fn tell_change<Rt: Wait>(
 fn tell_body(body: &AnswerBody, text: &mut String) -> Result<(), Fail> {
     match body {
         AnswerBody::Refused { status } => write!(text, "{status}")?,
-        AnswerBody::Value { bytes: Some(bytes), .. } => write!(text, "{:?}", bytes.as_slice())?,
+        AnswerBody::Value {
+            bytes: Some(bytes),
+            ..
+        } => write!(text, "{:?}", bytes.as_slice())?,
         AnswerBody::Key { name, time } => write!(text, "{:?} {time}", name.as_slice())?,
         _ => write!(text, "another answer")?,
     }
@@ -108,22 +119,6 @@ fn tell_answer<Rt: Wait>(
     tell_body(&answer.body, text)?;
     write!(text, " at {}\n", answer.at)?;
     Ok(())
-}
-
-/// How many entries the hives have.
-fn tell_entries(audit: &Audit, text: &mut String) -> Result<(), Fail> {
-    for hive in 0..audit.hives() {
-        write!(text, "{} entries\n", audit.entries(hive as u8))?;
-    }
-    Ok(())
-}
-
-/// Gathers all sessions.
-fn tell_gathered(registry: Registry, sessions: Vec<Session>, text: &mut String) -> Result<(), Fail> {
-    match gather(registry, sessions) {
-        Ok(audit) => tell_entries(&audit, text),
-        Err(_) => Err("not gathered".into()),
-    }
 }
 
 /// Registers a callback on a hive, and tells its cookie.
@@ -178,10 +173,24 @@ fn guarded<Rt: Wait>(
 ) -> Result<String, Fail> {
     let mut text = String::new(alloc);
     tell_change(rt, registry, sessions.get_mut(0), 0, &open(), &mut text)?;
-    tell_answer(rt, registry, sessions.get_mut(0), 0, &first_key(), &mut text)?;
+    tell_answer(
+        rt,
+        registry,
+        sessions.get_mut(0),
+        0,
+        &first_key(),
+        &mut text,
+    )?;
     let cookie = register(rt, alloc, registry)?;
     tell_change(rt, registry, sessions.get_mut(0), 0, &open(), &mut text)?;
-    tell_answer(rt, registry, sessions.get_mut(0), 0, &first_key(), &mut text)?;
+    tell_answer(
+        rt,
+        registry,
+        sessions.get_mut(0),
+        0,
+        &first_key(),
+        &mut text,
+    )?;
     unregister(rt, registry, cookie, &mut text)?;
     tell_change(rt, registry, sessions.get_mut(0), 0, &open(), &mut text)?;
     Ok(text)
@@ -238,7 +247,9 @@ fn told_in_turn<Rt: Wait>(rt: &Rt, alloc: Global) -> Result<String, Fail> {
 }
 
 #[test]
-fn a_loaded_hive_answers_behind_its_lock_and_a_callback_comes_and_goes(rt: HostRuntime) -> Result<(), Fail> {
+fn a_loaded_hive_answers_behind_its_lock_and_a_callback_comes_and_goes(
+    rt: HostRuntime,
+) -> Result<(), Fail> {
     assert_report(
         told_of_a_guard(&rt, rt.alloc()),
         "0 number Some(0)\n[65] 7 at 1\n5 number None\n5 at 1\nthe box answers 5\n0 number Some(1)\n2 entries\n",
