@@ -1,0 +1,224 @@
+-- What a lock's type admits, after calls; and what a session is told there.
+use Rattle.std.proofs.Common.{◌≡◌, ◌≢◌, ◌+◌, ◌<◌, ◌≤◌, ◌==◌, ◌++◌, ◌∷◌, ◌⊎◌, [], ℕ, Bool, true, false, IsTrue, List, Option, Some, None, length, if◌then◌else◌, inl, inr, arith, refl, sym, ap, ◌∙◌, subst, length-append, replicate, unwrap_or}
+use Rattle.std.proofs.lemmas.List.Elements.{filter-append}
+use Rattle.std.proofs.lemmas.Bool.Decides.{nat_tests}
+use Rattle.std.proofs.lemmas.Bool.{cases_eq, cases_lt}
+use Rattle.reg_model.specs.Callbacks.{Callbacks}
+use Rattle.reg_model.specs.Histories.{is_of, entries_of, count_of}
+use Rattle.reg_model.specs.Replies.{refusal, reply_to}
+use Rattle.reg_model.specs.declared.answer.Answer.{Answer}
+use Rattle.reg_model.specs.declared.answer.AnswerBody.TheVariants.{Refused}
+use Rattle.reg_model.specs.declared.call.Change.{Change}
+use Rattle.reg_model.specs.declared.call.Query.{Query}
+use Rattle.reg_model.specs.declared.reply.Entry.{Entry}
+use Rattle.reg_model.specs.declared.reply.ChangeReply.{ChangeReply}
+use Rattle.reg_model.proofs.CallSteps.{not_zero}
+use Rattle.reg_journal.specs.Kept.{Seat, seat, IsCurrent, row_of}
+use Rattle.reg_journal.proofs.Book.{row_at_most, row_is}
+use Rattle.reg_calls.specs.Views.{View, Booked, state, next_of, entry_of, IsAppliedBy, IsAccepted, IsHive}
+use Rattle.reg_calls.proofs.AcceptedChanges.{either, refused}
+use Rattle.reg_sessions.specs.Locked.{IsAdmitted, IsLawfulReply, IsLawfulAnswer}
+use Rattle.reg_sessions.specs.Internal.Answered.{IsAnswered, IsCauseOf, IsAsked}
+
+-- whether the share is current
+pub decided : (b : Booked) (share : Seat) → IsCurrent b.noted b.view.journal share ⊎ (IsCurrent b.noted b.view.journal share → ⊥)
+decided b share =
+    elim (cases_lt share.session (length b.noted)) [
+      | inl within ↦ elim (cases_eq share.count (row_of b.noted b.view.journal share.session)) [
+        | inl row ↦ inl (record { seated = within; counted = row })
+        | inr ne ↦ inr (λ c. ne c.counted)
+      ]
+      | inr past ↦ inr (λ c. let w = c.seated in absurd (omega (arith, past, w)))
+    ]
+
+-- ---- one entry more
+
+count-more : (t : ℕ) (es : List Entry) (e : Entry) → count_of t (es ++ e ∷ []) ≡ count_of t es + (if e.session == t then 1 else 0)
+count-more t es e = grind (arith, filter-append (is_of t) es (e ∷ []), length-append (entries_of t es) (entries_of t (e ∷ [])))
+
+count-own : (t : ℕ) (es : List Entry) (e : Entry) → e.session ≡ t → count_of t (es ++ e ∷ []) ≡ count_of t es + 1
+count-own t es e own = let m = count-more t es e in grind (arith, nat_tests)
+
+count-other : (t : ℕ) (es : List Entry) (e : Entry) → (e.session ≡ t → ⊥) → count_of t (es ++ e ∷ []) ≡ count_of t es
+count-other t es e ne = let m = count-more t es e in grind (arith, nat_tests)
+
+-- a hive that has the same journal
+pub admitted_journal : (b new : Booked) → IsAdmitted b → IsHive new.view → new.noted ≡ b.noted → new.view.journal ≡ b.view.journal → IsAdmitted new
+admitted_journal b new a hive noted journal = record {
+  hive = hive;
+  rows = λ s. subst (λ (l : List ℕ). row_of l new.view.journal s ≡ count_of s new.view.journal) (sym noted)
+      (subst (λ (es : List Entry). row_of b.noted es s ≡ count_of s es) (sym journal) (a.rows s));
+  seated = λ s past. ap (λ (es : List Entry). count_of s es) journal ∙ a.seated s (subst (λ (l : List ℕ). length l ≤ s) noted past);
+}
+
+-- a hive that is the same
+pub admitted-same : (b new : Booked) → IsAdmitted b → new.noted ≡ b.noted → new.view ≡ b.view → IsAdmitted new
+admitted-same b new a noted same =
+    admitted_journal b new a (subst (λ (v : View). IsHive v) (sym same) a.hive) noted (ap (λ (v : View). v.journal) same)
+
+-- a hive that has an entry more, of a session that has a seat
+pub admitted-more : (b new : Booked) (e : Entry) → IsAdmitted b → IsHive new.view → new.noted ≡ b.noted → new.view.journal ≡ b.view.journal ++ e ∷ []
+    → e.session < length b.noted → IsAdmitted new
+admitted-more b new e a hive noted journal seat = record {
+  hive = hive;
+  rows = λ s. subst (λ (l : List ℕ). row_of l new.view.journal s ≡ count_of s new.view.journal) (sym noted) (let r = a.rows s in omega (arith, r));
+  seated = λ s past.
+      (let p = subst (λ (l : List ℕ). length l ≤ s) noted past in
+      ap (λ (es : List Entry). count_of s es) journal ∙ count-other s b.view.journal e (λ same. absurd (omega (arith, same, p, seat))) ∙ a.seated s p);
+}
+
+-- ---- a change
+
+pub status_is : (reply : ChangeReply) (status : ℕ) → reply ≡ refusal status → reply.status ≡ status
+status_is reply status e = ap (λ (r : ChangeReply). r.status) e
+
+pub admitted-changed : {k : Callbacks} {old new : Booked} {share after : Seat} {moment : ℕ} {change : Change} {reply : ChangeReply}
+    → IsAnswered k old new share after moment change reply → IsAdmitted old → IsAdmitted new
+admitted-changed {k} {old} {new} {share} {after} {moment} {change} {reply} p a =
+    elim (decided old share) [
+      | inl c ↦ elim (either _ old.view new.view share.session moment change reply (p.applied c)) [
+        | inl same ↦ admitted-same old new a p.noted same
+        | inr more ↦ admitted-more old new (entry_of old.view share.session moment change) a more.hive p.noted more.journal c.seated
+      ]
+      | inr none ↦ admitted-same old new a p.noted (p.stale none).1
+    ]
+
+lacking : {X Y : Type 0} (reply : ChangeReply) → ((reply ≡ refusal 8) × X) ⊎ ((reply ≡ refusal 1450) × Y) → reply.status ≡ 0 → ⊥
+lacking reply (inl h) z = let e = status_is reply 8 h.0 in omega (arith, e, z)
+lacking reply (inr h) z = let e = status_is reply 1450 h.0 in omega (arith, e, z)
+
+accepted-by : (cause : Option ℕ) (old new : View) (session moment : ℕ) (change : Change) (reply : ChangeReply) → cause ≢ Some 0
+    → IsAppliedBy cause old new session moment change reply → reply.status ≡ 0 → IsAccepted old new session moment change reply
+accepted-by (Some status) old new session moment change reply not h z = absurd (not (ap (λ (n : ℕ). Some n) (sym (status_is reply status h.0) ∙ z)))
+accepted-by None old new session moment change reply not (inl h) z = h
+accepted-by None old new session moment change reply not (inr h) z = absurd (lacking reply h.why z)
+
+-- a change with status 0 was accepted, by a share that was current
+pub accepted : {k : Callbacks} {old new : Booked} {share after : Seat} {moment : ℕ} {change : Change} {reply : ChangeReply}
+    → IsAnswered k old new share after moment change reply → reply.status ≡ 0
+    → IsCurrent old.noted old.view.journal share × IsAccepted old.view new.view share.session moment change reply
+accepted {k} {old} {new} {share} {after} {moment} {change} {reply} p z =
+    elim (decided old share) [
+      | inl c ↦ (c, accepted-by _ old.view new.view share.session moment change reply (not_zero (state old.view) share.session change _) (p.applied c) z)
+      | inr none ↦ absurd (let e = status_is reply 1009 (p.stale none).0 in omega (arith, e, z))
+    ]
+
+pub number-told : {old new : View} {session moment : ℕ} {change : Change} {reply : ChangeReply} → IsAccepted old new session moment change reply → reply.number ≡ Some (next_of old)
+unfolding reply_to
+number-told h = ap (λ (r : ChangeReply). r.number) h.says
+
+-- a current share has counted no more than the journal's entries
+pub count-within : (b : Booked) (share : Seat) → IsAdmitted b → IsCurrent b.noted b.view.journal share → share.count ≤ next_of b.view
+count-within b share a c =
+    let row = c.counted in
+    let is = a.rows share.session in
+    let few = row_at_most b.view.journal share.session in
+    omega (arith, row, is, few)
+
+pub counted-more : {k : Callbacks} {old new : Booked} {share after : Seat} {moment : ℕ} {change : Change} {reply : ChangeReply}
+    → IsAnswered k old new share after moment change reply → reply.status ≡ 0 → after.count ≡ share.count + 1
+counted-more {k} {old} {new} {share} {after} {moment} {change} {reply} p z =
+    let was = accepted p z in
+    let now = subst (λ (s : ℕ). after.count ≡ row_of new.noted new.view.journal s) p.session (p.current was.0).counted in
+    let here = subst (λ (l : List ℕ). after.count ≡ row_of l new.view.journal share.session) p.noted now in
+    let more = ap (λ (es : List Entry). count_of share.session es) was.1.journal ∙ count-own share.session old.view.journal (entry_of old.view share.session moment change) refl in
+    let row = was.0.counted in
+    omega (arith, here, more, row)
+
+same-booked : (b c : Booked) → b.view ≡ c.view → b.noted ≡ c.noted → b ≡ c
+same-booked b c v n = ap (λ (x : View). record { view = x; noted = b.noted }) v ∙ ap (λ (x : List ℕ). record { view = c.view; noted = x }) n
+
+same-seat : (s t : Seat) → s.session ≡ t.session → s.count ≡ t.count → s ≡ t
+same-seat s t x y = ap (λ (n : ℕ). seat n s.count) x ∙ ap (λ (n : ℕ). seat t.session n) y
+
+-- a change with another status left hive and share
+pub left : {k : Callbacks} {old new : Booked} {share after : Seat} {moment : ℕ} {change : Change} {reply : ChangeReply}
+    → IsAnswered k old new share after moment change reply → reply.status ≢ 0 → (new ≡ old) × (after ≡ share)
+left {k} {old} {new} {share} {after} {moment} {change} {reply} p other =
+    elim (decided old share) [
+      | inl c ↦
+          (let same = refused _ old.view new.view share.session moment change reply (p.applied c) other in
+          let now = subst (λ (s : ℕ). after.count ≡ row_of new.noted new.view.journal s) p.session (p.current c).counted in
+          let here = subst (λ (l : List ℕ). after.count ≡ row_of l new.view.journal share.session) p.noted now in
+          let at = subst (λ (v : View). after.count ≡ row_of old.noted v.journal share.session) same here in
+          (same-booked new old same p.noted, same-seat after share p.session (at ∙ sym c.counted)))
+      | inr none ↦ (same-booked new old (p.stale none).1 p.noted, (p.stale none).2)
+    ]
+
+pub lawful : {k : Callbacks} {old new : Booked} {share after : Seat} {moment : ℕ} {change : Change} {reply : ChangeReply}
+    → IsAnswered k old new share after moment change reply → IsAdmitted old → reply.status ≢ 1009 → IsLawfulReply share moment change reply
+lawful {k} {old} {new} {share} {after} {moment} {change} {reply} p a other =
+    elim (decided old share) [
+      | inl c ↦ record { hive = old; new = new.view; admitted = a; current = c; callbacks = k; applied = p.applied c }
+      | inr none ↦ absurd (other (status_is reply 1009 (p.stale none).0))
+    ]
+
+-- ---- a change for which there is no memory
+
+some-is : (n m : ℕ) → Some n ≡ Some m → n ≡ m
+some-is n m e = cc
+
+pub never-zero : {k : Callbacks} {b : Booked} {share : Seat} {moment : ℕ} {change : Change} (cause : Option ℕ) → IsCauseOf k b share moment change cause → unwrap_or cause 8 ≢ 0
+never-zero None p z = absurd (omega (arith, z))
+never-zero {k} {b} {share} {moment} {change} (Some status) p z =
+    elim (decided b share) [
+      | inl c ↦ not_zero (state b.view) share.session change _ (sym (p.cause c) ∙ ap (λ (n : ℕ). Some n) z)
+      | inr none ↦ (let e = some-is status 1009 (p.stale none) in omega (arith, e, z))
+    ]
+
+pub lacked : {k : Callbacks} {b : Booked} {share : Seat} {moment : ℕ} {change : Change} (cause : Option ℕ) (reply : ChangeReply) → IsCauseOf k b share moment change cause → IsAdmitted b
+    → reply ≡ refusal (unwrap_or cause 8) → reply.status ≢ 1009 → reply.status ≢ 8 → IsLawfulReply share moment change reply
+lacked None reply p a told stale lack = absurd (lack (status_is reply 8 told))
+lacked {k} {b} {share} {moment} {change} (Some status) reply p a told stale lack =
+    elim (decided b share) [
+      | inl c ↦ record {
+        hive = b;
+        new = b.view;
+        admitted = a;
+        current = c;
+        callbacks = k;
+        applied = subst (λ (o : Option ℕ). IsAppliedBy o b.view b.view share.session moment change reply) (p.cause c) (told, refl);
+      }
+      | inr none ↦ absurd (stale (status_is reply status told ∙ some-is status 1009 (p.stale none)))
+    ]
+
+-- ---- a question
+
+pub lawful-answer : {k : Callbacks} {b : Booked} {share : Seat} {query : Query} {answer : Answer} → IsAsked k b share query answer → IsAdmitted b
+    → answer.body ≢ Refused 1009 → IsLawfulAnswer share query answer
+lawful-answer {k} {b} {share} {query} {answer} p a other =
+    elim (decided b share) [
+      | inl c ↦ record { hive = b; admitted = a; current = c; callbacks = k; at = p.at; body = p.body c }
+      | inr none ↦ absurd (other (p.stale none))
+    ]
+
+pub count-at : {k : Callbacks} {b : Booked} {share : Seat} {query : Query} {answer : Answer} → IsAsked k b share query answer → IsAdmitted b
+    → answer.body ≢ Refused 1009 → share.count ≤ answer.at
+count-at {k} {b} {share} {query} {answer} p a other =
+    elim (decided b share) [
+      | inl c ↦ (let w = count-within b share a c in let at = p.at in omega (arith, w, at))
+      | inr none ↦ absurd (other (p.stale none))
+    ]
+
+-- ---- a new hive
+
+-- a hive that has had no entry, and that gave its first seats
+pub admitted_new : (b : Booked) (n : ℕ) → IsHive b.view → b.view.journal ≡ [] → b.noted ≡ replicate n 0 → IsAdmitted b
+admitted_new b n hive none rows = record {
+  hive = hive;
+  rows = λ s. subst (λ (l : List ℕ). row_of l b.view.journal s ≡ count_of s b.view.journal) (sym rows) (row_is n b.view.journal s);
+  seated = λ s past. ap (λ (es : List Entry). count_of s es) none;
+}
+
+-- ---- a mark
+
+no-true : false ≡ true → ⊥
+no-true e = cc
+
+-- a hive that isn't behind a mark has had so many entries
+pub not-behind : (b : Bool) (n mark : ℕ) → (n < mark → IsTrue b) → b ≡ false → mark ≤ n
+not-behind b n mark f e =
+    elim (cases_lt n mark) [
+      | inl below ↦ absurd (no-true (subst (λ (x : Bool). IsTrue x) e (f below)))
+      | inr there ↦ there
+    ]

@@ -1,0 +1,5 @@
+pub mod Internal
+pub mod Locked
+pub mod Sessions
+pub mod Jobs
+pub mod Gathering

@@ -1,0 +1,56 @@
+-- What stands behind a hive's lock, and what sessions may be told there.
+use Rattle.std.specs.Prelude.{◌≡◌, ◌<◌, ◌≤◌, ℕ, List, [], Option, length, slice_index_or}
+use Rattle.reg_model.specs.Callbacks.{Callbacks}
+use Rattle.reg_model.specs.Histories.{count_of}
+use Rattle.reg_model.specs.declared.answer.Answer.{Answer}
+use Rattle.reg_model.specs.declared.call.Change.{Change}
+use Rattle.reg_model.specs.declared.call.Query.{Query}
+use Rattle.reg_model.specs.declared.notice.Notice.{Notice}
+use Rattle.reg_model.specs.declared.reply.ChangeReply.{ChangeReply}
+use Rattle.reg_journal.specs.Kept.{Seat, IsCurrent, row_of}
+use Rattle.reg_calls.specs.declared.hive.Hive.{Hive}
+use Rattle.reg_calls.specs.HiveView.{view_of, noted_of}
+use Rattle.reg_calls.specs.Views.{View, Booked, next_of, state, IsApplied, IsHive, IsNoticeTaken, IsRead}
+
+-- a hive with its book, without its callbacks
+abbrev pub booked_of : {C : Type 0} → Hive C → Booked
+booked_of h = record { view = view_of h; noted = noted_of h }
+
+-- what is true of each value that a lock's type admits, and so whenever a lock is free: all that is true of every hive; each session's row
+-- in the book is the number of its entries; and who has no seat has no entry
+pub record IsAdmitted (b : Booked) : Type 0 where
+  pub hive : IsHive b.view
+  pub rows : (s : ℕ) → row_of b.noted b.view.journal s ≡ count_of s b.view.journal
+  pub seated : (s : ℕ) → length b.noted ≤ s → count_of s b.view.journal ≡ 0
+
+-- some hive that a lock's type admits, and at which the share is current, may reply so to a change
+pub record IsLawfulReply (share : Seat) (moment : ℕ) (change : Change) (reply : ChangeReply) : Type 0 where
+  pub hive : Booked
+  pub new : View
+  pub admitted : IsAdmitted hive
+  pub current : IsCurrent hive.noted hive.view.journal share
+  pub callbacks : Callbacks
+  pub applied : IsApplied callbacks hive.view new share.session moment change reply
+
+-- some such hive may answer so to a question, with how many entries it has had
+pub record IsLawfulAnswer (share : Seat) (query : Query) (answer : Answer) : Type 0 where
+  pub hive : Booked
+  pub admitted : IsAdmitted hive
+  pub current : IsCurrent hive.noted hive.view.journal share
+  pub callbacks : Callbacks
+  pub at : answer.at ≡ next_of hive.view
+  pub body : IsRead callbacks (state hive.view) share.session query answer.body
+
+-- some hive that a lock's type admits may hand out this notice
+pub record IsLawfulNotice (session : ℕ) (notice : Option Notice) : Type 0 where
+  pub hive : Booked
+  pub new : View
+  pub admitted : IsAdmitted hive
+  pub taken : IsNoticeTaken hive.view new session notice
+
+-- a hive that has had no entry, and at which no session has a seat
+abbrev pub IsUnused : {C : Type 0} → Hive C → Type 0
+IsUnused h = (next_of (view_of h) ≡ 0) × (noted_of h ≡ [])
+
+abbrev pub AreUnused : {C : Type 0} → List (Hive C) → Type 0
+AreUnused hs = (i : ℕ) (d : Hive _) → i < length hs → IsUnused (slice_index_or hs i d)

@@ -1,0 +1,92 @@
+-- Sessions, as their callers see them.
+use Rattle.std.specs.Prelude.{◌≡◌, ◌+◌, ◌<◌, ◌==◌, ℕ, Bool, true, false, List, [], ◌∷◌, length, nat_lt, slice_index_or, unwrap_or, if◌then◌else◌}
+use Rattle.reg_model.specs.declared.answer.AnswerBody.{AnswerBody}
+use Rattle.reg_model.specs.declared.answer.AnswerBody.TheVariants.{Refused, Short, Value, Key, Member, Info, Security}
+use Rattle.reg_model.specs.declared.call.Change.{Change}
+use Rattle.reg_model.specs.declared.call.Change.TheVariants.{OpenRoot, OpenKey, CreateKey, SetValue, DeleteValue, DeleteKey, DeleteTree, SetSecurity, Notify, Close}
+use Rattle.reg_model.specs.declared.reply.ChangeReply.{ChangeReply}
+use Rattle.reg_model.specs.declared.reply.Receipt.{Receipt}
+use Rattle.reg_journal.specs.Kept.{Seat, seat}
+
+-- how many hives a registry has, and how many sessions
+pub record Shape : Type 0 where
+  pub hives : ℕ
+  pub sessions : ℕ
+
+-- what a session has at a hive: its seat, its receipts, and its mark
+pub record PlaceState : Type 0 where
+  pub seat : Seat
+  pub receipts : List Receipt
+  pub mark : ℕ
+
+abbrev pub no_place : PlaceState
+no_place = record { seat = seat 0 0; receipts = []; mark = 0 }
+
+abbrev pub place_of : List PlaceState → ℕ → PlaceState
+place_of places hive = slice_index_or places hive no_place
+
+pub record SessionState : Type 0 where
+  pub number : ℕ
+  pub places : List PlaceState
+
+-- the receipts of a session at a hive, how many accepted changes its share counts there, and its mark
+abbrev pub receipts_at : ℕ → SessionState → List Receipt
+receipts_at hive s = (place_of s.places hive).receipts
+
+abbrev pub count_at : ℕ → SessionState → ℕ
+count_at hive s = (place_of s.places hive).seat.count
+
+abbrev pub mark_at : ℕ → SessionState → ℕ
+mark_at hive s = (place_of s.places hive).mark
+
+-- the receipt of a change, where it was accepted
+abbrev pub receipt_of : ℕ → Change → ChangeReply → List Receipt
+receipt_of moment change reply = if reply.status == 0 then record { number = unwrap_or reply.number 0; moment = moment; change = change; reply = reply } ∷ [] else []
+
+-- the mark after a change: the number after its own, where it was accepted
+abbrev pub mark_after : ℕ → ChangeReply → ℕ
+mark_after mark reply = if reply.status == 0 then unwrap_or reply.number 0 + 1 else mark
+
+-- the status of an answer
+abbrev pub status_told : AnswerBody → ℕ
+status_told (Refused status) = status
+status_told (Short status kind size) = status
+status_told (Value kind size bytes) = 0
+status_told (Key name time) = 0
+status_told (Member name kind size bytes) = 0
+status_told (Info subkeys longest_key values longest_value largest security time) = 0
+status_told (Security bytes) = 0
+
+-- the change closes a handle
+abbrev pub closes : Change → Bool
+closes (OpenRoot mask) = false
+closes (OpenKey h path mask) = false
+closes (CreateKey h path mask descriptor) = false
+closes (SetValue h name kind bytes) = false
+closes (DeleteValue h name) = false
+closes (DeleteKey h path) = false
+closes (DeleteTree h path) = false
+closes (SetSecurity h descriptor) = false
+closes (Notify h filter subtree) = false
+closes (Close h) = true
+
+abbrev pub no_session : SessionState
+no_session = record { number = 0; places = [] }
+
+abbrev pub session_of : List SessionState → ℕ → SessionState
+session_of sessions s = slice_index_or sessions s no_session
+
+-- the sessions are those below n, in order
+abbrev pub AreInOrder : ℕ → List SessionState → Type 0
+AreInOrder n sessions = (length sessions ≡ n) × ((s : ℕ) → s < n → (session_of sessions s).number ≡ s)
+
+-- a session that was just started: it has a seat at each of so many hives, no receipt, and marks of 0
+pub record IsFresh (number hives : ℕ) (s : SessionState) : Type 0 where
+  pub is_number : s.number ≡ number
+  pub seats : length s.places ≡ hives
+  pub receipts : (h : ℕ) → receipts_at h s ≡ []
+  pub marks : (h : ℕ) → mark_at h s ≡ 0
+
+-- all sessions are so; the first of them have seats at one hive more
+abbrev pub AreFresh : ℕ → ℕ → List SessionState → Type 0
+AreFresh hives first sessions = (s : ℕ) → s < length sessions → IsFresh s (if nat_lt s first then hives + 1 else hives) (session_of sessions s)

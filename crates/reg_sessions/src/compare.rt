@@ -1,0 +1,79 @@
+//! A hive's journal beside the receipts of all sessions.
+ghost use Rattle.std.specs.Prelude.{◌≡◌, ◌<◌, ◌≤◌, ◌↔◌, ℕ, length, get_or, IfNone, IfSome, IsTrue, Some, slice_get};
+ghost use Rattle.reg_model.specs.Histories.{receipt_of};
+ghost use Rattle.reg_model.specs.declared.limits.TheConstants.{SESSIONS_LIMIT};
+ghost use Rattle.reg_model.specs.declared.reply.Entry.{Entry as TheEntry};
+ghost use Rattle.reg_calls.specs.HiveView.{view_of};
+ghost use Rattle.reg_sessions.specs.Gathering.{IsGathered, Differ};
+
+use crate::session::Session;
+use reg_callbacks::Callback;
+use reg_calls::Hive;
+use reg_model::limits::SESSIONS_LIMIT;
+use reg_model::{Entry, Receipt};
+
+/// Where a session's receipts and its entries differ first.
+#[derive(Clone, Copy, Debug, PartialEq, Eq)]
+pub struct Gap {
+    pub session: u8,
+    pub place: usize,
+}
+
+/// The entry at a place of a hive's journal.
+fn entry_at<C: Callback>(hive: &Hive<C>, place: usize) -> &Entry
+    requires { place < length (view_of hive.now).journal }
+    ensures { Some result.now ≡ slice_get (view_of hive.now).journal place }
+{
+    // Only for its clauses: the first entry has the number 0.
+    let _ = hive.len();
+    let Some(entry) = hive.entry(place) else {
+        unreachable!();
+    };
+    entry
+}
+
+/// Whether the receipt at a place is that of an entry.
+fn is_receipt(entry: &Entry, receipts: &[Receipt], place: usize) -> bool
+    ensures { IsTrue result ↔ (slice_get receipts.now place ≡ Some (receipt_of entry.now)) }
+{
+    match receipts.get(place) {
+        Some(receipt) => receipt.is_of(entry),
+        None => false,
+    }
+}
+
+/// Compares a hive's journal with the receipts of all sessions, in one pass with a place in each session's receipts.
+#[tactic(auto, using(crate::proofs::Compared::small, crate::proofs::Compared::found, crate::proofs::Compared::starts, crate::proofs::Compared::goes_on, crate::proofs::Compared::stray, crate::proofs::Compared::differs, crate::proofs::Compared::is_short, crate::proofs::Compared::gathered))]
+pub fn first_gap<C: Callback>(hive: &Hive<C>, number: u8, sessions: &[Session]) -> Option<Gap>
+    requires { length sessions.now ≤ SESSIONS_LIMIT }
+    ensures some { IfSome result (λ g. Differ (view_of hive.now).journal number sessions.now g.session g.place) }
+    ensures none { IfNone result (IsGathered (view_of hive.now).journal number sessions.now) }
+{
+    let mut places = [0usize; SESSIONS_LIMIT];
+    for i in 0..hive.len() {
+        let entry = entry_at(hive, i);
+        let s = entry.session as usize;
+        if s >= sessions.len() {
+            return Some(Gap {
+                session: entry.session,
+                place: 0,
+            });
+        }
+        if !is_receipt(entry, sessions[s].receipts(number), places[s]) {
+            return Some(Gap {
+                session: entry.session,
+                place: places[s],
+            });
+        }
+        places[s] += 1;
+    }
+    for s in 0..sessions.len() {
+        if places[s] < sessions[s].receipts(number).len() {
+            return Some(Gap {
+                session: s as u8,
+                place: places[s],
+            });
+        }
+    }
+    None
+}

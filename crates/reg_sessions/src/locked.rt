@@ -1,0 +1,181 @@
+//! What stands behind a hive's lock, and what is done while it is held.
+ghost use Rattle.std.specs.Prelude.{◌≡◌, ◌≢◌, ◌+◌, ◌<◌, ◌≤◌, ◌↔◌, ◌⊎◌, Some, IfErr, IsTrue, unwrap_or};
+ghost use Rattle.reg_model.specs.declared.answer.AnswerBody.TheVariants.{Refused};
+ghost use Rattle.reg_model.specs.declared.statuses.TheConstants.{BAD_DATABASE, NOT_ENOUGH_MEMORY};
+ghost use Rattle.reg_model.specs.Replies.{refusal};
+ghost use Rattle.reg_model.specs.declared.limits.TheConstants.{JOURNAL_LIMIT};
+ghost use Rattle.reg_calls.specs.HiveView.{asks_of, view_of, noted_of};
+ghost use Rattle.reg_calls.specs.Views.{next_of, IsAccepted, IsNoticeTaken};
+ghost use Rattle.reg_sessions.specs.Locked.{booked_of, IsAdmitted, IsLawfulReply, IsLawfulAnswer, IsLawfulNotice};
+ghost use Rattle.reg_sessions.specs.Internal.Answered.{IsAnswered, IsCauseOf, IsAsked};
+
+use reg_callbacks::{Callback, CallbackFault, Cookie};
+use reg_calls::Hive;
+use reg_journal::Share;
+use reg_model::statuses::{BAD_DATABASE, NOT_ENOUGH_MEMORY};
+use reg_model::{Answer, AnswerBody, Change, ChangeReply, Notice, Query};
+use std::marker::Model;
+
+/// What stands behind a hive's lock: the hive. What is true of each value of this type (`IsAdmitted`) is true whenever the lock is free.
+#[derive(Drop)]
+pub struct Locked<C = Box<dyn Callback + Send>> {
+    pub(crate) hive: Hive<C>,
+}
+
+impl<C> Model for Locked<C> {
+    ghost use Rattle.reg_calls.specs.Views.{Booked, coded_booked};
+    ghost use Rattle.reg_sessions.specs.Locked.{booked_of, IsAdmitted};
+
+    ghost Value = { Booked };
+
+    ghost coded = { coded_booked };
+
+    ghost view = { λ l. booked_of l.hive };
+
+    ghost invariant = { λ l. IsAdmitted (booked_of l.hive) };
+}
+
+/// A reply that refuses.
+fn refused(status: u32) -> ChangeReply
+    ensures { result ≡ refusal status }
+{
+    ChangeReply {
+        status,
+        number: None,
+        handle: None,
+        disposition: None,
+    }
+}
+
+/// The reply to a change for which there is no memory: its first cause, or else 8.
+fn lacking(cause: Option<u32>) -> ChangeReply
+    ensures { result ≡ refusal (unwrap_or cause NOT_ENOUGH_MEMORY) }
+{
+    refused(cause.unwrap_or(NOT_ENOUGH_MEMORY))
+}
+
+/// Answers a change at a hive.
+fn apply<C: Callback>(
+    hive: &mut Hive<C>,
+    share: &mut Share,
+    moment: u64,
+    change: Change,
+) -> ChangeReply
+    ensures { IsAnswered (asks_of C.answers hive.old) (booked_of hive.old) (booked_of hive.new) share.old share.new moment change result }
+{
+    hive.apply(share, moment, change)
+}
+
+/// The cause of a change at a hive.
+fn cause<C: Callback>(hive: &Hive<C>, share: &Share, moment: u64, change: &Change) -> Option<u32>
+    ensures { IsCauseOf (asks_of C.answers hive.now) (booked_of hive.now) share.now moment change.now result }
+{
+    hive.cause(share, moment, change)
+}
+
+/// Answers a question at a hive.
+fn read<C: Callback>(hive: &Hive<C>, share: &Share, query: &Query) -> Answer
+    ensures { IsAsked (asks_of C.answers hive.now) (booked_of hive.now) share.now query.now result }
+{
+    hive.read(share, query)
+}
+
+impl<C: Callback> Locked<C> {
+    /// The hive.
+    pub(crate) fn hive(&self) -> &Hive<C>
+        ensures hive { booked_of result.now ≡ self.now }
+        ensures admitted { IsAdmitted self.now }
+    {
+        &self.hive
+    }
+
+    /// Whether the hive has had fewer entries than a mark.
+    fn is_behind(&self, mark: u64) -> bool
+        ensures behind { IsTrue result ↔ (next_of self.now.view < mark) }
+        ensures few { next_of self.now.view ≤ JOURNAL_LIMIT }
+    {
+        (self.hive.len() as u64) < mark
+    }
+
+    /// Answers a change of a session whose mark on the hive this is. 1009 where the hive is behind the mark, or as of [`Hive::apply`].
+    pub(crate) fn change(
+        &mut self,
+        share: &mut Share,
+        mark: u64,
+        moment: u64,
+        change: Change,
+    ) -> ChangeReply
+        ensures noted { self.new.noted ≡ self.old.noted }
+        ensures session { share.new.session ≡ share.old.session }
+        ensures accepted { result.status ≡ 0 → IsAccepted self.old.view self.new.view share.old.session moment change result }
+        ensures number { result.status ≡ 0 → result.number ≡ Some (next_of self.old.view) }
+        ensures later { result.status ≡ 0 → (share.old.count ≤ next_of self.old.view) × (mark ≤ next_of self.old.view) }
+        ensures few { next_of self.old.view ≤ JOURNAL_LIMIT }
+        ensures counted { result.status ≡ 0 → share.new.count ≡ share.old.count + 1 }
+        ensures refused { result.status ≢ 0 → (self.new ≡ self.old) × (share.new ≡ share.old) }
+        ensures lawful { result.status ≢ BAD_DATABASE → IsLawfulReply share.old moment change result }
+    {
+        if self.is_behind(mark) {
+            return refused(BAD_DATABASE);
+        }
+        apply(&mut self.hive, share, moment, change)
+    }
+
+    /// Answers a change for whose receipt there is no memory: 1009 as of `change`, else its first cause, or else 8. Takes no memory.
+    pub(crate) fn lack(&self, share: &Share, mark: u64, moment: u64, change: &Change) -> ChangeReply
+        ensures refused { result.status ≢ 0 }
+        ensures lawful { result.status ≢ BAD_DATABASE → result.status ≢ NOT_ENOUGH_MEMORY → IsLawfulReply share.now moment change.now result }
+    {
+        if self.is_behind(mark) {
+            return refused(BAD_DATABASE);
+        }
+        lacking(cause(&self.hive, share, moment, change))
+    }
+
+    /// Answers a question of a session whose mark on the hive this is. 1009 as of `change`.
+    pub(crate) fn ask(&self, share: &Share, mark: u64, query: &Query) -> Answer
+        ensures later { result.body ≢ Refused BAD_DATABASE → (share.now.count ≤ result.at) × (mark ≤ result.at) }
+        ensures lawful { result.body ≢ Refused BAD_DATABASE → IsLawfulAnswer share.now query.now result }
+    {
+        if self.is_behind(mark) {
+            return Answer {
+                at: self.hive.len() as u64,
+                body: AnswerBody::Refused {
+                    status: BAD_DATABASE,
+                },
+            };
+        }
+        read(&self.hive, share, query)
+    }
+
+    /// Hands a session its next notice.
+    pub(crate) fn take_notice(&mut self, session: u8) -> Option<Notice>
+        ensures notice { IsNoticeTaken self.old.view self.new.view session result }
+        ensures lawful { IsLawfulNotice session result }
+        ensures noted { self.new.noted ≡ self.old.noted }
+    {
+        self.hive.take_notice(session)
+    }
+
+    /// Registers a callback on the hive.
+    pub(crate) fn register(
+        &mut self,
+        callback: C,
+        altitude: u32,
+    ) -> Result<Cookie, CallbackFault<C>>
+        ensures same { self.new ≡ self.old }
+        ensures returned { IfErr result (λ fault. (fault ≡ CallbackFault.Full callback)
+            ⊎ (fault ≡ CallbackFault.AltitudeTaken callback)
+            ⊎ (fault ≡ CallbackFault.Memory callback)) }
+    {
+        self.hive.register(callback, altitude)
+    }
+
+    /// Takes a callback out of the hive.
+    pub(crate) fn unregister(&mut self, cookie: Cookie) -> Result<C, CallbackFault<C>>
+        ensures same { self.new ≡ self.old }
+        ensures fault { IfErr result (λ fault. fault ≡ CallbackFault.NoSuchCookie) }
+    {
+        self.hive.unregister(cookie)
+    }
+}

@@ -1,0 +1,218 @@
+//! What a session has at one hive.
+ghost use Rattle.std.specs.Prelude.{◌≡◌, ◌≢◌, ◌+◌, ◌-◌, ◌^◌, ◌<◌, ◌≤◌, ◌==◌, [], ◌∷◌, ◌++◌, ℕ, length, max, Some, false, true, IfOk, OnOk, vec_len, vec_capacity, if◌then◌else◌};
+ghost use Rattle.reg_model.specs.declared.answer.AnswerBody.TheVariants.{Refused};
+ghost use Rattle.reg_model.specs.declared.statuses.TheConstants.{BAD_DATABASE, NOT_ENOUGH_MEMORY};
+ghost use Rattle.reg_sessions.specs.Locked.{IsLawfulReply, IsLawfulAnswer};
+ghost use Rattle.reg_sessions.specs.Sessions.{PlaceState, receipt_of, mark_after, status_told, closes as closes_of};
+
+use crate::gate::HiveGate;
+use crate::locked::Locked;
+use reg_callbacks::Callback;
+use reg_journal::Share;
+use reg_model::{Answer, AnswerBody, Change, ChangeReply, Query, Receipt};
+use std::alloc::{AllocError, Global};
+use std::marker::Model;
+use std::sync::{Mutex, Wait};
+
+/// What a session has at one hive: its seat, a receipt of each of its accepted changes there, and its mark. For the closing of each handle
+/// that it has open there is room for the receipt, so that a Close takes no memory.
+#[derive(Drop)]
+pub struct Place {
+    share: Share,
+    receipts: Vec<Receipt>,
+    mark: u64,
+    // How many handles of the session are open there.
+    handles: usize,
+}
+
+impl Model for Place {
+    ghost use Rattle.std.specs.Prelude.{◌≡◌, ◌≤◌, ◌+◌, length, vec_len, vec_capacity};
+    ghost use Rattle.reg_sessions.specs.Sessions.{PlaceState};
+
+    ghost Value = { PlaceState };
+
+    ghost view = { λ p. record { seat = p.share; receipts = p.receipts.items; mark = p.mark } };
+
+    ghost invariant = { λ p. (length p.receipts.items ≡ p.share.count) × (vec_len p.receipts + p.handles ≤ vec_capacity p.receipts) };
+}
+
+/// Whether a change closes a handle.
+fn closes(change: &Change) -> bool
+    ensures { result ≡ closes_of change.now }
+{
+    matches!(change, Change::Close { .. })
+}
+
+/// Makes room for a receipt, beside that for the closing of each open handle, and of one more that the change may open. A Close has its
+/// room already, if any handle is open.
+fn make_room(receipts: &mut Vec<Receipt>, handles: usize, is_close: bool) -> Result<(), AllocError>
+    requires { vec_len receipts.old + handles ≤ vec_capacity receipts.old }
+    ensures receipts { receipts.new.items ≡ receipts.old.items }
+    ensures kept { vec_len receipts.new + handles ≤ vec_capacity receipts.new }
+    ensures room { OnOk result (vec_len receipts.new < vec_capacity receipts.new) }
+    ensures more { OnOk result (is_close ≡ false → vec_len receipts.new + handles + 2 ≤ vec_capacity receipts.new) }
+{
+    if is_close {
+        if handles == 0 {
+            receipts.reserve(1)?;
+        }
+        return Ok(());
+    }
+    receipts.reserve(handles + 2)
+}
+
+/// How many handles are open after an accepted change.
+fn handles_after(handles: usize, is_close: bool, reply: &ChangeReply) -> usize
+    requires { handles < 2 ^ 64 - 1 }
+    ensures closes { is_close ≡ true → result + 1 ≤ max handles 1 }
+    ensures opens { is_close ≡ false → result ≤ handles + 1 }
+{
+    if is_close {
+        return handles.saturating_sub(1);
+    }
+    if reply.handle.is_some() {
+        handles + 1
+    } else {
+        handles
+    }
+}
+
+/// Two copies of a change: for the entry and for the receipt.
+fn two_copies(alloc: Global, change: &Change) -> Result<(Change, Change), AllocError>
+    ensures { IfOk result (λ both. (both.0 ≡ change.now) × (both.1 ≡ change.now)) }
+{
+    let entered = change.try_clone(alloc)?;
+    let kept = change.try_clone(alloc)?;
+    Ok((entered, kept))
+}
+
+/// All that a change takes of memory here: room and copies.
+fn prepared(
+    alloc: Global,
+    receipts: &mut Vec<Receipt>,
+    handles: usize,
+    change: &Change,
+) -> Result<(Change, Change), AllocError>
+    requires { vec_len receipts.old + handles ≤ vec_capacity receipts.old }
+    ensures receipts { receipts.new.items ≡ receipts.old.items }
+    ensures kept { vec_len receipts.new + handles ≤ vec_capacity receipts.new }
+    ensures room { OnOk result (vec_len receipts.new < vec_capacity receipts.new) }
+    ensures more { OnOk result (closes_of change.now ≡ false → vec_len receipts.new + handles + 2 ≤ vec_capacity receipts.new) }
+    ensures copies { IfOk result (λ both. (both.0 ≡ change.now) × (both.1 ≡ change.now)) }
+{
+    make_room(receipts, handles, closes(change))?;
+    two_copies(alloc, change)
+}
+
+/// The status of an answer: 0 where it isn't refused, and the room isn't short.
+fn status_of(body: &AnswerBody) -> u32
+    ensures { result ≡ status_told body.now }
+{
+    match body {
+        AnswerBody::Refused { status } => *status,
+        AnswerBody::Short { status, .. } => *status,
+        AnswerBody::Value { .. }
+        | AnswerBody::Key { .. }
+        | AnswerBody::Member { .. }
+        | AnswerBody::Info { .. }
+        | AnswerBody::Security { .. } => 0,
+    }
+}
+
+impl Place {
+    /// A seat at a hive at which nothing was called yet.
+    pub fn new(alloc: Global, share: Share) -> Place
+        requires { share.count ≡ 0 }
+        ensures { result ≡ record { seat = share; receipts = []; mark = 0 } }
+    {
+        Place {
+            share,
+            receipts: Vec::new(alloc),
+            mark: 0,
+            handles: 0,
+        }
+    }
+
+    /// The receipts, as many as the share counts.
+    pub fn receipts(&self) -> &[Receipt]
+        ensures receipts { result.now ≡ self.now.receipts }
+        ensures counted { length self.now.receipts ≡ self.now.seat.count }
+    {
+        self.receipts.as_slice()
+    }
+
+    /// Makes a change at the hive behind a lock. What takes memory comes first; where that is refused, the first cause is told, or 8.
+    pub fn change<Rt: Wait, G: HiveGate, C: Callback>(
+        &mut self,
+        rt: &Rt,
+        alloc: Global,
+        lock: &Mutex<Locked<C>>,
+        gate: &G,
+        hive: u8,
+        moment: u64,
+        change: &Change,
+    ) -> ChangeReply
+        ensures receipts { self.new.receipts ≡ self.old.receipts ++ receipt_of moment change.now result }
+        ensures mark { self.new.mark ≡ mark_after self.old.mark result }
+        ensures session { self.new.seat.session ≡ self.old.seat.session }
+        ensures accepted { result.status ≡ 0 → (n : ℕ) × (result.number ≡ Some n) × (self.old.seat.count ≤ n) × (self.old.mark ≤ n) }
+        ensures refused { result.status ≢ 0 → self.new ≡ self.old }
+        ensures lawful { result.status ≢ BAD_DATABASE → result.status ≢ NOT_ENOUGH_MEMORY → IsLawfulReply self.old.seat moment change.now result }
+    {
+        let copies = prepared(alloc, &mut self.receipts, self.handles, change);
+        let is_close = closes(change);
+        let session = self.share.session();
+        let mut guard = lock.lock(rt);
+        gate.inside(session, hive);
+        let Ok((entered, kept)) = copies else {
+            let reply = guard.lack(&self.share, self.mark, moment, change);
+            drop(guard);
+            gate.answered(session, hive);
+            return reply;
+        };
+        let reply = guard.change(&mut self.share, self.mark, moment, entered);
+        drop(guard);
+        gate.answered(session, hive);
+        if reply.status == 0 {
+            let Some(number) = reply.number else {
+                unreachable!();
+            };
+            self.handles = handles_after(self.handles, is_close, &reply);
+            self.receipts.push_reserved(Receipt {
+                number,
+                moment,
+                change: kept,
+                reply,
+            });
+            self.mark = number + 1;
+        }
+        reply
+    }
+
+    /// Asks a question at the hive behind a lock.
+    pub fn ask<Rt: Wait, G: HiveGate, C: Callback>(
+        &mut self,
+        rt: &Rt,
+        lock: &Mutex<Locked<C>>,
+        gate: &G,
+        hive: u8,
+        query: &Query,
+    ) -> Answer
+        ensures kept { (self.new.receipts ≡ self.old.receipts) × (self.new.seat ≡ self.old.seat) }
+        ensures mark { self.new.mark ≡ (if status_told result.body == 0 then result.at else self.old.mark) }
+        ensures refused { status_told result.body ≢ 0 → self.new ≡ self.old }
+        ensures later { result.body ≢ Refused BAD_DATABASE → (self.old.seat.count ≤ result.at) × (self.old.mark ≤ result.at) }
+        ensures lawful { result.body ≢ Refused BAD_DATABASE → IsLawfulAnswer self.old.seat query.now result }
+    {
+        let session = self.share.session();
+        let guard = lock.lock(rt);
+        gate.inside(session, hive);
+        let answer = guard.ask(&self.share, self.mark, query);
+        drop(guard);
+        gate.answered(session, hive);
+        if status_of(&answer.body) == 0 {
+            self.mark = answer.at;
+        }
+        answer
+    }
+}

@@ -1,0 +1,155 @@
+ghost use Rattle.std.specs.Prelude.{◌≡◌, ◌≢◌, ◌<◌, ◌≤◌, ◌==◌, ℕ, [], ◌∷◌, ◌++◌, length, Some, OnErr, OnOk, if◌then◌else◌};
+ghost use Rattle.reg_model.specs.declared.answer.AnswerBody.TheVariants.{Refused};
+ghost use Rattle.reg_model.specs.declared.statuses.TheConstants.{BAD_DATABASE, NOT_ENOUGH_MEMORY};
+ghost use Rattle.reg_journal.specs.Kept.{seat};
+ghost use Rattle.reg_sessions.specs.Locked.{IsLawfulReply, IsLawfulAnswer, IsLawfulNotice};
+ghost use Rattle.reg_sessions.specs.Sessions.{SessionState, PlaceState, receipts_at, count_at, mark_at, receipt_of, mark_after, status_told};
+
+use crate::gate::HiveGate;
+use crate::place::Place;
+use crate::registry::Registry;
+use reg_callbacks::Callback;
+use reg_model::{Answer, Change, ChangeReply, Notice, Query, Receipt};
+use std::alloc::{AllocError, Global};
+use std::marker::Model;
+use std::sync::Wait;
+
+/// A session: who calls, one call after another, with its seat at each hive. It keeps a receipt of each of its accepted changes. Its mark
+/// on a hive is how many entries that hive has had at least, by all that the session was told of it: the greatest of `at` of its answers
+/// with status 0, and of the number after that of each of its accepted changes.
+#[derive(Drop)]
+pub struct Session {
+    alloc: Global,
+    number: u8,
+    places: Vec<Place>,
+}
+
+impl Model for Session {
+    ghost use Rattle.std.specs.Prelude.{◌≡◌, ◌<◌, ℕ, length};
+    ghost use Rattle.reg_sessions.specs.Sessions.{SessionState, place_of};
+
+    ghost Value = { SessionState };
+
+    ghost view = { λ s. record { number = s.number; places = s.places.items } };
+
+    ghost invariant = { λ s. (h : ℕ) → h < length s.places.items → (place_of s.places.items h).seat.session ≡ s.number };
+}
+
+impl Session {
+    /// A session that has no seat yet.
+    pub(crate) fn new(alloc: Global, number: u8) -> Session
+        ensures { result ≡ record { number = number; places = [] } }
+    {
+        Session {
+            alloc,
+            number,
+            places: Vec::new(alloc),
+        }
+    }
+
+    /// Adds the session's seat at one hive more.
+    #[tactic(auto, using(crate::proofs::SessionPlaces::one_place_more))]
+    pub(crate) fn add(&mut self, place: Place) -> Result<(), AllocError>
+        requires { place.seat.session ≡ self.old.number }
+        ensures ok { OnOk result (self.new ≡ record self.old { places = self.old.places ++ place ∷ [] }) }
+        ensures err { OnErr result (self.new ≡ self.old) }
+    {
+        self.places.push(place)?;
+        Ok(())
+    }
+
+    /// The session's number: how many were started before it.
+    pub fn number(&self) -> u8
+        ensures { result ≡ self.now.number }
+    {
+        self.number
+    }
+
+    /// How many hives there are.
+    pub fn hives(&self) -> usize
+        ensures { result ≡ length self.now.places }
+    {
+        self.places.len()
+    }
+
+    /// The receipts of the session's accepted changes at a hive, in order: as many as its share counts there. None at a hive that isn't there.
+    pub fn receipts(&self, hive: u8) -> &[Receipt]
+        ensures receipts { result.now ≡ receipts_at hive self.now }
+        ensures counted { length (receipts_at hive self.now) ≡ count_at hive self.now }
+    {
+        match self.places.get(hive as usize) {
+            Some(place) => place.receipts(),
+            None => &[],
+        }
+    }
+
+    /// Makes a change at a hive, at a moment (100 ns units since 1601): it waits for the hive's lock, and is answered as by
+    /// `Hive::apply` of reg_calls. Where it is accepted, and only then, the session has one receipt more, of this moment, change and
+    /// reply. 1009 also where the hive has fewer entries than the session's mark there; never at the hive that gave the seat. Want of
+    /// memory is 8, where nothing else refuses the change; a Close takes none.
+    #[tactic(auto, using(crate::proofs::SessionPlaces::place_set))]
+    pub fn change<Rt: Wait, G: HiveGate, C: Callback>(
+        &mut self,
+        rt: &Rt,
+        registry: &Registry<C>,
+        gate: &G,
+        hive: u8,
+        moment: u64,
+        change: &Change,
+    ) -> ChangeReply
+        requires hive { hive < registry.now.hives }
+        requires seat { hive < length self.old.places }
+        ensures receipts { (h : ℕ) → receipts_at h self.new ≡ receipts_at h self.old ++ (if h == hive then receipt_of moment change.now result else []) }
+        ensures marks { (h : ℕ) → mark_at h self.new ≡ (if h == hive then mark_after (mark_at h self.old) result else mark_at h self.old) }
+        ensures kept { (self.new.number ≡ self.old.number) × (length self.new.places ≡ length self.old.places) }
+        ensures refused { result.status ≢ 0 → self.new ≡ self.old }
+        ensures later { result.status ≡ 0 → (n : ℕ) × (result.number ≡ Some n) × (count_at hive self.old ≤ n) × (mark_at hive self.old ≤ n) }
+        ensures lawful { result.status ≢ BAD_DATABASE → result.status ≢ NOT_ENOUGH_MEMORY →
+            IsLawfulReply (seat self.old.number (count_at hive self.old)) moment change.now result }
+    {
+        let lock = registry.lock(hive);
+        let alloc = self.alloc;
+        self.places[hive as usize].change(rt, alloc, lock, gate, hive, moment, change)
+    }
+
+    /// Asks a question at a hive: it waits for the hive's lock, and is answered as by `Hive::read` of reg_calls. 1009 as of `change`. After
+    /// an answer with status 0 the session's mark there is its `at`.
+    #[tactic(auto, using(crate::proofs::SessionPlaces::place_set, crate::proofs::SessionPlaces::set_same))]
+    pub fn ask<Rt: Wait, G: HiveGate, C: Callback>(
+        &mut self,
+        rt: &Rt,
+        registry: &Registry<C>,
+        gate: &G,
+        hive: u8,
+        query: &Query,
+    ) -> Answer
+        requires hive { hive < registry.now.hives }
+        requires seat { hive < length self.old.places }
+        ensures receipts { (h : ℕ) → receipts_at h self.new ≡ receipts_at h self.old }
+        ensures marks { (h : ℕ) → mark_at h self.new ≡ (if h == hive then (if status_told result.body == 0 then result.at else mark_at h self.old) else mark_at h self.old) }
+        ensures kept { (self.new.number ≡ self.old.number) × (length self.new.places ≡ length self.old.places) }
+        ensures refused { status_told result.body ≢ 0 → self.new ≡ self.old }
+        ensures later { result.body ≢ Refused BAD_DATABASE → (count_at hive self.old ≤ result.at) × (mark_at hive self.old ≤ result.at) }
+        ensures lawful { result.body ≢ Refused BAD_DATABASE → IsLawfulAnswer (seat self.old.number (count_at hive self.old)) query.now result }
+    {
+        let lock = registry.lock(hive);
+        self.places[hive as usize].ask(rt, lock, gate, hive, query)
+    }
+
+    /// Takes the session's next notice of a hive, if there is one: it waits for the hive's lock. Takes no memory, and changes nothing in the
+    /// session.
+    pub fn take_notice<Rt: Wait, C: Callback>(
+        &mut self,
+        rt: &Rt,
+        registry: &Registry<C>,
+        hive: u8,
+    ) -> Option<Notice>
+        requires hive { hive < registry.now.hives }
+        ensures same { self.new ≡ self.old }
+        ensures lawful { IsLawfulNotice self.old.number result }
+    {
+        let lock = registry.lock(hive);
+        let mut guard = lock.lock(rt);
+        guard.take_notice(self.number)
+    }
+}
