@@ -157,7 +157,8 @@ fn works(alloc: Global, number: u8, handles: &[u64]) -> Result<Vec<Work>, Fail> 
     for call in 0..CALLS {
         let hive = chance.below(handles.len());
         let handle = handles.get(hive).copied().unwrap_or(0);
-        all.push(work(alloc, &mut chance, hive as u8, handle, u64::from(call))?)?;
+        let hive = u8::try_from(hive).unwrap_or(0);
+        all.push(work(alloc, &mut chance, hive, handle, u64::from(call))?)?;
     }
     Ok(all)
 }

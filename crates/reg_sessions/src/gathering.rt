@@ -22,15 +22,18 @@ pub struct Audit<C = Box<dyn Callback + Send>> {
 }
 
 impl<C> Model for Audit<C> {
-    ghost use Rattle.std.specs.Prelude.{List};
+    ghost use Rattle.std.specs.Prelude.{◌≤◌, List, vec_len};
     ghost use Rattle.std.specs.Coded.{coded_list};
     ghost use Rattle.reg_calls.specs.Views.{Booked, coded_booked};
+    ghost use Rattle.reg_sessions.specs.declared.registry.TheConstants.{HIVES_LIMIT};
 
     ghost Value = { List Booked };
 
     ghost coded = { coded_list coded_booked };
 
     ghost view = { λ a. a.hives.items };
+
+    ghost invariant = { λ a. vec_len a.hives ≤ HIVES_LIMIT };
 }
 
 /// Why the sessions weren't gathered; the first that holds, `Sessions` before the other.
@@ -62,7 +65,8 @@ struct Spot {
 impl<C: Callback> Audit<C> {
     /// How many hives there are.
     pub fn hives(&self) -> usize
-        ensures { result ≡ length self.now }
+        ensures hives { result ≡ length self.now }
+        ensures few { result ≤ HIVES_LIMIT }
     {
         self.hives.len()
     }
