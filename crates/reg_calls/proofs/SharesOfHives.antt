@@ -1,13 +1,11 @@
 -- The shares of a hive's sessions, after a call and after calls.
-use Rattle.std.proofs.Common.{◌≡◌, ◌+◌, ◌<◌, ◌++◌, ◌∷◌, ◌==◌, [], ℕ, List, Bool, length, if◌then◌else◌, arith, refl, sym, ap, ◌∙◌, subst, length-append, set, slice_index_or, get_or, map, replicate, Option, Some, None, inl, inr, ◌⊎◌}
-use Rattle.std.specs.Prelude.{All}
-use Rattle.std.specs.List.{filter, range_with_len}
+use Rattle.std.proofs.Common.{◌≡◌, ◌+◌, ◌<◌, ◌++◌, ◌∷◌, ◌==◌, [], ℕ, List, length, if◌then◌else◌, arith, refl, sym, ap, ◌∙◌, subst, length-append, set, slice_index_or, map, replicate, Option, Some, None, inl, inr}
+use Rattle.std.specs.List.{range_with_len}
 use Rattle.std.proofs.lemmas.List.Elements.{filter-append}
 use Rattle.std.proofs.lemmas.Bool.Decides.{nat_tests}
 use Rattle.std.proofs.lemmas.List.{get_or_default, get_or-replicate, get_or-set_same, get_or-set_other, length-replicate, length-set}
 use Rattle.std.proofs.lemmas.List.FromFn.{get_or-map-range_with_len, length-map-range_with_len}
 use Rattle.std.proofs.lemmas.Bool.{cases_eq}
-use Rattle.reg_model.specs.declared.limits.TheConstants.{SESSIONS_LIMIT}
 use Rattle.reg_model.specs.Callbacks.{Callbacks, change_status}
 use Rattle.reg_model.specs.Causes.{change_cause}
 use Rattle.reg_model.specs.Histories.{is_of, entries_of, count_of}

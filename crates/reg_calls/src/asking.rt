@@ -1,5 +1,5 @@
 //! A call on its way to the callbacks of its hive.
-ghost use Rattle.std.specs.Prelude.{◌≡◌, ◌≢◌, List, ℕ, Some, None, OnOk, IfErr};
+ghost use Rattle.std.specs.Prelude.{◌≡◌, Some, None, OnOk, IfErr};
 ghost use Rattle.reg_names.specs.Names.{text_of};
 ghost use Rattle.reg_heap.specs.Paths.{Path};
 ghost use Rattle.reg_model.specs.Causes.{asked};

@@ -1,7 +1,6 @@
 //! EnumKey: a subkey of a key by its index.
 //!
 //! Win32 registry reference, `RegEnumKeyEx`.
-ghost use Rattle.std.specs.Prelude.{◌≡◌, ℕ};
 ghost use Rattle.std.specs.FinMap.{get};
 ghost use Rattle.reg_heap.specs.Paths.{Path};
 ghost use Rattle.reg_model.specs.Replies.{key_told as key_told_of};

@@ -1,7 +1,7 @@
 //! EnumValue: a value of a key by its index.
 //!
 //! Win32 registry reference, `RegEnumValue`.
-ghost use Rattle.std.specs.Prelude.{◌≡◌, ℕ, slice_get};
+ghost use Rattle.std.specs.Prelude.{◌≡◌, slice_get};
 ghost use Rattle.reg_heap.specs.Paths.{Path};
 ghost use Rattle.reg_heap.specs.Edits.{values_at};
 ghost use Rattle.reg_model.specs.Replies.{member_told as member_told_of};

@@ -1,7 +1,6 @@
 //! GetSecurity: a key's security descriptor.
 //!
 //! Win32 registry reference, `RegGetKeySecurity`.
-ghost use Rattle.std.specs.Prelude.{◌≡◌, ℕ};
 ghost use Rattle.std.specs.FinMap.{get};
 ghost use Rattle.reg_heap.specs.Paths.{Path};
 ghost use Rattle.reg_heap.specs.Edits.{descriptor_of};

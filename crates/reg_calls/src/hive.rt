@@ -1,11 +1,10 @@
-ghost use Rattle.std.specs.Prelude.{◌≡◌, ◌≢◌, ◌<◌, ◌≤◌, ◌↔◌, ◌⊎◌, ◌+◌, ◌-◌, [], Some, None, true, false, length, map, nat_lt, replicate, slice_get, option_copied, vec_len, ℕ, if◌then◌else◌};
-ghost use Rattle.std.specs.Prelude.{IfOk, IfErr, IfNone, IfSome, OnErr, OnOk, IsErrOf, IsTrue, All};
+ghost use Rattle.std.specs.Prelude.{◌≡◌, ◌≢◌, ◌<◌, ◌≤◌, ◌↔◌, ◌⊎◌, ◌+◌, ◌-◌, [], Some, None, true, false, length, map, nat_lt, replicate, slice_get, option_copied, ℕ, if◌then◌else◌};
+ghost use Rattle.std.specs.Prelude.{IfOk, IfErr, IfNone, IfSome, OnErr, OnOk, IsErrOf, IsTrue};
 ghost use Rattle.std.specs.List.{range_with_len};
 ghost use Rattle.std.specs.FinMap.{insert, empty};
 ghost use Rattle.reg_names.specs.Names.{is_key_name};
 ghost use Rattle.reg_model.specs.declared.limits.TheConstants.{SESSIONS_LIMIT};
 ghost use Rattle.reg_arena.specs.Arena.{IsSound};
-ghost use Rattle.reg_arena.specs.Cells.{cell_at};
 ghost use Rattle.reg_model.specs.declared.statuses.TheConstants.{BAD_DATABASE};
 ghost use Rattle.reg_model.specs.declared.answer.AnswerBody.TheVariants.{Refused};
 ghost use Rattle.reg_model.specs.Callbacks.{change_status};
@@ -32,7 +31,7 @@ use reg_model::{
 };
 use reg_names::check_key_name;
 use reg_tree::Tree;
-use std::alloc::{AllocError, Global};
+use std::alloc::Global;
 use thiserror::Error;
 
 /// Why a hive wasn't made; the first that holds.
@@ -71,7 +70,7 @@ pub struct Hive<C = Box<dyn Callback + Send>> {
 impl<C: Callback> Hive<C> {
     ghost use Rattle.reg_calls.specs.HiveView.{view_of, noted_of, callbacks_of, asks_of, new_size};
     ghost use Rattle.reg_calls.specs.Runs.{Run, IsStep};
-    ghost use Rattle.reg_calls.specs.Seats.{share_at, IsSeated, HaveSeats, HaveCounted};
+    ghost use Rattle.reg_calls.specs.Seats.{IsSeated, HaveSeats, HaveCounted};
 
     /// A hive of one root: the name as given, mark 8 (no delete), no class, the descriptor, the moment (100 ns units
     /// since 1601) and no values. No handle is open, no watch is pending, no session has a seat, and the journal is empty. `Name` where the name is none that a key may
@@ -247,7 +246,8 @@ impl<C: Callback> Hive<C> {
     /// Answers a change of a share's session at a moment (100 ns units since 1601). An accepted change becomes the journal's next
     /// entry, and the share counts it; after a refusal, by the rules or by a callback, hive and share are as before. 1009 comes before all
     /// other refusals, exactly where the share's session has no seat or its row isn't the share's count: a share that is used only at the
-    /// hive that gave it never meets 1009. 8 and 1450 for space come only in place of an acceptance, or where a callback answers them.
+    /// hive that gave it is always current. 8 and 1450 for space come only in place of an acceptance, and these, as 1009, where a callback
+    /// answers them.
     pub fn apply(&mut self, share: &mut Share, moment: u64, change: Change) -> ChangeReply
         ensures order { is_falling (altitudes_of (callbacks_of self.old)) ≡ true }
         ensures callbacks { callbacks_of self.new ≡ callbacks_of self.old }
@@ -381,7 +381,7 @@ impl<C: Callback> Hive<C> {
     }
 
     /// Registers a callback at an altitude, and answers its cookie. From then on it is asked of each call but Close, unless one at a
-    /// higher altitude refuses, and before those at lower ones, at its place in the order of refusals: after those for the
+    /// higher altitude refuses, and before those at lower ones, at its place in the order of refusals: after 1009 and those for the
     /// handle, bad arguments, rights and what is counted, before the call's own. `Full` where 65,536 registrations were made, else
     /// `AltitudeTaken` where a callback is at that altitude, else `Memory`; then nothing changed, and the callback comes back.
     pub fn register(&mut self, callback: C, altitude: u32) -> Result<Cookie, CallbackFault<C>>

@@ -1,5 +1,5 @@
 //! A hive without its callbacks.
-ghost use Rattle.std.specs.Prelude.{ℕ, ◌≡◌, ◌≢◌, ◌<◌, ◌≤◌, ◌↔◌, ◌⊎◌, [], Some, None, IsSome, length, map, nat_lt, replicate, slice_get, option_copied, ◌+◌, ◌-◌, false, if◌then◌else◌, IfNone, IfOk, IfSome, IsErrOf, IsTrue, OnOk, OnErr};
+ghost use Rattle.std.specs.Prelude.{ℕ, ◌≡◌, ◌≢◌, ◌<◌, ◌≤◌, ◌↔◌, ◌⊎◌, [], Some, None, length, map, nat_lt, replicate, slice_get, option_copied, ◌+◌, ◌-◌, false, if◌then◌else◌, IfNone, IfOk, IfSome, IsErrOf, IsTrue, OnOk, OnErr};
 ghost use Rattle.std.specs.List.{range_with_len};
 ghost use Rattle.reg_heap.specs.Trees.{IsTree, IsWithinLimits};
 ghost use Rattle.reg_arena.specs.Arena.{IsSound};
@@ -116,7 +116,7 @@ fn end_of(journal: &Journal) -> JournalEnd
 }
 
 impl Core {
-    ghost use Rattle.reg_model.specs.Histories.{IsLegal, replay, pending, fired};
+    ghost use Rattle.reg_model.specs.Histories.{IsLegal, replay, pending};
     ghost use Rattle.reg_notify.specs.Tables.{told_to, taken_by};
 
     /// A hive of the keys of a tree, with no handle open, no watch and an empty journal. The tree as it is now is its origin. Its one

@@ -5,8 +5,8 @@
 //! just the notices that the journal tells it. It stands on reg_tree, reg_handles, reg_notify, reg_journal, reg_callbacks and
 //! reg_model. Its types are [`Hive`] and, with the shares of all sessions, [`SeatedHive`]; its faults are [`NewFault`] and [`RunFault`].
 //!
-//! A session calls by its share ([`Hive::seat`]). 1009 comes before all else, where the share's count isn't the session's row in the
-//! journal's book, as at a hive that didn't give the share.
+//! A session calls by its share ([`Hive::seat`]). 1009 comes before all else, where the share's session has no seat or the share's count
+//! isn't its row in the journal's book.
 //!
 //! Each call but Close asks the hive's callbacks ([`Hive::register`]): after its refusals by 6, 1018, 87, 5 for a right and 1450
 //! for what is counted, and before all others. What the first of them answers that isn't 0 is then the answer.

@@ -1,5 +1,4 @@
 //! Questions, each answered by the file that has its name.
-ghost use Rattle.std.specs.Prelude.{ℕ};
 ghost use Rattle.reg_calls.specs.Internal.Stores.{at, KnowsKeys};
 ghost use Rattle.reg_callbacks.specs.Asking.{asks};
 ghost use Rattle.reg_callbacks.specs.Lists.{answers_of};

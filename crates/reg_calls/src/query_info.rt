@@ -1,7 +1,7 @@
 //! QueryInfo: a key as it stands, its subkeys and values counted.
 //!
 //! Win32 registry reference, `RegQueryInfoKey`.
-ghost use Rattle.std.specs.Prelude.{◌≡◌, ℕ};
+ghost use Rattle.std.specs.Prelude.{◌≡◌};
 ghost use Rattle.reg_heap.specs.Paths.{Path};
 ghost use Rattle.reg_model.specs.Replies.{info_told};
 ghost use Rattle.reg_model.specs.declared.call.Query.TheVariants.{QueryInfo};

@@ -1,7 +1,7 @@
 //! QueryValue: a value of a key by its name.
 //!
 //! Win32 registry reference, `RegQueryValueEx`.
-ghost use Rattle.std.specs.Prelude.{◌≡◌, ◌<◌, ℕ, Some, length, slice_get};
+ghost use Rattle.std.specs.Prelude.{◌≡◌, ◌<◌, Some, length, slice_get};
 ghost use Rattle.reg_heap.specs.Paths.{Path, Member};
 ghost use Rattle.reg_heap.specs.Edits.{values_at};
 ghost use Rattle.reg_model.specs.Replies.{value_told};

@@ -2,7 +2,7 @@
 //!
 //! A change of a key's values or descriptor is an event of the key that its handle leads to. Where it ended no watch, the next one by
 //! that handle and of that kind ends none either, until a watch is asked for: handles lead where they led, and watches only go.
-ghost use Rattle.std.specs.Prelude.{ℕ, ◌≡◌, ◌<◌, ◌≤◌, ◌⊎◌, true, length, vec_len, IfOk};
+ghost use Rattle.std.specs.Prelude.{ℕ, ◌≡◌, ◌<◌, ◌≤◌, ◌⊎◌, true, vec_len, IfOk};
 ghost use Rattle.reg_calls.specs.Internal.QuietKeys.{Remembers};
 
 use std::alloc::{AllocError, Global};

@@ -1,19 +1,19 @@
 //! A hive with the shares of all its sessions, for those who call it by a session's number.
-ghost use Rattle.std.specs.Prelude.{◌≡◌, ◌≢◌, ◌⊎◌, ◌↔◌, ◌<◌, ◌-◌, [], None, true, length, nat_lt, option_copied, replicate, slice_get, if◌then◌else◌, IfErr, IfOk, IsErrOf, OnErr, OnOk};
+ghost use Rattle.std.specs.Prelude.{◌≡◌, ◌≢◌, ◌⊎◌, ◌↔◌, ◌<◌, ◌-◌, [], true, replicate, IfErr, IfOk, IsErrOf};
 ghost use Rattle.reg_model.specs.declared.limits.TheConstants.{SESSIONS_LIMIT};
 ghost use Rattle.reg_callbacks.specs.Rows.{is_falling};
 ghost use Rattle.reg_callbacks.specs.Lists.{altitudes_of};
 ghost use Rattle.reg_calls.specs.HiveView.{view_of, noted_of, callbacks_of, asks_of};
-ghost use Rattle.reg_calls.specs.Views.{next_of, state, IsApplied, IsHive, IsNoticeTaken, IsRead};
+ghost use Rattle.reg_calls.specs.Views.{next_of, state, IsApplied, IsNoticeTaken, IsRead};
 ghost use Rattle.reg_calls.specs.Seats.{AreSeated};
-ghost use Rattle.reg_calls.specs.declared.hive.Hive.{Hive as HiveOf};
 
 use crate::hive::Hive;
 use reg_callbacks::Callback;
 use reg_journal::{SeatFault, Share};
-use reg_model::{Answer, Change, ChangeReply, Entry, Notice, Query};
+use reg_model::{Answer, Change, ChangeReply, Notice, Query};
 
-/// Answers a change of a session, below 64, as [`Hive::apply`] does, by its share among those of all sessions: it never meets 1009.
+/// Answers a change of a session, below 64, as [`Hive::apply`] does, by its share among those of all sessions. The share is current: 1009 comes only
+/// where a callback answers it.
 pub fn apply_by<C: Callback>(
     hive: &mut Hive<C>,
     shares: &mut Vec<Share>,
@@ -48,7 +48,7 @@ pub fn read_by<C: Callback>(
     hive.read(&shares[session as usize], query)
 }
 
-/// A hive with the shares of its 64 sessions: their calls name the session, and never meet 1009.
+/// A hive with the shares of its 64 sessions: their calls name the session, whose share is current.
 #[derive(Drop)]
 pub struct SeatedHive<C = Box<dyn Callback + Send>> {
     pub hive: Hive<C>,

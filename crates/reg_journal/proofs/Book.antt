@@ -1,7 +1,6 @@
 -- The book of a journal: a row for each session that has a seat.
-use Rattle.std.proofs.Common.{◌≡◌, ◌+◌, ◌==◌, ◌≤◌, ◌<◌, ◌≢◌, ℕ, Bool, true, false, not, List, [], ◌∷◌, ◌++◌, length, slice_set, slice_index, if◌then◌else◌, refl, sym, inl, inr, replicate, ap, ◌∙◌, subst, arith, length-append}
+use Rattle.std.proofs.Common.{◌≡◌, ◌+◌, ◌==◌, ◌≤◌, ◌<◌, ℕ, not, List, [], ◌∷◌, ◌++◌, length, slice_set, slice_index, if◌then◌else◌, refl, inl, inr, replicate, ◌∙◌, subst, arith, length-append}
 use Rattle.std.proofs.Math.ListN.{get_or-eq_default}
-use Rattle.std.specs.List.{filter}
 use Rattle.std.proofs.lemmas.List.{get_or-set_same, get_or-set_other, get_or-replicate, length-replicate}
 use Rattle.std.proofs.lemmas.Bool.{cases_lt}
 use Rattle.std.proofs.lemmas.List.Filters.{length-filter_both}

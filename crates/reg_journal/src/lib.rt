@@ -15,7 +15,7 @@ ghost use Rattle.std.specs.Prelude.{◌≡◌, ◌≢◌, ◌+◌, ◌-◌, ◌*
 ghost use Rattle.std.specs.List.{range_with_len};
 ghost use Rattle.reg_model.specs.declared.limits.TheConstants.{SESSIONS_LIMIT};
 ghost use Rattle.reg_model.specs.Histories.{count_of};
-ghost use Rattle.reg_journal.specs.Kept.{Kept, Seat, seat, row_of, IsCurrent};
+ghost use Rattle.reg_journal.specs.Kept.{Kept, seat, row_of, IsCurrent};
 
 use reg_model::Entry;
 use reg_model::limits::SESSIONS_LIMIT;

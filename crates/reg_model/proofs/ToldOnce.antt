@@ -1,12 +1,12 @@
 -- Each watch that was asked for is pending, or was told of once.
 use Rattle.std.proofs.Common.{◌≡◌, ℕ, ◌+◌, Bool, true, false, not, cond, eqb, ◌==◌, ◌&&◌, List, [], ◌∷◌, ◌++◌, filter, Option, Some, None, is_some}
-use Rattle.std.proofs.Common.{refl, sym, ap, ◌∙◌, append_assoc, arith}
+use Rattle.std.proofs.Common.{refl, ap, ◌∙◌, append_assoc, arith}
 use Rattle.std.specs.Prelude.{count_by, option_to_list}
 use Rattle.std.specs.List.{cons_option, filter_map}
 use Rattle.std.proofs.lemmas.List.{append-nil}
 use Rattle.std.proofs.lemmas.List.Recursion.{is_count_by}
 use Rattle.reg_heap.specs.Paths.{Tree}
-use Rattle.reg_model.specs.Watches.{Watch, Ending, reason, stays, notice_for, notice_to, notices}
+use Rattle.reg_model.specs.Watches.{Watch, Ending, reason, stays, notice_for, notices}
 use Rattle.reg_model.specs.Histories.{Met, mets, end_of, asked_by, pending_of, pending, fired_after, fired}
 use Rattle.reg_model.specs.declared.notice.Notice.{Notice}
 use Rattle.reg_model.specs.declared.notice.Reason.{Reason}

@@ -7,7 +7,7 @@ use std::alloc::{AllocError, Global};
 /// The answer to a question.
 #[derive(Debug, Drop)]
 pub struct Answer {
-    /// How many entries the journal had when the question was answered.
+    /// How many entries the hive has had when the question was answered.
     pub at: u64,
     pub body: AnswerBody,
 }

@@ -24,7 +24,7 @@ pub const MORE_DATA: u32 = 234;
 /// No subkey, or no value, has that index.
 pub const NO_MORE_ITEMS: u32 = 259;
 
-/// The share is not current: of another hive, of a hive without seats, or left behind.
+/// The share is not current: its session has no seat at the hive, or its count isn't the session's row there.
 pub const BAD_DATABASE: u32 = 1009;
 
 /// The handle's key was deleted.

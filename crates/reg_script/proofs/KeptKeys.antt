@@ -64,7 +64,7 @@ line-grows : (meaning : Meaning) (old new : Stand) (text : List ℕ) → IsSaid 
 line-grows nothing old new text h = stood old new h.1
 line-grows (at_moment moment) old new text h = stood (record old { moment = moment }) new h.1
 line-grows (as_session session) old new text h = stood (record old { session = session }) new h.1
-line-grows on_hive old new text h = stood old new h.1
+line-grows (on_hive hive) old new text h = stood old new h.1
 line-grows (asks call) old new text h = stepped old.callbacks old.hive new.hive old.session old.moment call h.0 h.1
 line-grows takes_notice old new text h = none-more old.hive new.hive h.1.journal h.1.keys
 line-grows bad old new text h = stood old new h.1

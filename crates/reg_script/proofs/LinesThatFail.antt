@@ -84,7 +84,7 @@ fails_said : (meaning : Meaning) (there : Stand) (text : List ℕ) (status : Opt
 fails_said nothing there text status h = absurd h
 fails_said (at_moment moment) there text status h = absurd h
 fails_said (as_session session) there text status h = absurd h
-fails_said on_hive there text status h = absurd h
+fails_said (on_hive hive) there text status h = absurd h
 fails_said (asks (Change change)) there text status h = ((Changed h.0, h.1, h.3, refl), refl)
 fails_said (asks (Query query)) there text status h = absurd h
 fails_said takes_notice there text status h = absurd h

@@ -253,7 +253,7 @@ line_same (as_session session) a b a' b' t t' p q d d' s = (
   same_along a' b' (record a { session = session }) (record b { session = session }) p.1 q.1
       (record { hive = s.hive; callbacks = s.callbacks; moment = s.moment; session = refl }),
 )
-line_same on_hive a b a' b' t t' p q d d' s = (p.0 ∙ sym q.0, same_along a' b' a b p.1 q.1 s)
+line_same (on_hive hive) a b a' b' t t' p q d d' s = (p.0 ∙ sym q.0, same_along a' b' a b p.1 q.1 s)
 line_same bad a b a' b' t t' p q d d' s = (p.0 ∙ sym q.0, same_along a' b' a b p.1 q.1 s)
 line_same takes_notice a b a' b' t t' p q d d' s =
     let x = notice_same a b a'.hive b'.hive p.0 q.0 p.1 q.1 s in (p.2 ∙ (ap notice_text x.0 ∙ sym q.2), same_then a b a' b' p.3 q.3 s x.1)

@@ -36,7 +36,7 @@ pub line_alone : (line : List ℕ) → 0 < length line → HasNoFeed line → li
 line_alone [] some h = absurd (omega (arith, some))
 line_alone (b ∷ bs) some h = line_last b bs h
 
-fed_then : (ls ms : List (List ℕ)) → with_feeds (ls ++ ms) ≡ with_feeds ls ++ with_feeds ms
+pub fed_then : (ls ms : List (List ℕ)) → with_feeds (ls ++ ms) ≡ with_feeds ls ++ with_feeds ms
 fed_then [] ms = refl
 fed_then (l ∷ ls) ms = ap (λ (w : List ℕ). l ++ 10 ∷ w) (fed_then ls ms) ∙ sym (append_assoc l (10 ∷ with_feeds ls) (with_feeds ms))
 
@@ -46,7 +46,7 @@ lines_fed (l ∷ ls) rest h =
     ap lines_of (append_assoc l (10 ∷ with_feeds ls) rest) ∙
     (line_ended l (with_feeds ls ++ rest) h.0.no_feed ∙ ap (λ (w : List (List ℕ)). l ∷ w) (lines_fed ls rest h.1))
 
-lines_then : (ls ms : List (List ℕ)) → AllByRecursion IsLine ls → AllByRecursion IsLine ms → AllByRecursion IsLine (ls ++ ms)
+pub lines_then : (ls ms : List (List ℕ)) → AllByRecursion IsLine ls → AllByRecursion IsLine ms → AllByRecursion IsLine (ls ++ ms)
 lines_then [] ms h k = k
 lines_then (l ∷ ls) ms h k = (h.0, lines_then ls ms h.1 k)
 

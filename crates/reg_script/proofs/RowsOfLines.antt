@@ -11,14 +11,14 @@ use Rattle.reg_model.specs.declared.notice.Reason.TheVariants.{Matched, Gone, Cl
 use Rattle.reg_model.specs.declared.step.Outcome.TheVariants.{Changed}
 use Rattle.reg_script.specs.declared.engine.TheConstants.{LINE_LIMIT, LINES_LIMIT}
 use Rattle.reg_script.specs.LineWords.{lines_of, words_of, number_of, unescaped, after_mark, name_of, data_of}
-use Rattle.reg_script.specs.LineMeanings.{first_of, ending, room_of, subtree_of, given_of, call_verb_of, verb_of, by_verb, meaning_of}
+use Rattle.reg_script.specs.LineMeanings.{first_of, ending, room_of, subtree_of, given_of, call_verb_of, verb_of, by_verb, meaning_in, meaning_of}
 use Rattle.reg_script.specs.LineMeanings.{nothing, at_moment, as_session, on_hive, asks, takes_notice, bad}
 use Rattle.reg_script.specs.ReplyTexts.{changed_text, answer_text, notice_text, outcome_text}
 use Rattle.reg_text.specs.Texts.{byte_text}
 
 -- what computes a line's meaning
 unfoldable pub on_lines : Unit {0}
-unfolding words_of number_of unescaped after_mark name_of data_of first_of ending room_of subtree_of given_of call_verb_of verb_of by_verb meaning_of hex_on_literals
+unfolding words_of number_of unescaped after_mark name_of data_of first_of ending room_of subtree_of given_of call_verb_of verb_of by_verb meaning_in hex_on_literals
 on_lines = tt
 
 -- ---- lines
@@ -170,9 +170,13 @@ as-session : meaning_of (codes "as 63") ≡ as_session 63
 unfolding on_lines
 as-session = refl
 
-hive-zero : meaning_of (codes "hive 0") ≡ on_hive
+hive-zero : meaning_of (codes "hive 0") ≡ on_hive 0
 unfolding on_lines
 hive-zero = refl
+
+hive-last : meaning_in 16 (codes "hive 15") ≡ on_hive 15
+unfolding on_lines
+hive-last = refl
 
 -- leading zeros are allowed
 root-zeros : meaning_of (codes "root 00000000000000000000000001") ≡ asks (Change (OpenRoot 1))
@@ -205,6 +209,15 @@ bad-session = refl
 bad-hive : meaning_of (codes "hive 1") ≡ bad
 unfolding on_lines
 bad-hive = refl
+
+-- there are the hives 0 to 14
+bad-hive_past : meaning_in 15 (codes "hive 15") ≡ bad
+unfolding on_lines
+bad-hive_past = refl
+
+bad-hive_most : meaning_in 17 (codes "hive 16") ≡ bad
+unfolding on_lines
+bad-hive_most = refl
 
 bad-mask : meaning_of (codes "root 4294967296") ≡ bad
 unfolding on_lines

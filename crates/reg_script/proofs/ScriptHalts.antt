@@ -33,7 +33,7 @@ long_more bytes more h = record {
   long = h.long;
 }
 
-passes_more : (lines : ℕ) (rest more : List ℕ) → PassesBound lines rest → PassesBound lines (rest ++ more)
+pub passes_more : (lines : ℕ) (rest more : List ℕ) → PassesBound lines rest → PassesBound lines (rest ++ more)
 passes_more lines rest more (inl h) = inl (h.0, omega (arith, h.1, length-append rest more))
 passes_more lines rest more (inr h) = inr (long_more rest more h)
 
@@ -106,7 +106,7 @@ too_many_lines lines begun b few many = inl (omega (arith, few, many), omega (ar
 
 -- ---- how many bytes there are within the bounds
 
-fed_length : (lines : List (List ℕ)) → AllByRecursion IsLine lines → length (with_feeds lines) ≤ length lines * (longest_line + 1)
+pub fed_length : (lines : List (List ℕ)) → AllByRecursion IsLine lines → length (with_feeds lines) ≤ length lines * (longest_line + 1)
 unfolding longest_line
 fed_length [] h = omega arith
 fed_length (line ∷ lines) h = let rest = fed_length lines h.1 in omega (arith, rest, h.0.short, length-append line (10 ∷ with_feeds lines))
@@ -129,7 +129,7 @@ not_so_many old new bytes none empty h =
 -- ---- what stands after the fault
 
 -- lines that ended are the lines of their bytes, which end with an LF
-lines_are : (lines : List (List ℕ)) → AllByRecursion IsLine lines → lines_of (with_feeds lines) ≡ lines
+pub lines_are : (lines : List (List ℕ)) → AllByRecursion IsLine lines → lines_of (with_feeds lines) ≡ lines
 lines_are lines h = ap lines_of (sym (append-nil (with_feeds lines))) ∙ (lines_fed lines [] h ∙ append-nil lines)
 
 pub fed_ends : (lines : List (List ℕ)) → EndsWithFeed (with_feeds lines)

@@ -71,7 +71,7 @@ not-fed bytes place e l = none-fed bytes (subst (λ n. length bytes ≤ n) e l)
 
 -- ---- a part joins the line that was begun
 
-no-feed-then : (xs ys : List ℕ) → HasNoFeed xs → HasNoFeed ys → HasNoFeed (xs ++ ys)
+pub no-feed-then : (xs ys : List ℕ) → HasNoFeed xs → HasNoFeed ys → HasNoFeed (xs ++ ys)
 no-feed-then [] ys h k = k
 no-feed-then (x ∷ xs) ys h k = (h.0, no-feed-then xs ys h.1 k)
 

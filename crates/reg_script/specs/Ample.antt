@@ -32,7 +32,7 @@ abbrev pub IsAmple : (meaning : Meaning) (old : Stand) (text : List ℕ) (new : 
 IsAmple nothing old text new said = Unit {0}
 IsAmple (at_moment moment) old text new said = Unit {0}
 IsAmple (as_session session) old text new said = Unit {0}
-IsAmple on_hive old text new said = Unit {0}
+IsAmple (on_hive hive) old text new said = Unit {0}
 IsAmple bad old text new said = Unit {0}
 IsAmple takes_notice old text new said = Unit {0}
 IsAmple (asks call) old text new said = IsDue old.callbacks old.hive (record { session = old.session; moment = old.moment; call = call }) said.0

@@ -27,7 +27,7 @@ abbrev pub wants_entry : Meaning → Bool
 wants_entry nothing = false
 wants_entry (at_moment moment) = false
 wants_entry (as_session session) = false
-wants_entry on_hive = false
+wants_entry (on_hive hive) = false
 wants_entry (asks call) = is_change call
 wants_entry takes_notice = false
 wants_entry bad = true
@@ -58,7 +58,7 @@ abbrev pub Fails : Meaning → Stand → List ℕ → Option ℕ → Type 0
 Fails nothing there text status = ⊥
 Fails (at_moment moment) there text status = ⊥
 Fails (as_session session) there text status = ⊥
-Fails on_hive there text status = ⊥
+Fails (on_hive hive) there text status = ⊥
 Fails (asks call) there text status = FailsCall call there text status
 Fails takes_notice there text status = ⊥
 Fails bad there text status = (text ≡ codes "bad\n") × (status ≡ None)

@@ -1,5 +1,6 @@
 pub mod LineWords
 pub mod LineMeanings
+pub mod ReadLines
 pub mod ReplyTexts
 pub mod Lines
 pub mod Internal

@@ -1,5 +1,5 @@
 -- What each line of a script means (this project's own rules of the script).
-use Rattle.std.specs.Prelude.{ℕ, ◌-◌, ◌==◌, Bool, true, false, if◌then◌else◌, List, [], ◌∷◌, codes, Option, Some, None, option_map, option_and_then, unwrap_or}
+use Rattle.std.specs.Prelude.{ℕ, ◌-◌, ◌==◌, nat_lt, Bool, true, false, if◌then◌else◌, List, [], ◌∷◌, codes, Option, Some, None, option_map, option_and_then, unwrap_or}
 use Rattle.std.specs.Str.{bytes_eq}
 use Rattle.reg_model.specs.declared.limits.TheConstants.{SESSIONS_LIMIT}
 use Rattle.reg_model.specs.declared.call.Call.{Call}
@@ -12,12 +12,13 @@ use Rattle.reg_script.specs.declared.line.Verb.TheVariants.{At, As, Hive, Root, 
 use Rattle.reg_script.specs.declared.line.Verb.TheVariants.{Query as QueryVerb, EnumKey as EnumKeyVerb, EnumValue as EnumValueVerb, Info, GetSec, Notice}
 use Rattle.reg_script.specs.LineWords.{words_of, number_of, name_of, data_of}
 
--- what a line means: nothing, a setting for the lines after it, a call, the taking of the next notice, or `bad`
+-- what a line means: nothing, a setting for the lines after it (of the moment, the session, or the hive by its number), a call, the
+-- taking of the next notice, or `bad`
 pub data Meaning : Type 0 where
   nothing : Meaning
   at_moment : ℕ → Meaning
   as_session : ℕ → Meaning
-  on_hive : Meaning
+  on_hive : ℕ → Meaning
   asks : Call → Meaning
   takes_notice : Meaning
   bad : Meaning
@@ -46,6 +47,10 @@ long_number_of = number_of 18446744073709551615
 -- a session: a number below how many there are
 abbrev pub session_number_of : List ℕ → Option ℕ
 session_number_of = number_of (SESSIONS_LIMIT - 1)
+
+-- a hive: a number below the most hives that there may be
+abbrev pub hive_number_of : List ℕ → Option ℕ
+hive_number_of = number_of 15
 
 -- a ROOM word: `-` for none, or a number
 unfoldable pub room_of : List ℕ → Option (Option ℕ)
@@ -97,7 +102,7 @@ verb_of word =
 unfoldable pub by_verb : Verb → List (List ℕ) → Option Meaning
 by_verb At = reading long_number_of (λ moment. ending (at_moment moment))
 by_verb As = reading session_number_of (λ session. ending (as_session session))
-by_verb Hive = reading (number_of 0) (λ hive. ending on_hive)
+by_verb Hive = reading hive_number_of (λ hive. ending (on_hive hive))
 by_verb Root = reading small_number_of (λ mask. ending (asks (Change (OpenRoot mask))))
 by_verb Open =
     reading long_number_of
@@ -136,7 +141,21 @@ by_verb Info = reading long_number_of (λ handle. ending (asks (Query (QueryInfo
 by_verb GetSec = reading long_number_of (λ handle. reading small_number_of (λ room. ending (asks (Query (GetSecurity handle room)))))
 by_verb Notice = ending takes_notice
 
+-- what words mean where there are so many hives: a setting of a hive that isn't there is bad
+abbrev pub within : ℕ → Meaning → Meaning
+within hives nothing = nothing
+within hives (at_moment moment) = at_moment moment
+within hives (as_session session) = as_session session
+within hives (on_hive hive) = if nat_lt hive hives then on_hive hive else bad
+within hives (asks call) = asks call
+within hives takes_notice = takes_notice
+within hives bad = bad
+
 -- a line means nothing where it is empty or a comment, and is bad where its words mean nothing
-unfoldable pub meaning_of : List ℕ → Meaning
-meaning_of [] = nothing
-meaning_of (b ∷ bs) = if b == 35 then nothing else unwrap_or (reading verb_of by_verb (words_of (b ∷ bs))) bad
+unfoldable pub meaning_in : ℕ → List ℕ → Meaning
+meaning_in hives [] = nothing
+meaning_in hives (b ∷ bs) = if b == 35 then nothing else within hives (unwrap_or (reading verb_of by_verb (words_of (b ∷ bs))) bad)
+
+-- what a line means where there is one hive
+abbrev pub meaning_of : List ℕ → Meaning
+meaning_of line = meaning_in 1 line

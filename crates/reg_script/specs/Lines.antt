@@ -28,7 +28,7 @@ abbrev pub IsSaid : Meaning → Stand → List ℕ → Stand → Type 0
 IsSaid nothing old text new = IsSilent old text new
 IsSaid (at_moment moment) old text new = IsSilent (record old { moment = moment }) text new
 IsSaid (as_session session) old text new = IsSilent (record old { session = session }) text new
-IsSaid on_hive old text new = IsSilent old text new
+IsSaid (on_hive hive) old text new = IsSilent old text new
 IsSaid bad old text new = (text ≡ codes "bad\n") × (new ≡ old)
 IsSaid (asks call) old text new =
     (outcome : Outcome) ×

@@ -1,24 +1,24 @@
 //! The script: one call a line, one reply a line.
 
-ghost use Rattle.std.specs.Prelude.{◌≡◌, ◌<◌, ◌≤◌, ℕ, List, ◌∷◌, ◌++◌, [], IfOk, OnOk, length, string_bytes, ◌+◌, OnErr, IfErr, Option, true};
+ghost use Rattle.std.specs.Prelude.{◌≡◌, ◌<◌, ℕ, List, ◌∷◌, ◌++◌, [], IfOk, OnOk, length, string_bytes, ◌+◌, OnErr, IfErr, Option, true};
 ghost use Rattle.std.specs.List.{position_or_len};
 ghost use Rattle.std.specs.Io.KnownBytes.{IsAtEnd, Appends, Consumes};
 ghost use Rattle.reg_calls.specs.HiveView.{view_of, noted_of, callbacks_of, asks_of};
 ghost use Rattle.reg_calls.specs.Seats.{AreSeated};
 ghost use Rattle.reg_script.specs.LineWords.{lines_of};
-ghost use Rattle.reg_script.specs.LineMeanings.{asks, takes_notice, meaning_of};
-ghost use Rattle.reg_script.specs.Internal.WordReadings.{said};
+ghost use Rattle.reg_script.specs.LineMeanings.{asks, takes_notice};
+ghost use Rattle.reg_script.specs.ReadLines.{said};
 ghost use Rattle.reg_script.specs.Lines.{IsSaid, Lines, LinesTo, LinesFrom};
 ghost use Rattle.reg_script.specs.Stops.{fault_number, HasNoFeed, AreWithin, Stops, StopsFrom};
 ghost use Rattle.reg_script.specs.FailedLines.{HaveFailed, StopsStrictly};
-ghost use Rattle.reg_script.specs.Internal.Progress.{IsSteady, Adds, IsUnchanged, Takes, Halts, HaltsAtEnd, Ends, among, past, position_of, stand_of};
+ghost use Rattle.reg_script.specs.Internal.Progress.{IsSteady, Adds, IsUnchanged, Takes, Halts, HaltsAtEnd, Ends, among, position_of, stand_of};
 ghost use Rattle.reg_script.specs.Internal.Progress.{is_feed, JoinsWithin, IsPartFault, IsAnswered, KeepsLine, EndsLine, IsLineFault, EndsLast};
 ghost use Rattle.reg_script.specs.Internal.StrictEnds.{StopsBy};
 
 use crate::failed::{FailedLine, Ran, StrictFault, Went, went_with};
 use crate::line::{Line, Session, Setting};
 use crate::output::{close, pass_on, settle};
-use crate::parse::parse;
+use crate::parsing::parse;
 use crate::reply::{
     CHANGE_REPLY_LIMIT, NOTICE_REPLY_LIMIT, is_notify, write_answered, write_changed, write_notice,
 };
@@ -40,6 +40,9 @@ pub const LINES_LIMIT: u32 = 1_000_000;
 
 /// More reads than these, of a byte or more each, pass the limits of lines: each line with its LF, and one byte more.
 const READS_LIMIT: u64 = 2_200_001_000_001;
+
+/// How many hives a script runs on here.
+const HIVES: u8 = 1;
 
 /// How many bytes are read at a time.
 const CHUNK: usize = 65_536;
@@ -98,7 +101,7 @@ impl ScriptFault {
 }
 
 /// The place of the first LF, or behind the last byte where there is none.
-fn first_feed(bytes: &[u8]) -> usize
+pub fn first_feed(bytes: &[u8]) -> usize
     ensures { result ≡ position_or_len is_feed bytes.now }
 {
     bytes
@@ -220,7 +223,7 @@ impl Script {
         ensures err { IfErr result (λ fault. (sent : Option (List ℕ)) →
             IsLineFault (position_of C.answers self.old hive.old sent) fault (position_of C.answers self.new hive.new sent)) }
     {
-        let line = parse(self.alloc, self.line.as_slice())?;
+        let line = parse(self.alloc, HIVES, self.line.as_slice())?;
         let went = self.answer(hive, shares, line)?;
         self.lines = self.lines.saturating_add(1);
         match went {
@@ -260,7 +263,7 @@ impl Script {
         ensures err { OnErr result (IsUnchanged self.old (view_of hive.old) self.new (view_of hive.new)) }
     {
         match line {
-            Line::Nothing | Line::Setting(Setting::Hive) => Ok(Went::Well),
+            Line::Nothing | Line::Setting(Setting::Hive(_)) => Ok(Went::Well),
             Line::Setting(Setting::At(moment)) => {
                 self.moment = moment;
                 Ok(Went::Well)
@@ -479,7 +482,7 @@ fn run_script<R: Read, W: Write, C: Callback>(
 /// it: no change is made and no notice taken whose reply lacks memory.
 ///
 /// `shares` are the shares of the hive's 64 sessions in their order, each with its row's count, and still are when it returns (clause
-/// `seated`). That they are so is for the caller to see to; no line's call is then answered 1009.
+/// `seated`). That they are so is for the caller to see to; a line's call is then answered 1009 only where a callback answers it.
 pub fn run<R: Read, W: Write, C: Callback>(
     alloc: Global,
     reader: &mut R,

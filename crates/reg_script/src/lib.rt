@@ -7,9 +7,10 @@
 //! A line fails where it has no form of a line, or asks for a change that isn't made. [`run_counted`] tells how many did, and
 //! [`run_strictly`] stops at the first.
 //!
-//! `parse` understands a line by the readers of `words`; `reply` writes a reply; `output` gathers replies and counts what the writer
+//! `parsing` understands a line by the readers of `words`; `reply` writes a reply; `output` gathers replies and counts what the writer
 //! took; `failed` tells how a line went; `engine` goes over the bytes. Its public types are [`ScriptFault`], [`Ran`], [`StrictFault`]
-//! and [`FailedLine`].
+//! and [`FailedLine`]. For scripts that aren't run line by line [`parse`] reads one [`Line`], and [`write_changed`], [`write_answered`]
+//! and [`write_notice`] write its reply.
 #![tactic(auto)]
 
 mod engine;
@@ -18,10 +19,17 @@ mod fresh;
 pub mod laws;
 mod line;
 mod output;
-mod parse;
+mod parsing;
 mod reply;
 mod words;
 
-pub use engine::{ScriptFault, run, run_counted, run_strictly, run_to};
+pub use engine::{
+    LINE_LIMIT, LINES_LIMIT, ScriptFault, first_feed, run, run_counted, run_strictly, run_to,
+};
 pub use failed::{FailedLine, Ran, StrictFault};
 pub use fresh::FRESH_DESCRIPTOR;
+pub use line::{Line, Session, Setting};
+pub use parsing::parse;
+pub use reply::{
+    CHANGE_REPLY_LIMIT, NOTICE_REPLY_LIMIT, is_notify, write_answered, write_changed, write_notice,
+};

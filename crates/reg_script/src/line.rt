@@ -25,8 +25,8 @@ pub enum Setting {
     At(u64),
     /// The session of later calls.
     As(Session),
-    /// The hive of later calls; there is one, number 0.
-    Hive,
+    /// The hive of later calls, below the number of hives that the line was read for.
+    Hive(u8),
 }
 
 /// The number of a session.

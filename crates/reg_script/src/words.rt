@@ -4,7 +4,7 @@ ghost use Rattle.std.specs.Prelude.{◌≡◌, ◌<◌, ◌≤◌, ◌∷◌, []
 ghost use Rattle.hex.specs.Hex.{hex_digit_value};
 ghost use Rattle.reg_script.specs.declared.words.ParseFault.TheVariants.{Memory};
 ghost use Rattle.reg_script.specs.LineWords.{after_mark as after_mark_of, number_of, escaped_byte, unescaped, name_of, data_of};
-ghost use Rattle.reg_script.specs.LineMeanings.{small_number_of, session_number_of, room_of, subtree_of, call_verb_of, verb_of};
+ghost use Rattle.reg_script.specs.LineMeanings.{small_number_of, session_number_of, hive_number_of, room_of, subtree_of, call_verb_of, verb_of};
 
 use crate::line::{Session, Verb};
 use hex::FromHexError;
@@ -153,6 +153,13 @@ pub fn session(word: &[u8]) -> Result<Session, ParseFault>
 {
     let number = number(word, SESSIONS_LIMIT as u64 - 1)? as u8;
     Ok(Session { number })
+}
+
+/// A hive: a number below 16, the most hives that there may be.
+pub fn hive(word: &[u8]) -> Result<u8, ParseFault>
+    ensures { result ≡ ok_or (hive_number_of word.now) ParseFault.Form }
+{
+    Ok(number(word, 15)? as u8)
 }
 
 /// `-` for no room, or a number of 32 bits.

@@ -1,37 +1,15 @@
 //! The rules' rows of sessions, on one thread: a loaded hive behind a lock, a callback that comes and goes there, and two hives in turn.
 use crate::asserts::{assert_report, tell_gathered};
-use reg_callbacks::{Callback, Cookie};
+use crate::jobs::open;
+use crate::told::{register, tell_answer, tell_change, unregister};
 use reg_calls::{Hive, SeatedHive};
 use reg_image::{image, load};
-use reg_model::{AnswerBody, Bytes, Change, Query};
+use reg_model::{Bytes, Change, Query};
 use reg_script::run;
-use reg_sessions::{OpenGate, Registry, Session, start};
-use std::alloc::{AllocError, Global};
+use reg_sessions::{Registry, Session, start};
+use std::alloc::Global;
 use std::sync::Wait;
 use std::test::Fail;
-
-/// Every right.
-const ALL: u32 = 983_103;
-
-/// Refuses every call by 5.
-#[derive(Drop)]
-struct Refuses;
-
-impl Callback for Refuses {
-    ghost answers = { λ callback session moment path seen. 5 };
-
-    fn pre_change(&self, _: u8, _: u64, _: &[u8], _: &Change) -> u32 {
-        5
-    }
-
-    fn pre_query(&self, _: u8, _: &[u8], _: &Query) -> u32 {
-        5
-    }
-}
-
-fn boxed(alloc: Global) -> Result<Box<dyn Callback + Send>, AllocError> {
-    Ok(Box::new(alloc, Refuses)?)
-}
 
 /// The image of a hive with two keys and two values, made at moment 7.
 fn image_of(alloc: Global, hive: &mut SeatedHive) -> Result<Vec<u8>, Fail> {
@@ -66,102 +44,12 @@ fn loaded(alloc: Global) -> Result<Hive, Fail> {
     Ok(load(alloc, &mut input)?)
 }
 
-/// Writes what a session's change is answered, where the session and the hive are there.
-fn tell_change<Rt: Wait>(
-    rt: &Rt,
-    registry: &Registry,
-    session: Option<&mut Session>,
-    hive: u8,
-    change: &Change,
-    text: &mut String,
-) -> Result<(), Fail> {
-    let Some(session) = session else {
-        return Err("there is no such session".into());
-    };
-    if hive as usize >= registry.hives() || hive as usize >= session.hives() {
-        return Err("there is no such hive".into());
-    }
-    let reply = session.change(rt, registry, &OpenGate, hive, 9, change);
-    write!(text, "{} number {:?}\n", reply.status, reply.number)?;
-    Ok(())
-}
-
-/// Writes an answer.
-fn tell_body(body: &AnswerBody, text: &mut String) -> Result<(), Fail> {
-    match body {
-        AnswerBody::Refused { status } => write!(text, "{status}")?,
-        AnswerBody::Value {
-            bytes: Some(bytes),
-            ..
-        } => write!(text, "{:?}", bytes.as_slice())?,
-        AnswerBody::Key { name, time } => write!(text, "{:?} {time}", name.as_slice())?,
-        _ => write!(text, "another answer")?,
-    }
-    Ok(())
-}
-
-/// Writes what a session's question is answered, and `at`.
-fn tell_answer<Rt: Wait>(
-    rt: &Rt,
-    registry: &Registry,
-    session: Option<&mut Session>,
-    hive: u8,
-    query: &Query,
-    text: &mut String,
-) -> Result<(), Fail> {
-    let Some(session) = session else {
-        return Err("there is no such session".into());
-    };
-    if hive as usize >= registry.hives() || hive as usize >= session.hives() {
-        return Err("there is no such hive".into());
-    }
-    let answer = session.ask(rt, registry, &OpenGate, hive, query);
-    tell_body(&answer.body, text)?;
-    write!(text, " at {}\n", answer.at)?;
-    Ok(())
-}
-
-/// Registers a callback on a hive, and tells its cookie.
-fn register<Rt: Wait>(rt: &Rt, alloc: Global, registry: &Registry) -> Result<Cookie, Fail> {
-    if registry.hives() == 0 {
-        return Err("there is no hive".into());
-    }
-    match registry.register(rt, 0, boxed(alloc)?, 7) {
-        Ok(cookie) => Ok(cookie),
-        Err(_) => Err("not registered".into()),
-    }
-}
-
-/// Takes a callback out, and writes what it answers.
-fn unregister<Rt: Wait>(
-    rt: &Rt,
-    registry: &Registry,
-    cookie: Cookie,
-    text: &mut String,
-) -> Result<(), Fail> {
-    if registry.hives() == 0 {
-        return Err("there is no hive".into());
-    }
-    match registry.unregister(rt, 0, cookie) {
-        Ok(callback) => {
-            let status = callback.pre_query(0, b"", &Query::QueryInfo { handle: 0 });
-            write!(text, "the box answers {status}\n")?;
-            Ok(())
-        }
-        Err(_) => Err("not taken out".into()),
-    }
-}
-
 fn first_key() -> Query {
     Query::EnumKey {
         handle: 0,
         index: 0,
         room: 255,
     }
-}
-
-fn open() -> Change {
-    Change::OpenRoot { mask: ALL }
 }
 
 /// The calls at a hive that a callback refuses for a while.
@@ -181,7 +69,7 @@ fn guarded<Rt: Wait>(
         &first_key(),
         &mut text,
     )?;
-    let cookie = register(rt, alloc, registry)?;
+    let cookie = register(rt, alloc, registry, 0, 5)?;
     tell_change(rt, registry, sessions.get_mut(0), 0, &open(), &mut text)?;
     tell_answer(
         rt,
@@ -191,7 +79,7 @@ fn guarded<Rt: Wait>(
         &first_key(),
         &mut text,
     )?;
-    unregister(rt, registry, cookie, &mut text)?;
+    unregister(rt, registry, 0, cookie, &mut text)?;
     tell_change(rt, registry, sessions.get_mut(0), 0, &open(), &mut text)?;
     Ok(text)
 }

@@ -3,6 +3,7 @@ use Rattle.std.proofs.Common.{◌≡◌, ◌≢◌, ◌+◌, ◌<◌, ◌≤◌,
 use Rattle.std.proofs.lemmas.List.Elements.{filter-append}
 use Rattle.std.proofs.lemmas.Bool.Decides.{nat_tests}
 use Rattle.std.proofs.lemmas.Bool.{cases_eq, cases_lt}
+use Rattle.reg_callbacks.specs.Asking.{Answers}
 use Rattle.reg_model.specs.Callbacks.{Callbacks}
 use Rattle.reg_model.specs.Histories.{is_of, entries_of, count_of}
 use Rattle.reg_model.specs.Replies.{refusal, reply_to}
@@ -15,9 +16,11 @@ use Rattle.reg_model.specs.declared.reply.ChangeReply.{ChangeReply}
 use Rattle.reg_model.proofs.CallSteps.{not_zero}
 use Rattle.reg_journal.specs.Kept.{Seat, seat, IsCurrent, row_of}
 use Rattle.reg_journal.proofs.Book.{row_at_most, row_is}
+use Rattle.reg_calls.specs.declared.hive.Hive.{Hive}
+use Rattle.reg_calls.specs.HiveView.{view_of, asks_of}
 use Rattle.reg_calls.specs.Views.{View, Booked, state, next_of, entry_of, IsAppliedBy, IsAccepted, IsHive}
 use Rattle.reg_calls.proofs.AcceptedChanges.{either, refused}
-use Rattle.reg_sessions.specs.Locked.{IsAdmitted, IsLawfulReply, IsLawfulAnswer}
+use Rattle.reg_sessions.specs.Locked.{booked_of, IsAdmitted, IsLawfulReply, IsLawfulAnswer}
 use Rattle.reg_sessions.specs.Internal.Answered.{IsAnswered, IsCauseOf, IsAsked}
 
 -- whether the share is current
@@ -43,9 +46,12 @@ count-other : (t : ℕ) (es : List Entry) (e : Entry) → (e.session ≡ t → �
 count-other t es e ne = let m = count-more t es e in grind (arith, nat_tests)
 
 -- a hive that has the same journal
-pub admitted_journal : (b new : Booked) → IsAdmitted b → IsHive new.view → new.noted ≡ b.noted → new.view.journal ≡ b.view.journal → IsAdmitted new
-admitted_journal b new a hive noted journal = record {
+pub admitted_journal : (b new : Booked) → IsAdmitted b → IsHive new.view → new.noted ≡ b.noted → new.view.base ≡ b.view.base → new.view.before ≡ b.view.before
+    → new.view.journal ≡ b.view.journal → IsAdmitted new
+admitted_journal b new a hive noted base before journal = record {
   hive = hive;
+  base = base ∙ a.base;
+  before = before ∙ a.before;
   rows = λ s. subst (λ (l : List ℕ). row_of l new.view.journal s ≡ count_of s new.view.journal) (sym noted)
       (subst (λ (es : List Entry). row_of b.noted es s ≡ count_of s es) (sym journal) (a.rows s));
   seated = λ s past. ap (λ (es : List Entry). count_of s es) journal ∙ a.seated s (subst (λ (l : List ℕ). length l ≤ s) noted past);
@@ -54,13 +60,16 @@ admitted_journal b new a hive noted journal = record {
 -- a hive that is the same
 pub admitted-same : (b new : Booked) → IsAdmitted b → new.noted ≡ b.noted → new.view ≡ b.view → IsAdmitted new
 admitted-same b new a noted same =
-    admitted_journal b new a (subst (λ (v : View). IsHive v) (sym same) a.hive) noted (ap (λ (v : View). v.journal) same)
+    admitted_journal b new a (subst (λ (v : View). IsHive v) (sym same) a.hive) noted (ap (λ (v : View). v.base) same) (ap (λ (v : View). v.before) same)
+    (ap (λ (v : View). v.journal) same)
 
 -- a hive that has an entry more, of a session that has a seat
-pub admitted-more : (b new : Booked) (e : Entry) → IsAdmitted b → IsHive new.view → new.noted ≡ b.noted → new.view.journal ≡ b.view.journal ++ e ∷ []
-    → e.session < length b.noted → IsAdmitted new
-admitted-more b new e a hive noted journal seat = record {
+pub admitted-more : (b new : Booked) (e : Entry) → IsAdmitted b → IsHive new.view → new.noted ≡ b.noted → new.view.base ≡ b.view.base → new.view.before ≡ b.view.before
+    → new.view.journal ≡ b.view.journal ++ e ∷ [] → e.session < length b.noted → IsAdmitted new
+admitted-more b new e a hive noted base before journal seat = record {
   hive = hive;
+  base = base ∙ a.base;
+  before = before ∙ a.before;
   rows = λ s. subst (λ (l : List ℕ). row_of l new.view.journal s ≡ count_of s new.view.journal) (sym noted) (let r = a.rows s in omega (arith, r));
   seated = λ s past.
       (let p = subst (λ (l : List ℕ). length l ≤ s) noted past in
@@ -78,7 +87,7 @@ admitted-changed {k} {old} {new} {share} {after} {moment} {change} {reply} p a =
     elim (decided old share) [
       | inl c ↦ elim (either _ old.view new.view share.session moment change reply (p.applied c)) [
         | inl same ↦ admitted-same old new a p.noted same
-        | inr more ↦ admitted-more old new (entry_of old.view share.session moment change) a more.hive p.noted more.journal c.seated
+        | inr more ↦ admitted-more old new (entry_of old.view share.session moment change) a more.hive p.noted more.base more.before more.journal c.seated
       ]
       | inr none ↦ admitted-same old new a p.noted (p.stale none).1
     ]
@@ -145,11 +154,12 @@ left {k} {old} {new} {share} {after} {moment} {change} {reply} p other =
       | inr none ↦ (same-booked new old (p.stale none).1 p.noted, (p.stale none).2)
     ]
 
-pub lawful : {k : Callbacks} {old new : Booked} {share after : Seat} {moment : ℕ} {change : Change} {reply : ChangeReply}
-    → IsAnswered k old new share after moment change reply → IsAdmitted old → reply.status ≢ 1009 → IsLawfulReply share moment change reply
-lawful {k} {old} {new} {share} {after} {moment} {change} {reply} p a other =
-    elim (decided old share) [
-      | inl c ↦ record { hive = old; new = new.view; admitted = a; current = c; callbacks = k; applied = p.applied c }
+pub lawful : {C : Type 0} (answers : C → Answers) (h : Hive C) (new : Booked) (share after : Seat) (mark moment : ℕ) (change : Change) (reply : ChangeReply)
+    → IsAnswered (asks_of answers h) (booked_of h) new share after moment change reply → IsAdmitted (booked_of h) → mark ≤ next_of (view_of h)
+    → reply.status ≢ 1009 → IsLawfulReply answers share mark moment change reply
+lawful answers h new share after mark moment change reply p a reached other =
+    elim (decided (booked_of h) share) [
+      | inl c ↦ record { hive = h; new = new.view; sight = record { admitted = a; current = c; reached = reached }; applied = p.applied c }
       | inr none ↦ absurd (other (status_is reply 1009 (p.stale none).0))
     ]
 
@@ -166,29 +176,29 @@ never-zero {k} {b} {share} {moment} {change} (Some status) p z =
       | inr none ↦ (let e = some-is status 1009 (p.stale none) in omega (arith, e, z))
     ]
 
-pub lacked : {k : Callbacks} {b : Booked} {share : Seat} {moment : ℕ} {change : Change} (cause : Option ℕ) (reply : ChangeReply) → IsCauseOf k b share moment change cause → IsAdmitted b
-    → reply ≡ refusal (unwrap_or cause 8) → reply.status ≢ 1009 → reply.status ≢ 8 → IsLawfulReply share moment change reply
-lacked None reply p a told stale lack = absurd (lack (status_is reply 8 told))
-lacked {k} {b} {share} {moment} {change} (Some status) reply p a told stale lack =
-    elim (decided b share) [
+pub lacked : {C : Type 0} (answers : C → Answers) (h : Hive C) (share : Seat) (mark moment : ℕ) (change : Change) (cause : Option ℕ) (reply : ChangeReply)
+    → IsCauseOf (asks_of answers h) (booked_of h) share moment change cause → IsAdmitted (booked_of h) → mark ≤ next_of (view_of h)
+    → reply ≡ refusal (unwrap_or cause 8) → reply.status ≢ 1009 → reply.status ≢ 8 → IsLawfulReply answers share mark moment change reply
+lacked answers h share mark moment change None reply p a reached told stale lack = absurd (lack (status_is reply 8 told))
+lacked answers h share mark moment change (Some status) reply p a reached told stale lack =
+    elim (decided (booked_of h) share) [
       | inl c ↦ record {
-        hive = b;
-        new = b.view;
-        admitted = a;
-        current = c;
-        callbacks = k;
-        applied = subst (λ (o : Option ℕ). IsAppliedBy o b.view b.view share.session moment change reply) (p.cause c) (told, refl);
+        hive = h;
+        new = view_of h;
+        sight = record { admitted = a; current = c; reached = reached };
+        applied = subst (λ (o : Option ℕ). IsAppliedBy o (view_of h) (view_of h) share.session moment change reply) (p.cause c) (told, refl);
       }
       | inr none ↦ absurd (stale (status_is reply status told ∙ some-is status 1009 (p.stale none)))
     ]
 
 -- ---- a question
 
-pub lawful-answer : {k : Callbacks} {b : Booked} {share : Seat} {query : Query} {answer : Answer} → IsAsked k b share query answer → IsAdmitted b
-    → answer.body ≢ Refused 1009 → IsLawfulAnswer share query answer
-lawful-answer {k} {b} {share} {query} {answer} p a other =
-    elim (decided b share) [
-      | inl c ↦ record { hive = b; admitted = a; current = c; callbacks = k; at = p.at; body = p.body c }
+pub lawful-answer : {C : Type 0} (answers : C → Answers) (h : Hive C) (share : Seat) (mark : ℕ) (query : Query) (answer : Answer)
+    → IsAsked (asks_of answers h) (booked_of h) share query answer → IsAdmitted (booked_of h) → mark ≤ next_of (view_of h)
+    → answer.body ≢ Refused 1009 → IsLawfulAnswer answers share mark query answer
+lawful-answer answers h share mark query answer p a reached other =
+    elim (decided (booked_of h) share) [
+      | inl c ↦ record { hive = h; sight = record { admitted = a; current = c; reached = reached }; at = p.at; body = p.body c }
       | inr none ↦ absurd (other (p.stale none))
     ]
 
@@ -203,9 +213,11 @@ count-at {k} {b} {share} {query} {answer} p a other =
 -- ---- a new hive
 
 -- a hive that has had no entry, and that gave its first seats
-pub admitted_new : (b : Booked) (n : ℕ) → IsHive b.view → b.view.journal ≡ [] → b.noted ≡ replicate n 0 → IsAdmitted b
-admitted_new b n hive none rows = record {
+pub admitted_new : (b : Booked) (n : ℕ) → IsHive b.view → b.view.base ≡ 0 → b.view.before ≡ [] → b.view.journal ≡ [] → b.noted ≡ replicate n 0 → IsAdmitted b
+admitted_new b n hive base before none rows = record {
   hive = hive;
+  base = base;
+  before = before;
   rows = λ s. subst (λ (l : List ℕ). row_of l b.view.journal s ≡ count_of s b.view.journal) (sym rows) (row_is n b.view.journal s);
   seated = λ s past. ap (λ (es : List Entry). count_of s es) none;
 }

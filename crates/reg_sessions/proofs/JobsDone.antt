@@ -1,13 +1,16 @@
 -- Work that is done, one after another.
-use Rattle.std.proofs.Common.{◌≡◌, ◌+◌, ◌==◌, ◌<◌, ◌&&◌, ℕ, Bool, true, false, List, [], ◌∷◌, ◌++◌, length, get_or, slice_index_or, set, take, refl, sym, ap, ◌∙◌, subst, inl, inr, arith, if◌then◌else◌, append_assoc, append-nil}
-use Rattle.std.proofs.lemmas.List.{get_or-set_same, get_or-set_other, take_more}
+use Rattle.std.proofs.Common.{◌≡◌, ◌+◌, ◌==◌, ◌<◌, ◌⊎◌, ◌&&◌, ℕ, zero, suc, Bool, true, false, List, [], ◌∷◌, ◌++◌, Some, length, get_or, slice_get, set, take, refl, sym, ap, ◌∙◌, subst, inl, inr, arith, if◌then◌else◌, append_assoc, append-nil}
+use Rattle.std.proofs.lemmas.List.{get_or-set_same, get_or-set_other, take-append-le, take_more}
+use Rattle.std.proofs.Math.Seq.{take-append_seam}
 use Rattle.std.proofs.lemmas.Bool.{cases_eq}
+use Rattle.reg_callbacks.specs.Asking.{Answers}
+use Rattle.reg_journal.specs.Kept.{seat}
 use Rattle.reg_model.specs.declared.reply.Receipt.{Receipt}
-use Rattle.reg_sessions.specs.Sessions.{SessionState, receipts_at}
+use Rattle.reg_sessions.specs.Sessions.{SessionState, receipts_at, mark_at, seat_at}
 use Rattle.reg_sessions.specs.declared.job.Work.{Work}
 use Rattle.reg_sessions.specs.declared.job.Done.{Done}
 use Rattle.reg_sessions.specs.declared.job.Job.{Job}
-use Rattle.reg_sessions.specs.Jobs.{AreDone, is_of_kind, are_of_kinds, receipts_by, receipts_of_one, IsSameJob, HasRoom, IsReady, IsDone}
+use Rattle.reg_sessions.specs.Jobs.{AreDone, AreLawful, AreWithin, IsLawfulDone, is_of_kind, are_of_kinds, receipts_by, receipts_of_one, mark_by, mark_by_one, IsSameJob, HasRoom, IsReady, IsDone}
 
 and_right : (a b : Bool) → (a && b) ≡ true → b ≡ true
 and_right true b h = h
@@ -35,25 +38,103 @@ kinds_more [] w (e ∷ ds) d same k = absurd cc
 kinds_more (v ∷ ws) w [] d same k = absurd cc
 kinds_more (v ∷ ws) w (e ∷ ds) d same k = both_true _ _ _ same (λ h. kinds_more ws w ds d h k)
 
-pub done_none : (s : SessionState) (b : List Done) → AreDone s [] b s b
-done_none s b = record {
+-- what one work and its outcome make of the mark at hive h
+moved : ℕ → ℕ → Work → Done → ℕ
+moved h mark w d = if h == w.hive then mark_by_one mark w.ask d else mark
+
+mark_more : (h mark : ℕ) (ws : List Work) (w : Work) (ds : List Done) (d : Done) → are_of_kinds ws ds ≡ true
+    → mark_by h mark (ws ++ w ∷ []) (ds ++ d ∷ []) ≡ moved h (mark_by h mark ws ds) w d
+unfolding moved
+mark_more h mark [] w [] d same = refl
+mark_more h mark [] w (e ∷ ds) d same = absurd cc
+mark_more h mark (v ∷ ws) w [] d same = absurd cc
+mark_more h mark (v ∷ ws) w (e ∷ ds) d same = mark_more h (moved h mark v e) ws w ds d (and_right _ _ same)
+
+as_many : (ws : List Work) (ds : List Done) → are_of_kinds ws ds ≡ true → length ds ≡ length ws
+as_many [] [] same = refl
+as_many [] (d ∷ ds) same = absurd cc
+as_many (w ∷ ws) [] same = absurd cc
+as_many (w ∷ ws) (d ∷ ds) same = ap (λ (n : ℕ). suc n) (as_many ws ds (and_right _ _ same))
+
+some_is : {X : Type 0} (x y : X) → Some x ≡ Some y → x ≡ y
+some_is x y e = cc
+
+none_there : {X : Type 0} (y : X) (i : ℕ) → slice_get [] i ≡ Some y → ⊥
+none_there y i e = cc
+
+-- an element of a list with one more is of the list, or that one
+there_or_last : {X : Type 0} (xs : List X) (x y : X) (i : ℕ) → slice_get (xs ++ x ∷ []) i ≡ Some y → ((i < length xs) × (slice_get xs i ≡ Some y)) ⊎ ((i ≡ length xs) × (x ≡ y))
+there_or_last [] x y zero h = inr (refl, some_is x y h)
+there_or_last [] x y (suc i) h = absurd (none_there y i h)
+there_or_last (a ∷ xs) x y zero h = inl (omega arith, h)
+there_or_last (a ∷ xs) x y (suc i) h =
+    elim (there_or_last xs x y i h) [
+      | inl p ↦ (let below = p.0 in inl (omega (arith, below), p.1))
+      | inr p ↦ inr (ap (λ (n : ℕ). suc n) p.0, p.1)
+    ]
+
+-- what is lawful of a work by the works before it
+lawful_after : {C : Type 0} → (C → Answers) → SessionState → List Work → List Done → Work → Done → Type 0
+lawful_after answers s ws ds w d =
+    IsLawfulDone answers (seat s.number (length (receipts_at w.hive s ++ receipts_by w.hive ws ds))) (mark_by w.hive (mark_at w.hive s) ws ds) w.moment w.ask d
+
+lawful_more : {C : Type 0} (answers : C → Answers) (s : SessionState) (ws : List Work) (w : Work) (ds : List Done) (d : Done) → are_of_kinds ws ds ≡ true → AreLawful answers s ws ds
+    → lawful_after answers s ws ds w d → AreLawful answers s (ws ++ w ∷ []) (ds ++ d ∷ [])
+unfolding lawful_after
+lawful_more answers s ws w ds d same all one i x y is told =
+    let long = as_many ws ds same in
+    elim (there_or_last ws w x i is) [
+      | inl p ↦ elim (there_or_last ds d y i told) [
+        | inl q ↦ (let below = p.0 in
+            subst (λ (l : List Work). lawful_after answers s l (take i (ds ++ d ∷ [])) x y) (sym (take-append-le i ws (w ∷ []) (omega (arith, below))))
+            (subst (λ (l : List Done). lawful_after answers s (take i ws) l x y) (sym (take-append-le i ds (d ∷ []) (omega (arith, below, long)))) (all i x y p.1 q.1)))
+        | inr q ↦ (let below = p.0 in let at = q.0 in absurd (omega (arith, below, at, long)))
+      ]
+      | inr p ↦ elim (there_or_last ds d y i told) [
+        | inl q ↦ (let below = q.0 in let at = p.0 in absurd (omega (arith, below, at, long)))
+        | inr q ↦ (let works : take i (ws ++ w ∷ []) ≡ ws = ap (λ (n : ℕ). take n (ws ++ w ∷ [])) p.0 ∙ take-append_seam ws (w ∷ []) in
+            let told_so : take i (ds ++ d ∷ []) ≡ ds = ap (λ (n : ℕ). take n (ds ++ d ∷ [])) q.0 ∙ take-append_seam ds (d ∷ []) in
+            subst (λ (l : List Work). lawful_after answers s l (take i (ds ++ d ∷ [])) x y) (sym works)
+            (subst (λ (l : List Done). lawful_after answers s ws l x y) (sym told_so)
+            (subst (λ (v : Work). lawful_after answers s ws ds v y) p.1 (subst (λ (v : Done). lawful_after answers s ws ds w v) q.1 one))))
+      ]
+    ]
+
+-- the seat and the mark that a session has after works are those by these works
+lawful_next : {C : Type 0} (answers : C → Answers) (old mid : SessionState) (ws : List Work) (ds : List Done) (w : Work) (d : Done) → mid.number ≡ old.number
+    → receipts_at w.hive mid ≡ receipts_at w.hive old ++ receipts_by w.hive ws ds → mark_at w.hive mid ≡ mark_by w.hive (mark_at w.hive old) ws ds
+    → IsLawfulDone answers (seat_at w.hive mid) (mark_at w.hive mid) w.moment w.ask d → lawful_after answers old ws ds w d
+unfolding lawful_after
+lawful_next answers old mid ws ds w d number receipts mark one =
+    subst (λ (m : ℕ). IsLawfulDone answers (seat old.number (length (receipts_at w.hive old ++ receipts_by w.hive ws ds))) m w.moment w.ask d) mark
+    (subst (λ (l : List Receipt). IsLawfulDone answers (seat old.number (length l)) (mark_at w.hive mid) w.moment w.ask d) receipts
+    (subst (λ (n : ℕ). IsLawfulDone answers (seat n (length (receipts_at w.hive mid))) (mark_at w.hive mid) w.moment w.ask d) number one))
+
+pub done_none : {C : Type 0} (answers : C → Answers) (s : SessionState) (b : List Done) → AreDone answers s [] b s b
+done_none answers s b = record {
   done = [];
   outcomes = sym (append-nil b);
   kinds = refl;
+  lawful = λ i w d is told. absurd (none_there w i is);
   receipts = λ h. sym (append-nil (receipts_at h s));
+  marks = λ h. refl;
   number = refl;
   hives = refl;
 }
 
-done_more : (old : SessionState) (ws : List Work) (w : Work) (b a : List Done) (mid new : SessionState) (d : Done) → AreDone old ws b mid a → is_of_kind w.ask d ≡ true
+done_more : {C : Type 0} (answers : C → Answers) (old : SessionState) (ws : List Work) (w : Work) (b a : List Done) (mid new : SessionState) (d : Done) → AreDone answers old ws b mid a
+    → is_of_kind w.ask d ≡ true → IsLawfulDone answers (seat_at w.hive mid) (mark_at w.hive mid) w.moment w.ask d
     → ((h : ℕ) → receipts_at h new ≡ receipts_at h mid ++ (if h == w.hive then receipts_of_one w.moment w.ask d else []))
+    → ((h : ℕ) → mark_at h new ≡ (if h == w.hive then mark_by_one (mark_at h mid) w.ask d else mark_at h mid))
     → new.number ≡ mid.number → length new.places ≡ length mid.places
-    → AreDone old (ws ++ w ∷ []) b new (a ++ d ∷ [])
-unfolding given
-done_more old ws w b a mid new d p kind receipt number hives = record {
+    → AreDone answers old (ws ++ w ∷ []) b new (a ++ d ∷ [])
+unfolding given moved
+done_more answers old ws w b a mid new d p kind lawful receipt mark number hives = record {
   done = p.done ++ d ∷ [];
   outcomes = ap (λ (l : List Done). l ++ d ∷ []) p.outcomes ∙ append_assoc b p.done (d ∷ []);
   kinds = kinds_more ws w p.done d p.kinds kind;
+  lawful = lawful_more answers old ws w p.done d p.kinds p.lawful (lawful_next answers old mid ws p.done w d p.number (p.receipts w.hive) (p.marks w.hive) lawful);
+  marks = λ h. mark h ∙ ap (λ (m : ℕ). moved h m w d) (p.marks h) ∙ sym (mark_more h (mark_at h old) ws w p.done d p.kinds);
   receipts = λ h. (
       receipt h
       ∙ ap (λ (l : List Receipt). l ++ given h w d) (p.receipts h)
@@ -64,14 +145,17 @@ done_more old ws w b a mid new d p kind receipt number hives = record {
 }
 
 -- one work more of a list
-pub done_next : (old : SessionState) (ws : List Work) (i : ℕ) (w : Work) (b a : List Done) (mid new : SessionState) (d : Done) → i < length ws → w ≡ get_or ws i w
-    → AreDone old (take i ws) b mid a → is_of_kind w.ask d ≡ true
+pub done_next : {C : Type 0} (answers : C → Answers) (old : SessionState) (ws : List Work) (i : ℕ) (w : Work) (b a : List Done) (mid new : SessionState) (d : Done) → i < length ws
+    → w ≡ get_or ws i w → AreDone answers old (take i ws) b mid a → is_of_kind w.ask d ≡ true
+    → IsLawfulDone answers (seat_at w.hive mid) (mark_at w.hive mid) w.moment w.ask d
     → ((h : ℕ) → receipts_at h new ≡ receipts_at h mid ++ (if h == w.hive then receipts_of_one w.moment w.ask d else []))
+    → ((h : ℕ) → mark_at h new ≡ (if h == w.hive then mark_by_one (mark_at h mid) w.ask d else mark_at h mid))
     → new.number ≡ mid.number → length new.places ≡ length mid.places
-    → AreDone old (take (i + 1) ws) b new (a ++ d ∷ [])
-done_next old ws i w b a mid new d below is p kind receipt number hives =
-    let Q : List Work → Type 0 = λ l. AreDone old l b new (a ++ d ∷ []) in
-    subst Q (sym (take_more ws i w below ∙ ap (λ x. take i ws ++ x ∷ []) (sym is))) (done_more old (take i ws) w b a mid new d p kind receipt number hives)
+    → AreDone answers old (take (i + 1) ws) b new (a ++ d ∷ [])
+done_next answers old ws i w b a mid new d below is p kind lawful receipt mark number hives =
+    let Q : List Work → Type 0 = λ l. AreDone answers old l b new (a ++ d ∷ []) in
+    subst Q (sym (take_more ws i w below ∙ ap (λ x. take i ws ++ x ∷ []) (sym is)))
+    (done_more answers old (take i ws) w b a mid new d p kind lawful receipt mark number hives)
 
 -- ---- jobs
 
@@ -99,17 +183,20 @@ room_more now i j within all room k d below =
     ]
 
 -- room changes nothing of what is done
-pub is_done : {a b c : Job} → IsSameJob a b → IsDone b c → IsDone a c
-is_done {a} {b} {c} p q = record {
+pub is_done : {C : Type 0} (answers : C → Answers) {a b c : Job} → IsSameJob a b → IsDone answers b c → IsDone answers a c
+is_done answers {a} {b} {c} p q = record {
   work = q.work ∙ ap (λ v. v.items) p.work;
-  done = (let P : SessionState → Type 0 = λ s. AreDone s a.work.items a.outcomes.items c.session c.outcomes.items in
-      let Q : List Work → Type 0 = λ w. AreDone b.session w a.outcomes.items c.session c.outcomes.items in
-      let R : List Done → Type 0 = λ o. AreDone b.session b.work.items o c.session c.outcomes.items in
+  done = (let P : SessionState → Type 0 = λ s. AreDone answers s a.work.items a.outcomes.items c.session c.outcomes.items in
+      let Q : List Work → Type 0 = λ w. AreDone answers b.session w a.outcomes.items c.session c.outcomes.items in
+      let R : List Done → Type 0 = λ o. AreDone answers b.session b.work.items o c.session c.outcomes.items in
       subst P p.session (subst Q (ap (λ v. v.items) p.work) (subst R p.outcomes q.done)));
 }
 
 pub still_ready : (hives : ℕ) {a b : Job} → IsSameJob a b → IsReady hives a → IsReady hives b
-still_ready hives {a} {b} p r = record {
-  seats = ap (λ (s : SessionState). length s.places) p.session ∙ r.seats;
-  within = (let Q : List Work → Type 0 = λ ws. (i : ℕ) (d : Work) → i < length ws → (slice_index_or ws i d).hive < hives in subst Q (sym (ap (λ v. v.items) p.work)) r.within);
-}
+still_ready hives {a} {b} p r =
+    let works : b.work.items ≡ a.work.items = ap (λ v. v.items) p.work in
+    let places : length b.session.places ≡ length a.session.places = ap (λ (s : SessionState). length s.places) p.session in
+    record {
+      within = subst (λ (ws : List Work). AreWithin hives ws) (sym works) r.within;
+      seats = subst (λ (n : ℕ). AreWithin n b.work.items) (sym places) (subst (λ (ws : List Work). AreWithin (length a.session.places) ws) (sym works) r.seats);
+    }

@@ -2,6 +2,7 @@ pub mod Admitted
 pub mod SessionPlaces
 pub mod Starts
 pub mod JobsDone
+pub mod ReadyJobs
 pub mod Compared
 pub mod Totals
 pub mod Crossings

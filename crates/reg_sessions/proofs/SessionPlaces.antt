@@ -1,11 +1,11 @@
 -- What a session has at each of its hives, after a call at one of them.
-use Rattle.std.proofs.Common.{◌≡◌, ◌==◌, ◌<◌, ℕ, zero, suc, List, [], ◌∷◌, ◌++◌, length, get_or, set, inl, inr, length-append, ap, ◌∙◌, arith, if◌then◌else◌}
+use Rattle.std.proofs.Common.{◌≡◌, ◌==◌, ◌<◌, ℕ, zero, suc, List, [], ◌∷◌, ◌++◌, length, get_or, set, inl, inr, length-append, ap, ◌∙◌, arith, subst, if◌then◌else◌}
 use Rattle.std.proofs.lemmas.List.{get_or-set_same, get_or-set_other, get_or_append_left, get_or_default}
 use Rattle.std.proofs.lemmas.Bool.{cases_lt}
 use Rattle.std.proofs.Math.Seq.{get_or-append_seam}
 use Rattle.std.proofs.lemmas.Bool.Decides.{nat_tests}
-use Rattle.reg_journal.specs.Kept.{seat}
-use Rattle.reg_sessions.specs.Sessions.{PlaceState, no_place, place_of}
+use Rattle.reg_journal.specs.Kept.{Seat, seat}
+use Rattle.reg_sessions.specs.Sessions.{PlaceState, no_place, place_of, seat_of}
 
 pub place_set : (ps : List PlaceState) (i h : ℕ) (p : PlaceState) → i < length ps → get_or (set ps i p) h no_place ≡ (if h == i then p else get_or ps h no_place)
 place_set ps i h p within = grind (arith, nat_tests, get_or-set_same ps i p no_place, get_or-set_other ps i h p no_place)
@@ -18,12 +18,17 @@ one_place_more ps p n all one h below =
       | inr b ↦ (let at : h ≡ length ps = omega (arith, below, length-append ps (p ∷ [])) in rw (at, get_or-append_seam ps p [] no_place) one)
     ]
 
--- the seat at a hive, as code finds it there
-pub own-seat : (ps : List PlaceState) (h number : ℕ) (found : PlaceState) → h < length ps → found ≡ get_or ps h found
-    → ((k : ℕ) → k < length ps → (place_of ps k).seat.session ≡ number) → found.seat ≡ seat number (place_of ps h).seat.count
-own-seat ps h number found within is all =
-    let here = is ∙ get_or_default ps h found no_place within in
-    ap (λ (p : PlaceState). p.seat) here ∙ ap (λ (n : ℕ). seat n (place_of ps h).seat.count) (all h within)
+-- the place at a hive, as code finds it there
+pub own-place : (ps : List PlaceState) (h : ℕ) (found : PlaceState) → h < length ps → found ≡ get_or ps h found → found ≡ place_of ps h
+own-place ps h found within is = is ∙ get_or_default ps h found no_place within
+
+-- the seat there, and the mark: the session's own
+pub own-seat : (P : Seat → ℕ → Type 0) (ps : List PlaceState) (h number : ℕ) (found : PlaceState) → h < length ps → found ≡ get_or ps h found
+    → ((k : ℕ) → k < length ps → (place_of ps k).seat.session ≡ number) → P (seat_of found) found.mark
+    → P (seat number (length (place_of ps h).receipts)) (place_of ps h).mark
+own-seat P ps h number found within is all p =
+    subst (λ (n : ℕ). P (seat n (length (place_of ps h).receipts)) (place_of ps h).mark) (all h within)
+    (subst (λ (x : PlaceState). P (seat_of x) x.mark) (own-place ps h found within is) p)
 
 -- a place that stays as it was
 pub set_same : (ps : List PlaceState) (h : ℕ) (found : PlaceState) → found ≡ get_or ps h found → h < length ps → set ps h found ≡ ps

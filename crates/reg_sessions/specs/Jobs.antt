@@ -1,5 +1,9 @@
 -- What is done of jobs.
-use Rattle.std.specs.Prelude.{◌≡◌, ◌+◌, ◌≤◌, ◌<◌, ◌==◌, ◌&&◌, ℕ, Bool, true, false, List, [], ◌∷◌, ◌++◌, length, slice_index_or, vec_len, vec_capacity, if◌then◌else◌}
+use Rattle.std.specs.Prelude.{◌≡◌, ◌≢◌, ◌+◌, ◌≤◌, ◌<◌, ◌==◌, ◌&&◌, ℕ, Bool, true, false, List, [], ◌∷◌, ◌++◌, Some, length, take, slice_get, slice_index_or, vec_len, vec_capacity, if◌then◌else◌}
+use Rattle.reg_callbacks.specs.Asking.{Answers}
+use Rattle.reg_journal.specs.Kept.{Seat, seat}
+use Rattle.reg_model.specs.declared.answer.AnswerBody.TheVariants.{Refused}
+use Rattle.reg_model.specs.declared.statuses.TheConstants.{BAD_DATABASE, NOT_ENOUGH_MEMORY}
 use Rattle.reg_model.specs.declared.call.Call.TheVariants.{Change, Query}
 use Rattle.reg_model.specs.declared.reply.Receipt.{Receipt}
 use Rattle.reg_model.specs.declared.step.Outcome.TheVariants.{Changed, Answered}
@@ -9,7 +13,8 @@ use Rattle.reg_sessions.specs.declared.job.Ask.TheVariants.{Call, TakeNotice}
 use Rattle.reg_sessions.specs.declared.job.Done.{Done}
 use Rattle.reg_sessions.specs.declared.job.Done.TheVariants.{Outcome, Notice}
 use Rattle.reg_sessions.specs.declared.job.Job.{Job}
-use Rattle.reg_sessions.specs.Sessions.{SessionState, receipts_at, receipt_of}
+use Rattle.reg_sessions.specs.Locked.{IsLawfulReply, IsLawfulAnswer, IsLawfulNotice}
+use Rattle.reg_sessions.specs.Sessions.{SessionState, receipts_at, mark_at, receipt_of, mark_after, mark_told}
 
 -- an outcome is of the kind that was asked for: a reply to a change, an answer to a question, a notice or none to who takes one
 abbrev pub is_of_kind : Ask → Done → Bool
@@ -42,29 +47,62 @@ receipts_by h [] ds = []
 receipts_by h (w ∷ ws) [] = []
 receipts_by h (w ∷ ws) (d ∷ ds) = (if h == w.hive then receipts_of_one w.moment w.ask d else []) ++ receipts_by h ws ds
 
--- the outcomes grew by one for each work, of its kind and in order; at each hive the session's receipts grew by just those of its accepted
--- changes with these replies, in order
-pub record AreDone (old : SessionState) (work : List Work) (before : List Done) (new : SessionState) (after : List Done) : Type 0 where
+-- the mark after one outcome
+abbrev pub mark_by_one : ℕ → Ask → Done → ℕ
+mark_by_one mark (Call (Change change)) (Outcome (Changed reply)) = mark_after mark reply
+mark_by_one mark (Call (Change change)) (Outcome (Answered answer)) = mark
+mark_by_one mark (Call (Query query)) (Outcome (Changed reply)) = mark
+mark_by_one mark (Call (Query query)) (Outcome (Answered answer)) = mark_told mark answer
+mark_by_one mark (Call call) (Notice notice) = mark
+mark_by_one mark TakeNotice done = mark
+
+-- the mark at a hive after works and their outcomes
+abbrev pub mark_by : ℕ → ℕ → List Work → List Done → ℕ
+mark_by h mark [] ds = mark
+mark_by h mark (w ∷ ws) [] = mark
+mark_by h mark (w ∷ ws) (d ∷ ds) = mark_by h (if h == w.hive then mark_by_one mark w.ask d else mark) ws ds
+
+-- what a session with this seat and mark at a hive may be told there, 1009 and 8 aside
+abbrev pub IsLawfulDone : {C : Type 0} → (C → Answers) → Seat → (mark moment : ℕ) → Ask → Done → Type 0
+IsLawfulDone answers share mark moment (Call (Change change)) (Outcome (Changed reply)) =
+    reply.status ≢ BAD_DATABASE → reply.status ≢ NOT_ENOUGH_MEMORY → IsLawfulReply answers share mark moment change reply
+IsLawfulDone answers share mark moment (Call (Query query)) (Outcome (Answered answer)) =
+    answer.body ≢ Refused BAD_DATABASE → IsLawfulAnswer answers share mark query answer
+IsLawfulDone answers share mark moment TakeNotice (Notice notice) = IsLawfulNotice share.session notice
+IsLawfulDone answers share mark moment ask done = ⊥
+
+-- of works and their outcomes each is lawful by the seat and the mark that the session has by those before it
+abbrev pub AreLawful : {C : Type 0} → (C → Answers) → SessionState → List Work → List Done → Type 0
+AreLawful answers s work done =
+    (i : ℕ) (w : Work) (d : Done) → slice_get work i ≡ Some w → slice_get done i ≡ Some d →
+    IsLawfulDone answers (seat s.number (length (receipts_at w.hive s ++ receipts_by w.hive (take i work) (take i done))))
+    (mark_by w.hive (mark_at w.hive s) (take i work) (take i done)) w.moment w.ask d
+
+-- the outcomes grew by one for each work, of its kind, lawful, and in order; at each hive the session's receipts grew by just those of its
+-- accepted changes with these replies, in order, and its mark is that after them
+pub record AreDone {C : Type 0} (answers : C → Answers) (old : SessionState) (work : List Work) (before : List Done) (new : SessionState) (after : List Done) : Type 0 where
   pub done : List Done
   pub outcomes : after ≡ before ++ done
   pub kinds : are_of_kinds work done ≡ true
+  pub lawful : AreLawful answers old work done
   pub receipts : (h : ℕ) → receipts_at h new ≡ receipts_at h old ++ receipts_by h work done
+  pub marks : (h : ℕ) → mark_at h new ≡ mark_by h (mark_at h old) work done
   pub number : new.number ≡ old.number
   pub hives : length new.places ≡ length old.places
 
 -- a job's work was done: it keeps its work and its session, which changed by that work
-pub record IsDone (old new : Job) : Type 0 where
+pub record IsDone {C : Type 0} (answers : C → Answers) (old new : Job) : Type 0 where
   pub work : new.work.items ≡ old.work.items
-  pub done : AreDone old.session old.work.items old.outcomes.items new.session new.outcomes.items
+  pub done : AreDone answers old.session old.work.items old.outcomes.items new.session new.outcomes.items
 
 -- each work names one of so many hives
 abbrev pub AreWithin : ℕ → List Work → Type 0
 AreWithin hives work = (i : ℕ) (d : Work) → i < length work → (slice_index_or work i d).hive < hives
 
--- a job can be run at so many hives: its session has a seat at each, and each work names one
+-- a job can be run at so many hives: each work names one, at which the session has a seat
 pub record IsReady (hives : ℕ) (job : Job) : Type 0 where
-  pub seats : length job.session.places ≡ hives
   pub within : AreWithin hives job.work.items
+  pub seats : AreWithin (length job.session.places) job.work.items
 
 -- so can all jobs
 abbrev pub AreReady : ℕ → List Job → Type 0

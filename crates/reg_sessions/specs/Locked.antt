@@ -1,6 +1,5 @@
 -- What stands behind a hive's lock, and what sessions may be told there.
 use Rattle.std.specs.Prelude.{◌≡◌, ◌<◌, ◌≤◌, ℕ, List, [], Option, length, slice_index_or}
-use Rattle.reg_model.specs.Callbacks.{Callbacks}
 use Rattle.reg_model.specs.Histories.{count_of}
 use Rattle.reg_model.specs.declared.answer.Answer.{Answer}
 use Rattle.reg_model.specs.declared.call.Change.{Change}
@@ -8,38 +7,43 @@ use Rattle.reg_model.specs.declared.call.Query.{Query}
 use Rattle.reg_model.specs.declared.notice.Notice.{Notice}
 use Rattle.reg_model.specs.declared.reply.ChangeReply.{ChangeReply}
 use Rattle.reg_journal.specs.Kept.{Seat, IsCurrent, row_of}
+use Rattle.reg_callbacks.specs.Asking.{Answers}
 use Rattle.reg_calls.specs.declared.hive.Hive.{Hive}
-use Rattle.reg_calls.specs.HiveView.{view_of, noted_of}
+use Rattle.reg_calls.specs.HiveView.{view_of, noted_of, asks_of}
 use Rattle.reg_calls.specs.Views.{View, Booked, next_of, state, IsApplied, IsHive, IsNoticeTaken, IsRead}
 
 -- a hive with its book, without its callbacks
 abbrev pub booked_of : {C : Type 0} → Hive C → Booked
 booked_of h = record { view = view_of h; noted = noted_of h }
 
--- what is true of each value that a lock's type admits, and so whenever a lock is free: all that is true of every hive; each session's row
--- in the book is the number of its entries; and who has no seat has no entry
+-- what is true of each value that a lock's type admits, and so whenever a lock is free: all that is true of every hive; its journal is whole,
+-- and nobody was told of an entry before it; each session's row in the book is the number of its entries; and who has no seat has no entry
 pub record IsAdmitted (b : Booked) : Type 0 where
   pub hive : IsHive b.view
+  pub base : b.view.base ≡ 0
+  pub before : b.view.before ≡ []
   pub rows : (s : ℕ) → row_of b.noted b.view.journal s ≡ count_of s b.view.journal
   pub seated : (s : ℕ) → length b.noted ≤ s → count_of s b.view.journal ≡ 0
 
--- some hive that a lock's type admits, and at which the share is current, may reply so to a change
-pub record IsLawfulReply (share : Seat) (moment : ℕ) (change : Change) (reply : ChangeReply) : Type 0 where
-  pub hive : Booked
-  pub new : View
-  pub admitted : IsAdmitted hive
-  pub current : IsCurrent hive.noted hive.view.journal share
-  pub callbacks : Callbacks
-  pub applied : IsApplied callbacks hive.view new share.session moment change reply
+-- a hive that a lock's type admits, at which a share is current, and which has had as many entries as a mark
+pub record IsInSight {C : Type 0} (share : Seat) (mark : ℕ) (h : Hive C) : Type 0 where
+  pub admitted : IsAdmitted (booked_of h)
+  pub current : IsCurrent (noted_of h) (view_of h).journal share
+  pub reached : mark ≤ next_of (view_of h)
 
--- some such hive may answer so to a question, with how many entries it has had
-pub record IsLawfulAnswer (share : Seat) (query : Query) (answer : Answer) : Type 0 where
-  pub hive : Booked
-  pub admitted : IsAdmitted hive
-  pub current : IsCurrent hive.noted hive.view.journal share
-  pub callbacks : Callbacks
-  pub at : answer.at ≡ next_of hive.view
-  pub body : IsRead callbacks (state hive.view) share.session query answer.body
+-- some hive in sight, whose callbacks answer so, may reply so to a change
+pub record IsLawfulReply {C : Type 0} (answers : C → Answers) (share : Seat) (mark moment : ℕ) (change : Change) (reply : ChangeReply) : Type 0 where
+  pub hive : Hive C
+  pub new : View
+  pub sight : IsInSight share mark hive
+  pub applied : IsApplied (asks_of answers hive) (view_of hive) new share.session moment change reply
+
+-- some hive in sight may answer so to a question, with how many entries it has had
+pub record IsLawfulAnswer {C : Type 0} (answers : C → Answers) (share : Seat) (mark : ℕ) (query : Query) (answer : Answer) : Type 0 where
+  pub hive : Hive C
+  pub sight : IsInSight share mark hive
+  pub at : answer.at ≡ next_of (view_of hive)
+  pub body : IsRead (asks_of answers hive) (state (view_of hive)) share.session query answer.body
 
 -- some hive that a lock's type admits may hand out this notice
 pub record IsLawfulNotice (session : ℕ) (notice : Option Notice) : Type 0 where

@@ -1,5 +1,6 @@
 -- Sessions, as their callers see them.
 use Rattle.std.specs.Prelude.{◌≡◌, ◌+◌, ◌<◌, ◌==◌, ℕ, Bool, true, false, List, [], ◌∷◌, length, nat_lt, slice_index_or, unwrap_or, if◌then◌else◌}
+use Rattle.reg_model.specs.declared.answer.Answer.{Answer}
 use Rattle.reg_model.specs.declared.answer.AnswerBody.{AnswerBody}
 use Rattle.reg_model.specs.declared.answer.AnswerBody.TheVariants.{Refused, Short, Value, Key, Member, Info, Security}
 use Rattle.reg_model.specs.declared.call.Change.{Change}
@@ -22,6 +23,10 @@ pub record PlaceState : Type 0 where
 abbrev pub no_place : PlaceState
 no_place = record { seat = seat 0 0; receipts = []; mark = 0 }
 
+-- the seat, whose share counts the receipts
+abbrev pub seat_of : PlaceState → Seat
+seat_of p = seat p.seat.session (length p.receipts)
+
 abbrev pub place_of : List PlaceState → ℕ → PlaceState
 place_of places hive = slice_index_or places hive no_place
 
@@ -35,6 +40,10 @@ receipts_at hive s = (place_of s.places hive).receipts
 
 abbrev pub count_at : ℕ → SessionState → ℕ
 count_at hive s = (place_of s.places hive).seat.count
+
+-- the session's seat at a hive, whose share counts its receipts there
+abbrev pub seat_at : ℕ → SessionState → Seat
+seat_at hive s = seat s.number (length (receipts_at hive s))
 
 abbrev pub mark_at : ℕ → SessionState → ℕ
 mark_at hive s = (place_of s.places hive).mark
@@ -56,6 +65,10 @@ status_told (Key name time) = 0
 status_told (Member name kind size bytes) = 0
 status_told (Info subkeys longest_key values longest_value largest security time) = 0
 status_told (Security bytes) = 0
+
+-- the mark after an answer: how many entries the hive has had, where the status is 0
+abbrev pub mark_told : ℕ → Answer → ℕ
+mark_told mark answer = if status_told answer.body == 0 then answer.at else mark
 
 -- the change closes a handle
 abbrev pub closes : Change → Bool

@@ -1,8 +1,7 @@
 //! A hive's journal beside the receipts of all sessions.
-ghost use Rattle.std.specs.Prelude.{◌≡◌, ◌<◌, ◌≤◌, ◌↔◌, ℕ, length, get_or, IfNone, IfSome, IsTrue, Some, slice_get};
+ghost use Rattle.std.specs.Prelude.{◌≡◌, ◌<◌, ◌≤◌, ◌↔◌, length, IfNone, IfSome, IsTrue, Some, slice_get};
 ghost use Rattle.reg_model.specs.Histories.{receipt_of};
 ghost use Rattle.reg_model.specs.declared.limits.TheConstants.{SESSIONS_LIMIT};
-ghost use Rattle.reg_model.specs.declared.reply.Entry.{Entry as TheEntry};
 ghost use Rattle.reg_calls.specs.HiveView.{view_of};
 ghost use Rattle.reg_sessions.specs.Gathering.{IsGathered, Differ};
 

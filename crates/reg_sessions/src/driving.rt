@@ -1,6 +1,6 @@
 ghost use Rattle.std.specs.Prelude.{◌≡◌, ◌+◌, ◌<◌, ◌≤◌, ◌==◌, ℕ, [], ◌++◌, length, slice_index_or, vec_len, vec_capacity, OnErr, OnOk, true, if◌then◌else◌};
-ghost use Rattle.reg_sessions.specs.Jobs.{AreDone, AreReady, AreWithin, IsDone, IsReady, HasRoom, IsSameJob, receipts_of_one, is_of_kind};
-ghost use Rattle.reg_sessions.specs.Sessions.{receipts_at};
+ghost use Rattle.reg_sessions.specs.Jobs.{AreDone, AreReady, AreWithin, IsDone, IsReady, HasRoom, IsSameJob, IsLawfulDone, receipts_of_one, mark_by_one, is_of_kind};
+ghost use Rattle.reg_sessions.specs.Sessions.{receipts_at, mark_at, seat_at};
 
 use crate::gate::HiveGate;
 use crate::job::{Ask, Done, Job, Work};
@@ -39,7 +39,9 @@ fn do_one<Rt: Wait, G: HiveGate, C: Callback>(
     requires hive { work.now.hive < registry.now.hives }
     requires seat { work.now.hive < length session.old.places }
     ensures kind { is_of_kind work.now.ask result ≡ true }
+    ensures lawful { IsLawfulDone C.answers (seat_at work.now.hive session.old) (mark_at work.now.hive session.old) work.now.moment work.now.ask result }
     ensures receipts { (h : ℕ) → receipts_at h session.new ≡ receipts_at h session.old ++ (if h == work.now.hive then receipts_of_one work.now.moment work.now.ask result else []) }
+    ensures marks { (h : ℕ) → mark_at h session.new ≡ (if h == work.now.hive then mark_by_one (mark_at h session.old) work.now.ask result else mark_at h session.old) }
     ensures kept { (session.new.number ≡ session.old.number) × (length session.new.places ≡ length session.old.places) }
 {
     match &work.ask {
@@ -66,9 +68,9 @@ fn do_all<Rt: Wait, G: HiveGate, C: Callback>(
     outcomes: &mut Vec<Done>,
 )
     requires room { vec_len outcomes.old + length work.now ≤ vec_capacity outcomes.old }
-    requires seats { length session.old.places ≡ registry.now.hives }
     requires hives { AreWithin registry.now.hives work.now }
-    ensures { AreDone session.old work.now outcomes.old.items session.new outcomes.new.items }
+    requires seats { AreWithin (length session.old.places) work.now }
+    ensures { AreDone C.answers session.old work.now outcomes.old.items session.new outcomes.new.items }
 {
     for one in work {
         let done = do_one(rt, registry, gate, session, one);
@@ -89,7 +91,7 @@ impl Job {
     fn run<Rt: Wait, G: HiveGate, C: Callback>(&mut self, rt: &Rt, registry: &Registry<C>, gate: &G)
         requires ready { IsReady registry.now.hives self.old }
         requires room { HasRoom self.old }
-        ensures { IsDone self.old self.new }
+        ensures { IsDone C.answers self.old self.new }
     {
         let Job {
             session,
@@ -120,7 +122,7 @@ fn run_jobs<Rt: Threads + Wait + Sync, G: HiveGate, C: Callback + Send>(
     gate: &G,
 )
     requires ready { (i : ℕ) (d : Job) → i < length jobs.old → IsReady registry.now.hives (slice_index_or jobs.old i d) × HasRoom (slice_index_or jobs.old i d) }
-    ensures { (i : ℕ) (d : Job) → i < length jobs.old → IsDone (slice_index_or jobs.old i d) (slice_index_or jobs.new i d) }
+    ensures { (i : ℕ) (d : Job) → i < length jobs.old → IsDone C.answers (slice_index_or jobs.old i d) (slice_index_or jobs.new i d) }
 {
     if jobs.is_empty() {
         return;
@@ -128,15 +130,15 @@ fn run_jobs<Rt: Threads + Wait + Sync, G: HiveGate, C: Callback + Send>(
     let threads = jobs.len();
     let run = |_at: usize, job: &mut Job|
         requires { IsReady registry.now.hives job.old × HasRoom job.old }
-        ensures { IsDone job.old job.new }
+        ensures { IsDone C.answers job.old job.new }
     { job.run(rt, registry, gate) };
     thread::for_each_mut(rt, jobs, threads, &run);
 }
 
 /// Runs each job on a thread of its own, and waits for all. Where the system gives no thread, jobs run one after another. Each job keeps
 /// its session and its work, and has one outcome more for each work, in order. `Memory` where there is none for the outcomes; then no job
-/// was begun. Each work names a hive that is there, and each session has a seat at each hive.
-#[tactic(auto, using(crate::proofs::JobsDone::is_done, crate::proofs::JobsDone::still_ready))]
+/// was begun. Each work names a hive that is there, at which its session has a seat.
+#[tactic(auto, using(crate::proofs::JobsDone::is_done))]
 pub fn drive<Rt: Threads + Wait + Sync, G: HiveGate, C: Callback + Send>(
     rt: &Rt,
     registry: &Registry<C>,
@@ -144,7 +146,7 @@ pub fn drive<Rt: Threads + Wait + Sync, G: HiveGate, C: Callback + Send>(
     gate: &G,
 ) -> Result<(), DriveFault>
     requires ready { AreReady registry.now.hives jobs.old }
-    ensures done { OnOk result ((i : ℕ) (d : Job) → i < length jobs.old → IsDone (slice_index_or jobs.old i d) (slice_index_or jobs.new i d)) }
+    ensures done { OnOk result ((i : ℕ) (d : Job) → i < length jobs.old → IsDone C.answers (slice_index_or jobs.old i d) (slice_index_or jobs.new i d)) }
     ensures err { OnErr result ((i : ℕ) (d : Job) → i < length jobs.old → IsSameJob (slice_index_or jobs.old i d) (slice_index_or jobs.new i d)) }
 {
     make_rooms(jobs)?;

@@ -1,7 +1,5 @@
-ghost use Rattle.std.specs.Prelude.{◌≡◌, ◌≤◌, ◌<◌, ◌↔◌, ℕ, [], length, IfErr, IfNone, IfOk, IfSome, IsTrue, Some, slice_get};
+ghost use Rattle.std.specs.Prelude.{◌≡◌, ◌≤◌, ◌<◌, ◌↔◌, ℕ, length, IfErr, IfNone, IfOk, IfSome, IsTrue, Some, slice_get};
 ghost use Rattle.reg_model.specs.declared.limits.TheConstants.{SESSIONS_LIMIT};
-ghost use Rattle.reg_calls.specs.Views.{next_of};
-ghost use Rattle.reg_calls.specs.HiveView.{view_of};
 ghost use Rattle.reg_sessions.specs.declared.registry.TheConstants.{HIVES_LIMIT};
 ghost use Rattle.reg_sessions.specs.Locked.{booked_of, IsAdmitted};
 ghost use Rattle.reg_sessions.specs.Sessions.{AreInOrder};

@@ -1,4 +1,4 @@
-ghost use Rattle.std.specs.Prelude.{◌↔◌, ◌<◌, ℕ, length, slice_index_or, IsTrue};
+ghost use Rattle.std.specs.Prelude.{◌↔◌, ◌<◌, IsTrue};
 ghost use Rattle.reg_sessions.specs.Jobs.{IsReady, AreReady, AreWithin};
 
 use crate::session::Session;
@@ -53,11 +53,12 @@ fn are_within(work: &[Work], hives: usize) -> bool
 }
 
 impl Job {
-    /// Whether the job can be run at so many hives: its session has a seat at each, and each work names one.
+    /// Whether the job can be run at so many hives: each work names one, at which the session has a seat.
     pub fn is_ready(&self, hives: usize) -> bool
         ensures { IsTrue result ↔ IsReady hives self.now }
     {
-        self.session.hives() == hives && are_within(self.work.as_slice(), hives)
+        are_within(self.work.as_slice(), hives)
+            && are_within(self.work.as_slice(), self.session.hives())
     }
 }
 

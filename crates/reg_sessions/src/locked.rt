@@ -4,7 +4,7 @@ ghost use Rattle.reg_model.specs.declared.answer.AnswerBody.TheVariants.{Refused
 ghost use Rattle.reg_model.specs.declared.statuses.TheConstants.{BAD_DATABASE, NOT_ENOUGH_MEMORY};
 ghost use Rattle.reg_model.specs.Replies.{refusal};
 ghost use Rattle.reg_model.specs.declared.limits.TheConstants.{JOURNAL_LIMIT};
-ghost use Rattle.reg_calls.specs.HiveView.{asks_of, view_of, noted_of};
+ghost use Rattle.reg_calls.specs.HiveView.{asks_of};
 ghost use Rattle.reg_calls.specs.Views.{next_of, IsAccepted, IsNoticeTaken};
 ghost use Rattle.reg_sessions.specs.Locked.{booked_of, IsAdmitted, IsLawfulReply, IsLawfulAnswer, IsLawfulNotice};
 ghost use Rattle.reg_sessions.specs.Internal.Answered.{IsAnswered, IsCauseOf, IsAsked};
@@ -113,7 +113,7 @@ impl<C: Callback> Locked<C> {
         ensures few { next_of self.old.view ≤ JOURNAL_LIMIT }
         ensures counted { result.status ≡ 0 → share.new.count ≡ share.old.count + 1 }
         ensures refused { result.status ≢ 0 → (self.new ≡ self.old) × (share.new ≡ share.old) }
-        ensures lawful { result.status ≢ BAD_DATABASE → IsLawfulReply share.old moment change result }
+        ensures lawful { result.status ≢ BAD_DATABASE → IsLawfulReply C.answers share.old mark moment change result }
     {
         if self.is_behind(mark) {
             return refused(BAD_DATABASE);
@@ -124,7 +124,7 @@ impl<C: Callback> Locked<C> {
     /// Answers a change for whose receipt there is no memory: 1009 as of `change`, else its first cause, or else 8. Takes no memory.
     pub(crate) fn lack(&self, share: &Share, mark: u64, moment: u64, change: &Change) -> ChangeReply
         ensures refused { result.status ≢ 0 }
-        ensures lawful { result.status ≢ BAD_DATABASE → result.status ≢ NOT_ENOUGH_MEMORY → IsLawfulReply share.now moment change.now result }
+        ensures lawful { result.status ≢ BAD_DATABASE → result.status ≢ NOT_ENOUGH_MEMORY → IsLawfulReply C.answers share.now mark moment change.now result }
     {
         if self.is_behind(mark) {
             return refused(BAD_DATABASE);
@@ -135,7 +135,7 @@ impl<C: Callback> Locked<C> {
     /// Answers a question of a session whose mark on the hive this is. 1009 as of `change`.
     pub(crate) fn ask(&self, share: &Share, mark: u64, query: &Query) -> Answer
         ensures later { result.body ≢ Refused BAD_DATABASE → (share.now.count ≤ result.at) × (mark ≤ result.at) }
-        ensures lawful { result.body ≢ Refused BAD_DATABASE → IsLawfulAnswer share.now query.now result }
+        ensures lawful { result.body ≢ Refused BAD_DATABASE → IsLawfulAnswer C.answers share.now mark query.now result }
     {
         if self.is_behind(mark) {
             return Answer {

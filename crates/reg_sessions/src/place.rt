@@ -1,9 +1,9 @@
 //! What a session has at one hive.
-ghost use Rattle.std.specs.Prelude.{◌≡◌, ◌≢◌, ◌+◌, ◌-◌, ◌^◌, ◌<◌, ◌≤◌, ◌==◌, [], ◌∷◌, ◌++◌, ℕ, length, max, Some, false, true, IfOk, OnOk, vec_len, vec_capacity, if◌then◌else◌};
+ghost use Rattle.std.specs.Prelude.{◌≡◌, ◌≢◌, ◌+◌, ◌-◌, ◌^◌, ◌<◌, ◌≤◌, ◌==◌, [], ◌++◌, ℕ, length, max, Some, false, true, IfOk, OnOk, vec_len, vec_capacity};
 ghost use Rattle.reg_model.specs.declared.answer.AnswerBody.TheVariants.{Refused};
 ghost use Rattle.reg_model.specs.declared.statuses.TheConstants.{BAD_DATABASE, NOT_ENOUGH_MEMORY};
 ghost use Rattle.reg_sessions.specs.Locked.{IsLawfulReply, IsLawfulAnswer};
-ghost use Rattle.reg_sessions.specs.Sessions.{PlaceState, receipt_of, mark_after, status_told, closes as closes_of};
+ghost use Rattle.reg_sessions.specs.Sessions.{PlaceState, receipt_of, mark_after, mark_told, seat_of, status_told, closes as closes_of};
 
 use crate::gate::HiveGate;
 use crate::locked::Locked;
@@ -155,9 +155,10 @@ impl Place {
         ensures receipts { self.new.receipts ≡ self.old.receipts ++ receipt_of moment change.now result }
         ensures mark { self.new.mark ≡ mark_after self.old.mark result }
         ensures session { self.new.seat.session ≡ self.old.seat.session }
-        ensures accepted { result.status ≡ 0 → (n : ℕ) × (result.number ≡ Some n) × (self.old.seat.count ≤ n) × (self.old.mark ≤ n) }
+        ensures accepted { result.status ≡ 0 → (n : ℕ) × (result.number ≡ Some n) × (length self.old.receipts ≤ n) × (self.old.mark ≤ n) }
         ensures refused { result.status ≢ 0 → self.new ≡ self.old }
-        ensures lawful { result.status ≢ BAD_DATABASE → result.status ≢ NOT_ENOUGH_MEMORY → IsLawfulReply self.old.seat moment change.now result }
+        ensures lawful { result.status ≢ BAD_DATABASE → result.status ≢ NOT_ENOUGH_MEMORY →
+            IsLawfulReply C.answers (seat_of self.old) self.old.mark moment change.now result }
     {
         let copies = prepared(alloc, &mut self.receipts, self.handles, change);
         let is_close = closes(change);
@@ -199,10 +200,10 @@ impl Place {
         query: &Query,
     ) -> Answer
         ensures kept { (self.new.receipts ≡ self.old.receipts) × (self.new.seat ≡ self.old.seat) }
-        ensures mark { self.new.mark ≡ (if status_told result.body == 0 then result.at else self.old.mark) }
+        ensures mark { self.new.mark ≡ mark_told self.old.mark result }
         ensures refused { status_told result.body ≢ 0 → self.new ≡ self.old }
-        ensures later { result.body ≢ Refused BAD_DATABASE → (self.old.seat.count ≤ result.at) × (self.old.mark ≤ result.at) }
-        ensures lawful { result.body ≢ Refused BAD_DATABASE → IsLawfulAnswer self.old.seat query.now result }
+        ensures later { result.body ≢ Refused BAD_DATABASE → (length self.old.receipts ≤ result.at) × (self.old.mark ≤ result.at) }
+        ensures lawful { result.body ≢ Refused BAD_DATABASE → IsLawfulAnswer C.answers (seat_of self.old) self.old.mark query.now result }
     {
         let session = self.share.session();
         let guard = lock.lock(rt);

@@ -1,9 +1,8 @@
 ghost use Rattle.std.specs.Prelude.{◌≡◌, ◌≢◌, ◌<◌, ◌≤◌, ◌==◌, ℕ, [], ◌∷◌, ◌++◌, length, Some, OnErr, OnOk, if◌then◌else◌};
 ghost use Rattle.reg_model.specs.declared.answer.AnswerBody.TheVariants.{Refused};
 ghost use Rattle.reg_model.specs.declared.statuses.TheConstants.{BAD_DATABASE, NOT_ENOUGH_MEMORY};
-ghost use Rattle.reg_journal.specs.Kept.{seat};
 ghost use Rattle.reg_sessions.specs.Locked.{IsLawfulReply, IsLawfulAnswer, IsLawfulNotice};
-ghost use Rattle.reg_sessions.specs.Sessions.{SessionState, PlaceState, receipts_at, count_at, mark_at, receipt_of, mark_after, status_told};
+ghost use Rattle.reg_sessions.specs.Sessions.{SessionState, receipts_at, count_at, mark_at, seat_at, receipt_of, mark_after, mark_told, status_told};
 
 use crate::gate::HiveGate;
 use crate::place::Place;
@@ -85,7 +84,7 @@ impl Session {
 
     /// Makes a change at a hive, at a moment (100 ns units since 1601): it waits for the hive's lock, and is answered as by
     /// `Hive::apply` of reg_calls. Where it is accepted, and only then, the session has one receipt more, of this moment, change and
-    /// reply. 1009 also where the hive has fewer entries than the session's mark there; never at the hive that gave the seat. Want of
+    /// reply. 1009 also where the hive has had fewer entries than the session's mark there, which is never so at the hive that gave the seat. Want of
     /// memory is 8, where nothing else refuses the change; a Close takes none.
     #[tactic(auto, using(crate::proofs::SessionPlaces::place_set))]
     pub fn change<Rt: Wait, G: HiveGate, C: Callback>(
@@ -103,9 +102,9 @@ impl Session {
         ensures marks { (h : ℕ) → mark_at h self.new ≡ (if h == hive then mark_after (mark_at h self.old) result else mark_at h self.old) }
         ensures kept { (self.new.number ≡ self.old.number) × (length self.new.places ≡ length self.old.places) }
         ensures refused { result.status ≢ 0 → self.new ≡ self.old }
-        ensures later { result.status ≡ 0 → (n : ℕ) × (result.number ≡ Some n) × (count_at hive self.old ≤ n) × (mark_at hive self.old ≤ n) }
+        ensures later { result.status ≡ 0 → (n : ℕ) × (result.number ≡ Some n) × (length (receipts_at hive self.old) ≤ n) × (mark_at hive self.old ≤ n) }
         ensures lawful { result.status ≢ BAD_DATABASE → result.status ≢ NOT_ENOUGH_MEMORY →
-            IsLawfulReply (seat self.old.number (count_at hive self.old)) moment change.now result }
+            IsLawfulReply C.answers (seat_at hive self.old) (mark_at hive self.old) moment change.now result }
     {
         let lock = registry.lock(hive);
         let alloc = self.alloc;
@@ -126,11 +125,11 @@ impl Session {
         requires hive { hive < registry.now.hives }
         requires seat { hive < length self.old.places }
         ensures receipts { (h : ℕ) → receipts_at h self.new ≡ receipts_at h self.old }
-        ensures marks { (h : ℕ) → mark_at h self.new ≡ (if h == hive then (if status_told result.body == 0 then result.at else mark_at h self.old) else mark_at h self.old) }
+        ensures marks { (h : ℕ) → mark_at h self.new ≡ (if h == hive then mark_told (mark_at h self.old) result else mark_at h self.old) }
         ensures kept { (self.new.number ≡ self.old.number) × (length self.new.places ≡ length self.old.places) }
         ensures refused { status_told result.body ≢ 0 → self.new ≡ self.old }
-        ensures later { result.body ≢ Refused BAD_DATABASE → (count_at hive self.old ≤ result.at) × (mark_at hive self.old ≤ result.at) }
-        ensures lawful { result.body ≢ Refused BAD_DATABASE → IsLawfulAnswer (seat self.old.number (count_at hive self.old)) query.now result }
+        ensures later { result.body ≢ Refused BAD_DATABASE → (length (receipts_at hive self.old) ≤ result.at) × (mark_at hive self.old ≤ result.at) }
+        ensures lawful { result.body ≢ Refused BAD_DATABASE → IsLawfulAnswer C.answers (seat_at hive self.old) (mark_at hive self.old) query.now result }
     {
         let lock = registry.lock(hive);
         self.places[hive as usize].ask(rt, lock, gate, hive, query)

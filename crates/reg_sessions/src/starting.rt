@@ -1,4 +1,4 @@
-ghost use Rattle.std.specs.Prelude.{◌≡◌, ◌+◌, ◌<◌, ◌≤◌, ◌↔◌, ◌⊎◌, ℕ, [], length, map, slice_index_or, IfErr, IfOk, IsErrOf, IsTrue, OnOk, vec_len};
+ghost use Rattle.std.specs.Prelude.{◌≡◌, ◌+◌, ◌<◌, ◌≤◌, ◌↔◌, ◌⊎◌, ℕ, map, IfOk, IsErrOf, IsTrue, OnOk, vec_len};
 ghost use Rattle.reg_model.specs.declared.limits.TheConstants.{SESSIONS_LIMIT};
 ghost use Rattle.reg_sessions.specs.declared.registry.TheConstants.{HIVES_LIMIT};
 ghost use Rattle.std.specs.List.{range_with_len};

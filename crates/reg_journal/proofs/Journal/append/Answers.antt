@@ -1,4 +1,4 @@
-use Rattle.std.proofs.Common.{◌<◌, ◌≤◌, ℕ, subst, sym, arith, length, replicate, vec_len}
+use Rattle.std.proofs.Common.{subst, sym, arith, replicate, vec_len}
 use Rattle.reg_journal.specs.Kept.{Kept, Seat, seat, IsCurrent}
 use Rattle.reg_journal.proofs.Book.{current_or_not, row_at_most}
 use Rattle.reg_journal.proofs.Journal.append.Goals as goal

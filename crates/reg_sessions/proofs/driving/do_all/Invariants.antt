@@ -4,6 +4,6 @@ use Rattle.reg_sessions.proofs.driving.do_all.Given as goal
 
 abbrev pub invariant-loop-one : goal.invariant-loop-one
 invariant-loop-one g l =
-    AreDone l.initial.session (take l.one-index l.work) l.initial.outcomes.items l.session l.outcomes.items
+    AreDone g.C.Callback.answers l.initial.session (take l.one-index l.work) l.initial.outcomes.items l.session l.outcomes.items
     × (vec_len l.outcomes + (length l.work - l.one-index) ≤ vec_capacity l.outcomes)
     × (length l.session.places ≡ length l.initial.session.places)

@@ -1,6 +1,6 @@
-use Rattle.std.proofs.Common.{ℕ, ◌<◌, ◌≡◌, arith, refl, ◌∙◌, sym, ap, subst, slice_index_or, inl, inr}
+use Rattle.std.proofs.Common.{ℕ, ◌≡◌, arith, refl, ◌∙◌, sym, ap, subst, slice_index_or, inl, inr}
 use Rattle.std.proofs.lemmas.List.{get_or_default}
-use Rattle.std.proofs.lemmas.Bool.{cases_eq, true≢false}
+use Rattle.std.proofs.lemmas.Bool.{cases_eq}
 use Rattle.reg_model.specs.declared.step.Step.{Step}
 use Rattle.reg_calls.specs.HiveView.{view_of, noted_of}
 use Rattle.reg_calls.specs.Seats.{IsSeated}

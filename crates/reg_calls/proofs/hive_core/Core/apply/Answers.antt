@@ -1,4 +1,4 @@
-use Rattle.std.proofs.Common.{◌≡◌, ◌++◌, ◌∷◌, [], ◌+◌, ℕ, List, length, sym, ap, ◌∙◌, subst, arith, None, inl, refl}
+use Rattle.std.proofs.Common.{◌++◌, ◌∷◌, [], ◌+◌, ℕ, List, length, sym, ap, ◌∙◌, subst, arith, None, inl, refl}
 use Rattle.reg_model.specs.declared.reply.Entry.{Entry}
 use Rattle.reg_model.specs.Replies.{refusal}
 use Rattle.reg_journal.specs.Kept.{Seat, IsCurrent}
@@ -16,7 +16,7 @@ use Rattle.reg_calls.proofs.RefusalTests.{still-clear}
 use Rattle.reg_calls.proofs.KnownKeys.{unmade}
 use Rattle.reg_calls.proofs.QuietChanges.{unhit-same, unhit-at}
 use Rattle.reg_calls.proofs.SharesOfHives.{current-more, current-at}
-use Rattle.reg_calls.proofs.HiveInvariantLemmas.{ends_at, end-is, one-more, ready-kept, state-kept, state-view, append-room, kept-done, kept-at, kept-roomier, kept-unmade, view-at, accepted, applied-by}
+use Rattle.reg_calls.proofs.HiveInvariantLemmas.{end-is, one-more, ready-kept, state-kept, state-view, append-room, kept-done, kept-at, kept-roomier, kept-unmade, view-at, accepted, applied-by}
 use Rattle.reg_calls.proofs.AdmittedChanges.{admits-clear, refused-as, given-up}
 use Rattle.reg_calls.proofs.hive_core.Core.apply.Goals as goal
 

@@ -1,4 +1,4 @@
-use Rattle.std.proofs.Common.{ℕ, arith}
+use Rattle.std.proofs.Common.{arith}
 use Rattle.reg_calls.proofs.HiveInvariantLemmas.{kept-roomier}
 use Rattle.reg_calls.proofs.QuietChanges.{unhit-at}
 use Rattle.reg_calls.proofs.hive_core.Core.seat.Goals as goal

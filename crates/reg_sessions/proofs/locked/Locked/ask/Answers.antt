@@ -11,4 +11,6 @@ returns-clause-later g c = λ other. (
 )
 
 pub returns-clause-lawful : goal.returns-clause-lawful
-returns-clause-lawful g c = λ other. lawful-answer c.read.ensures c.self.invariant other
+returns-clause-lawful g c =
+    lawful-answer g.C.Callback.answers c.self.inside.hive _ c.args.mark _ _ c.read.ensures c.self.invariant
+    (subst (λ (b : Booked). c.args.mark ≤ next_of b.view) (sym c.self.view_is) (not-behind c.is_behind.result _ _ c.is_behind.ensures.behind.1 c.if-is_behind.false))

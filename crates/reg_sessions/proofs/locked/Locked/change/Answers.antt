@@ -1,4 +1,4 @@
-use Rattle.std.proofs.Common.{◌≡◌, ◌≤◌, ◌∙◌, Some, subst}
+use Rattle.std.proofs.Common.{◌≡◌, ◌≤◌, ◌∙◌, Some, subst, sym}
 use Rattle.reg_calls.specs.HiveView.{view_of}
 use Rattle.reg_calls.specs.Views.{Booked, IsAccepted, next_of}
 use Rattle.reg_sessions.proofs.Admitted.{admitted-changed, accepted, number-told, count-within, counted-more, left, lawful, not-behind}
@@ -31,4 +31,6 @@ returns-clause-refused g c = λ other.
     (same.0 ∙ c.self.view_is, same.1)
 
 pub returns-clause-lawful : goal.returns-clause-lawful
-returns-clause-lawful g c = λ other. lawful c.apply.ensures c.self.invariant other
+returns-clause-lawful g c =
+    lawful g.C.Callback.answers c.self.inside.hive _ _ _ c.args.mark _ _ _ c.apply.ensures c.self.invariant
+    (subst (λ (b : Booked). c.args.mark ≤ next_of b.view) (sym c.self.view_is) (not-behind c.is_behind.result _ _ c.is_behind.ensures.behind.1 c.if-is_behind.false))

@@ -1,24 +1,49 @@
 ghost use Rattle.std.specs.Prelude.{◌≡◌, ◌≢◌, ◌==◌, ◌∷◌, [], position, IfOk, MatchResult, option_copied};
 ghost use Rattle.reg_script.specs.LineWords.{words_of, number_of, name_of, data_of};
-ghost use Rattle.reg_script.specs.LineMeanings.{reading, first_of, ending, session_number_of, small_number_of, room_of, subtree_of};
-ghost use Rattle.reg_script.specs.LineMeanings.{verb_of, given_of, by_verb, meaning_of};
-ghost use Rattle.reg_script.specs.Internal.WordReadings.{words_left, Reads, Means, said};
+ghost use Rattle.reg_script.specs.LineMeanings.{reading, first_of, ending, session_number_of, hive_number_of, small_number_of, room_of, subtree_of};
+ghost use Rattle.reg_script.specs.LineMeanings.{verb_of, given_of, by_verb, within, meaning_in};
+ghost use Rattle.reg_script.specs.ReadLines.{said};
+ghost use Rattle.reg_script.specs.Internal.WordReadings.{words_left, Reads, Means};
 
 use crate::line::{Line, Session, Setting, Verb};
-use crate::words::{ParseFault, bytes, name, number, room, session, small_number, subtree, verb};
+use crate::words::{
+    ParseFault, bytes, hive, name, number, room, session, small_number, subtree, verb,
+};
 use reg_model::{Bytes, Call, Change, Query};
 use std::alloc::{AllocError, Global};
 use std::marker::Model;
 
-/// Understands a line, without its LF. One of no known form is `Line::Bad`. Its one fault is that memory was refused.
-pub fn parse(alloc: Global, line: &[u8]) -> Result<Line, AllocError>
-    ensures { IfOk result (λ l. said l ≡ meaning_of line.now) }
+/// The line as it is read for so many hives: bad where it sets a hive that isn't there.
+fn at_hives(hives: u8, line: Line) -> Line
+    ensures { said result ≡ within hives (said line) }
+{
+    match line {
+        Line::Setting(Setting::Hive(hive)) => {
+            if hive < hives {
+                Line::Setting(Setting::Hive(hive))
+            } else {
+                Line::Bad
+            }
+        }
+        Line::Setting(Setting::At(moment)) => Line::Setting(Setting::At(moment)),
+        Line::Setting(Setting::As(session)) => Line::Setting(Setting::As(session)),
+        Line::Nothing => Line::Nothing,
+        Line::Call(call) => Line::Call(call),
+        Line::Notice => Line::Notice,
+        Line::Bad => Line::Bad,
+    }
+}
+
+/// Understands a line, without its LF, of a script on so many hives, at most 16. One of no known form is [`Line::Bad`], and so is a
+/// `hive N` where N isn't below their number. Its one fault is that memory was refused.
+pub fn parse(alloc: Global, hives: u8, line: &[u8]) -> Result<Line, AllocError>
+    ensures { IfOk result (λ l. said l ≡ meaning_in hives line.now) }
 {
     if line.is_empty() || line[0] == b'#' {
         return Ok(Line::Nothing);
     }
     match parse_words(alloc, line) {
-        Ok(line) => Ok(line),
+        Ok(line) => Ok(at_hives(hives, line)),
         Err(ParseFault::Form) => Ok(Line::Bad),
         Err(ParseFault::Memory) => Err(AllocError),
     }
@@ -92,6 +117,13 @@ impl<'a> Words<'a> {
     }
 
     #[tactic(auto, using(crate::proofs::WordReadingLemmas::readings))]
+    fn hive(&mut self) -> Result<u8, ParseFault>
+        ensures { Reads hive_number_of self.old result self.new }
+    {
+        hive(self.next()?)
+    }
+
+    #[tactic(auto, using(crate::proofs::WordReadingLemmas::readings))]
     fn small_number(&mut self) -> Result<u32, ParseFault>
         ensures { Reads small_number_of self.old result self.new }
     {
@@ -145,7 +177,7 @@ impl<'a> Words<'a> {
         match verb {
             Verb::At => self.at(),
             Verb::As => self.as_session(),
-            Verb::Hive => self.hive(),
+            Verb::Hive => self.on_hive(),
             Verb::Root => self.root(),
             Verb::Open => self.open(alloc),
             Verb::Create => self.create(alloc),
@@ -183,13 +215,13 @@ impl<'a> Words<'a> {
         Ok(Line::Setting(Setting::As(session)))
     }
 
-    /// `hive N`, where N is 0.
+    /// `hive N`.
     #[tactic(auto, unfolding(crate::specs::LineMeanings::by_verb))]
-    fn hive(&mut self) -> Result<Line, ParseFault>
+    fn on_hive(&mut self) -> Result<Line, ParseFault>
         ensures { Means (by_verb Verb.Hive) self.old result self.new }
     {
-        let _only = self.number(0)?;
-        Ok(Line::Setting(Setting::Hive))
+        let hive = self.hive()?;
+        Ok(Line::Setting(Setting::Hive(hive)))
     }
 
     /// `root MASK`.

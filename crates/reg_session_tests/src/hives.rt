@@ -1,0 +1,91 @@
+//! Which hive a registration, and the taking of a notice, is for: of two hives the one that is named.
+use crate::asserts::{assert_report, tell_gathered};
+use crate::jobs::{fresh_hives, open};
+use crate::told::{register, tell_change, tell_notice, unregister};
+use reg_model::{Bytes, Change};
+use reg_sessions::{Registry, Session, start};
+use std::alloc::Global;
+use std::sync::Wait;
+use std::test::Fail;
+
+/// Two callbacks come to two hives, and go, the second first. Both have the first cookie of their hive.
+fn guarded<Rt: Wait>(
+    rt: &Rt,
+    alloc: Global,
+    registry: &Registry,
+    all: &mut Vec<Session>,
+) -> Result<String, Fail> {
+    let mut text = String::new(alloc);
+    let first = register(rt, alloc, registry, 0, 5)?;
+    tell_change(rt, registry, all.get_mut(0), 0, &open(), &mut text)?;
+    tell_change(rt, registry, all.get_mut(0), 1, &open(), &mut text)?;
+    let second = register(rt, alloc, registry, 1, 87)?;
+    tell_change(rt, registry, all.get_mut(0), 0, &open(), &mut text)?;
+    tell_change(rt, registry, all.get_mut(0), 1, &open(), &mut text)?;
+    unregister(rt, registry, 1, second, &mut text)?;
+    tell_change(rt, registry, all.get_mut(0), 0, &open(), &mut text)?;
+    tell_change(rt, registry, all.get_mut(0), 1, &open(), &mut text)?;
+    unregister(rt, registry, 0, first, &mut text)?;
+    tell_change(rt, registry, all.get_mut(0), 0, &open(), &mut text)?;
+    Ok(text)
+}
+
+fn told_of_guards<Rt: Wait>(rt: &Rt, alloc: Global) -> Result<String, Fail> {
+    let (registry, mut sessions) = start(alloc, fresh_hives(alloc, 2)?, 1)?;
+    let mut text = guarded(rt, alloc, &registry, &mut sessions)?;
+    tell_gathered(registry, sessions, &mut text)?;
+    Ok(text)
+}
+
+/// A session watches hive 1, and changes it; each session takes notices of each hive.
+fn notified<Rt: Wait>(
+    rt: &Rt,
+    alloc: Global,
+    registry: &Registry,
+    all: &mut Vec<Session>,
+) -> Result<String, Fail> {
+    let mut text = String::new(alloc);
+    let watch = Change::Notify {
+        handle: 0,
+        filter: 4,
+        subtree: false,
+    };
+    let set = Change::SetValue {
+        handle: 0,
+        name: Bytes::from_slice(alloc, b"v")?,
+        kind: 4,
+        bytes: Bytes::from_slice(alloc, &[1])?,
+    };
+    tell_change(rt, registry, all.get_mut(0), 1, &open(), &mut text)?;
+    tell_change(rt, registry, all.get_mut(0), 1, &watch, &mut text)?;
+    tell_notice(rt, registry, all.get_mut(0), 1, &mut text)?;
+    tell_change(rt, registry, all.get_mut(0), 1, &set, &mut text)?;
+    tell_notice(rt, registry, all.get_mut(0), 0, &mut text)?;
+    tell_notice(rt, registry, all.get_mut(1), 1, &mut text)?;
+    tell_notice(rt, registry, all.get_mut(0), 1, &mut text)?;
+    tell_notice(rt, registry, all.get_mut(0), 1, &mut text)?;
+    Ok(text)
+}
+
+fn told_of_notices<Rt: Wait>(rt: &Rt, alloc: Global) -> Result<String, Fail> {
+    let (registry, mut sessions) = start(alloc, fresh_hives(alloc, 2)?, 2)?;
+    let mut text = notified(rt, alloc, &registry, &mut sessions)?;
+    tell_gathered(registry, sessions, &mut text)?;
+    Ok(text)
+}
+
+#[test]
+fn a_callback_guards_the_hive_on_which_it_was_registered(rt: HostRuntime) -> Result<(), Fail> {
+    assert_report(
+        told_of_guards(&rt, rt.alloc()),
+        "5 number None\n0 number Some(0)\n5 number None\n87 number None\nthe box answers 87\n5 number None\n0 number Some(1)\nthe box answers 5\n0 number Some(0)\n1 entries\n2 entries\n",
+    )
+}
+
+#[test]
+fn a_notice_is_taken_of_its_hive_by_its_session(rt: HostRuntime) -> Result<(), Fail> {
+    assert_report(
+        told_of_notices(&rt, rt.alloc()),
+        "0 number Some(0)\n0 number Some(1)\nno notice\n0 number Some(2)\nno notice\nno notice\nnotice 1 2\nno notice\n0 entries\n3 entries\n",
+    )
+}

@@ -1,0 +1,230 @@
+-- What was written is a text of the lines' sessions.
+use Rattle.std.proofs.Common.{◌≡◌, ◌≢◌, ◌+◌, ◌<◌, ◌≤◌, ℕ, zero, suc, Bool, true, false, List, [], ◌∷◌, ◌++◌, codes, length, map, get_or, take, sum_by, slice_get, refl, sym, ap, subst, ◌∙◌, inl, inr, arith, append-nil, append_assoc, add-one}
+use Rattle.std.proofs.lemmas.List.{take_more, get_or_default, length-map}
+use Rattle.std.proofs.lemmas.Bool.{cases_lt}
+use Rattle.std.proofs.lemmas.List.Sums.{sum_by-append}
+use Rattle.std.proofs.Math.ListN.{get_or-eq_default}
+use Rattle.std.specs.Fmt.{decimal}
+use Rattle.reg_text.specs.Texts.{line_feed}
+use Rattle.reg_calls.specs.Views.{Booked}
+use Rattle.reg_model.specs.Histories.{receipts_of}
+use Rattle.reg_model.specs.declared.reply.Receipt.{Receipt}
+use Rattle.reg_sessions.specs.declared.job.Work.{Work}
+use Rattle.reg_sessions.specs.declared.job.Done.{Done}
+use Rattle.reg_sessions.specs.declared.job.Job.{Job}
+use Rattle.reg_sessions.specs.Sessions.{SessionState, AreInOrder, no_session, session_of, receipts_at}
+use Rattle.reg_sessions.specs.Jobs.{are_of_kinds, receipts_by}
+use Rattle.reg_sessions.specs.Gathering.{IsMismatch, IsAudited, journal_at}
+use Rattle.reg_workers.specs.declared.part.Reply.{Reply}
+use Rattle.reg_workers.specs.declared.plan.Plan.{Plan}
+use Rattle.reg_workers.specs.Tasks.{first_settings, Task, bad_line, works, tasks_of, works_of, sessions_of}
+use Rattle.reg_workers.specs.Texts.{reply_text, replies_text, session_text, sessions_text, entries_text, end_text}
+use Rattle.reg_workers.specs.Workers.{accepted_at, Differs, IsEnd, WritesWorkers}
+use Rattle.reg_workers.specs.Internal.Parts.{PartState, no_part, reply_of, part_of, part_at}
+use Rattle.reg_workers.specs.Internal.Plans.{IsPlanOf}
+use Rattle.reg_workers.specs.Internal.Working.{AreWorked, IsWorked, HaveReplies, works_among, replies_by, session_by, work_at, done_at, sessions_by, IsWritable, entries_of, IsGatheredSo, IsTold, IsToldOf}
+use Rattle.reg_workers.proofs.WrittenReplies.{work_at_is, done_at_is, entries_at, entries_long}
+use Rattle.reg_workers.proofs.WorkedJobs.{job_there}
+
+-- ---- tasks and what was kept of them
+
+replies_same : (ts : List Task) (ds : List Done) → replies_by (map reply_of ts) (works_of ts) ds ≡ replies_text ts ds
+replies_same [] ds = refl
+replies_same (bad_line ∷ ts) ds = ap (λ (t : List ℕ). codes "bad\n" ++ t) (replies_same ts ds)
+replies_same (works w ∷ ts) [] = refl
+replies_same (works w ∷ ts) (d ∷ ds) = ap (λ (t : List ℕ). reply_text w.ask d ++ t) (replies_same ts ds)
+
+session_same : (s : ℕ) (ts : List Task) (ds : List Done) → session_by s (map reply_of ts) (works_of ts) ds ≡ session_text s ts ds
+session_same s [] ds = refl
+session_same s (t ∷ ts) ds = ap (λ (x : List ℕ). codes "session " ++ (decimal s ++ (line_feed ++ x))) (replies_same (t ∷ ts) ds)
+
+among_same : (ts : List Task) → works_among (map reply_of ts) ≡ length (works_of ts)
+among_same [] = refl
+among_same (bad_line ∷ ts) = among_same ts
+among_same (works w ∷ ts) = let rest = among_same ts in omega (arith, rest)
+
+-- ---- the jobs that were run can be written
+
+pub writable : (parts kept : List PartState) (jobs : List Job) → AreWorked parts jobs → HaveReplies parts kept →
+    ((s : ℕ) → works_among (part_at s parts).replies ≡ length (part_at s parts).work) →
+    (s : ℕ) (d : Job) → s < length jobs → IsWritable (part_at s kept) (get_or jobs s d)
+writable parts kept jobs worked same counted s d below =
+    let j = worked.each s d (omega (arith, below, worked.count)) in
+    record {
+      kinds = subst (λ (ws : List Work). are_of_kinds ws (get_or jobs s d).outcomes.items ≡ true) (sym j.work) j.kinds;
+      count = ap works_among (same s) ∙ counted s ∙ ap (λ (ws : List Work). length ws) (sym j.work);
+    }
+
+pub numbered : (parts : List PartState) (jobs : List Job) → AreWorked parts jobs → (s : ℕ) (d : Job) → s < length jobs → (get_or jobs s d).session.number ≡ s
+numbered parts jobs worked s d below = (worked.each s d (omega (arith, below, worked.count))).number
+
+pub part_counted : (hives s : ℕ) (lines : List (List ℕ)) (part : PartState) → part ≡ part_of (tasks_of hives s lines first_settings) →
+    works_among part.replies ≡ length part.work
+part_counted hives s lines part e =
+    subst (λ (p : PartState). works_among p.replies ≡ length p.work) (sym e) (among_same (tasks_of hives s lines first_settings))
+
+-- the sessions of jobs are in order
+session_there : (jobs : List Job) (s : ℕ) (j : Job) → s < length jobs → j ≡ get_or jobs s j →
+    session_of (map (λ (k : Job). k.session) jobs) s ≡ j.session
+session_there [] s j below is = absurd (omega (arith, below))
+session_there (x ∷ jobs) zero j below is = ap (λ (k : Job). k.session) (sym is)
+session_there (x ∷ jobs) (suc s) j below is = session_there jobs s j (omega (arith, below)) is
+
+pub in_order : (n : ℕ) (jobs : List Job) (sessions : List SessionState) → sessions ≡ map (λ (k : Job). k.session) jobs → length jobs ≡ n →
+    ((s : ℕ) (d : Job) → s < length jobs → (get_or jobs s d).session.number ≡ s) → AreInOrder n sessions
+in_order n jobs sessions are count numbers = subst (λ (ss : List SessionState). AreInOrder n ss) (sym are) (
+  length-map jobs (λ (k : Job). k.session) ∙ count,
+  (λ s below.
+      let b : s < length jobs = omega (arith, below, count) in
+      let j = job_there jobs s b in
+      ap (λ (x : SessionState). x.number) (session_there jobs s j.0 b j.1) ∙ ap (λ (k : Job). k.session.number) j.1 ∙ numbers s j.0 b),
+)
+
+-- ---- all together
+
+module _ (hives : ℕ) (lines : List (List ℕ)) (parts kept : List PartState) (jobs : List Job)
+    (planned : (s : ℕ) → part_at s parts ≡ part_of (tasks_of hives s lines first_settings)) (count : length parts ≡ sessions_of hives lines)
+    (worked : AreWorked parts jobs) (same : HaveReplies parts kept) where
+  abbrev tasks : ℕ → List Task
+  tasks s = tasks_of hives s lines first_settings
+
+  abbrev done : ℕ → List Done
+  done s = done_at s jobs
+
+  abbrev sessions : List SessionState
+  sessions = map (λ (j : Job). j.session) jobs
+
+  below_parts : (s : ℕ) → s < length jobs → s < length parts
+  below_parts s below = omega (arith, below, worked.count)
+
+  -- what is known of a job that is there
+  there : (s : ℕ) (below : s < length jobs) (j : Job) → j ≡ get_or jobs s j → IsWorked s (part_at s parts) j
+  there s below j is = subst (λ (k : Job). IsWorked s (part_at s parts) k) (sym is) (worked.each s j (below_parts s below))
+
+  work_is : (s : ℕ) → (part_at s parts).work ≡ works_of (tasks s)
+  work_is s = ap (λ (p : PartState). p.work) (planned s)
+
+  replies_are : (s : ℕ) → (part_at s kept).replies ≡ map reply_of (tasks s)
+  replies_are s = same s ∙ ap (λ (p : PartState). p.replies) (planned s)
+
+  work_there : (s : ℕ) → s < length jobs → work_at s jobs ≡ works_of (tasks s)
+  work_there s below =
+      let j = job_there jobs s below in
+      work_at_is jobs s j.0 below j.1 ∙ (there s below j.0 j.1).work ∙ work_is s
+
+  kinds_there : (s : ℕ) → s < length jobs → are_of_kinds (works_of (tasks s)) (done s) ≡ true
+  kinds_there s below =
+      let j = job_there jobs s below in
+      subst (λ (ds : List Done). are_of_kinds (works_of (tasks s)) ds ≡ true) (sym (done_at_is jobs s j.0 below j.1))
+      (subst (λ (ws : List Work). are_of_kinds ws j.0.outcomes.items ≡ true) (work_is s) (there s below j.0 j.1).kinds)
+
+  -- the receipts of any session are those of its outcomes
+  receipts_are : (s h : ℕ) → receipts_at h (session_of sessions s) ≡ receipts_by h (works_of (tasks s)) (done s)
+  receipts_are s h =
+      elim (cases_lt s (length jobs)) [
+        | inl below ↦ (let j = job_there jobs s below in
+            ap (λ (x : SessionState). receipts_at h x) (session_there jobs s j.0 below j.1)
+            ∙ (there s below j.0 j.1).receipts h
+            ∙ ap (λ (ws : List Work). receipts_by h ws j.0.outcomes.items) (work_is s)
+            ∙ ap (λ (ds : List Done). receipts_by h (works_of (tasks s)) ds) (sym (done_at_is jobs s j.0 below j.1)))
+        | inr past ↦ (let no_work : works_of (tasks s) ≡ [] =
+            sym (work_is s) ∙ ap (λ (p : PartState). p.work) (get_or-eq_default parts no_part (omega (arith, past, worked.count))) in
+            let long = length-map jobs (λ (j : Job). j.session) in
+            ap (λ (x : SessionState). receipts_at h x) (get_or-eq_default sessions no_session (omega (arith, past, long)))
+            ∙ ap (λ (ws : List Work). receipts_by h ws (done s)) (sym no_work))
+      ]
+
+  text_same : (n : ℕ) → n ≤ length jobs → sessions_by kept jobs n ≡ sessions_text tasks done n
+  text_same zero few = refl
+  text_same (suc n) few =
+      let below : n < length jobs = omega (arith, few) in
+      ap (λ (t : List ℕ). t ++ session_by n (part_at n kept).replies (work_at n jobs) (done n)) (text_same n (omega (arith, few)))
+      ∙ ap (λ (t : List ℕ). sessions_text tasks done n ++ t) (ap (λ (rs : List Reply). session_by n rs (work_at n jobs) (done n)) (replies_are n)
+      ∙ ap (λ (ws : List Work). session_by n (map reply_of (tasks n)) ws (done n)) (work_there n below)
+      ∙ session_same n (tasks n) (done n))
+
+  take_nothing : (xs : List SessionState) → take 0 xs ≡ []
+  take_nothing [] = refl
+  take_nothing (x ∷ xs) = refl
+
+  sum_same : (h n : ℕ) → n ≤ length sessions → sum_by (λ s. length (receipts_at h s)) (take n sessions) ≡ accepted_at h tasks done n
+  sum_same h zero few = ap (λ (xs : List SessionState). sum_by (λ s. length (receipts_at h s)) xs) (take_nothing sessions)
+  sum_same h (suc n) few =
+      let below : n < length sessions = omega (arith, few) in
+      let rest = sum_same h n (omega (arith, few)) in
+      let longer : take (suc n) sessions ≡ take n sessions ++ session_of sessions n ∷ [] =
+      ap (λ (k : ℕ). take k sessions) (sym (add-one n)) ∙ take_more sessions n no_session below in
+      let split = ap (λ (xs : List SessionState). sum_by (λ s. length (receipts_at h s)) xs) longer
+      ∙ sum_by-append (λ (s : SessionState). length (receipts_at h s)) (take n sessions) (session_of sessions n ∷ []) in
+      let one : length (receipts_at h (session_of sessions n)) ≡ length (receipts_by h (works_of (tasks n)) (done n)) =
+      ap (λ (rs : List Receipt). length rs) (receipts_are n h) in
+      omega (arith, split, rest, one)
+
+  take_whole : (xs : List SessionState) (n : ℕ) → length xs ≡ n → take n xs ≡ xs
+  take_whole [] zero e = refl
+  take_whole [] (suc n) e = absurd (omega (arith, e))
+  take_whole (x ∷ xs) zero e = absurd (omega (arith, e))
+  take_whole (x ∷ xs) (suc n) e = ap (λ ys. x ∷ ys) (take_whole xs n (omega (arith, e)))
+
+  number_of_jobs : length jobs ≡ sessions_of hives lines
+  number_of_jobs = worked.count ∙ count
+
+  number_of_sessions : length sessions ≡ sessions_of hives lines
+  number_of_sessions = length-map jobs (λ (j : Job). j.session) ∙ number_of_jobs
+
+  ends_so : (gathered : Bool) (booked : List Booked) → length booked ≡ hives → IsGatheredSo gathered booked sessions →
+      IsEnd gathered hives tasks done (sessions_of hives lines) (entries_of booked)
+  ends_so true booked long h = λ n below.
+      h n (omega (arith, below, long))
+      ∙ ap (λ (xs : List SessionState). sum_by (λ s. length (receipts_at n s)) xs) (sym (take_whole sessions (sessions_of hives lines) number_of_sessions))
+      ∙ sum_same n (sessions_of hives lines) (omega (arith, number_of_sessions))
+  ends_so false booked long h = record {
+    hive = h.0;
+    is_hive = omega (arith, h.3.within, long);
+    journal = journal_at booked h.0;
+    long = sym (entries_at booked h.0 0 h.3.within);
+    session = h.1;
+    place = h.2;
+    differ = subst (λ (rs : List Receipt). slice_get (receipts_of h.1 (journal_at booked h.0)) h.2 ≢ slice_get rs h.2) (receipts_are h.1 h.0) h.3.differ;
+  }
+
+  pub written : (old new : List ℕ) → IsToldOf hives kept jobs old new → (told : List ℕ) × WritesWorkers hives lines told × (new ≡ old ++ told)
+  written old new h = (
+    sessions_text tasks done (sessions_of hives lines) ++ (entries_text (entries_of h.told.booked) ++ end_text h.told.gathered),
+    record {
+      done = done;
+      kinds = λ s below. kinds_there s (omega (arith, below, number_of_jobs));
+      entries = entries_of h.told.booked;
+      each = entries_long h.told.booked ∙ h.told.count;
+      gathered = h.told.gathered;
+      ends = ends_so h.told.gathered h.told.booked h.told.count h.told.ends;
+      text_is = refl;
+    },
+    (h.told.text
+        ∙ ap (λ (t : List ℕ). t ++ (entries_text (entries_of h.told.booked) ++ end_text h.told.gathered)) (h.sessions
+        ∙ ap (λ (t : List ℕ). old ++ t) (text_same (length jobs) (omega arith) ∙ ap (λ (n : ℕ). sessions_text tasks done n) number_of_jobs))
+        ∙ append_assoc old (sessions_text tasks done (sessions_of hives lines)) (entries_text (entries_of h.told.booked) ++ end_text h.told.gathered)),
+  )
+
+-- ---- what gathering answers
+
+pub told_gathered : (hives : ℕ) (all : List SessionState) (audit : List Booked) (old new : List ℕ) → length audit ≡ hives →
+    ((h : ℕ) → h < length audit → IsAudited audit all h) → new ≡ old ++ (entries_text (entries_of audit) ++ end_text true) →
+    IsTold hives all old new
+told_gathered hives all audit old new long audited text = record {
+  booked = audit;
+  count = long;
+  gathered = true;
+  ends = λ h below. entries_at audit h 0 below ∙ (audited h below).total;
+  text = text;
+}
+
+pub told_differs : (hives h s place : ℕ) (all : List SessionState) (audit : List Booked) (old new : List ℕ) → length audit ≡ hives →
+    IsMismatch audit all h s place → new ≡ old ++ (entries_text (entries_of audit) ++ end_text false) → IsTold hives all old new
+told_differs hives h s place all audit old new long differ text = record {
+  booked = audit;
+  count = long;
+  gathered = false;
+  ends = (h, s, place, differ);
+  text = text;
+}

@@ -1,0 +1,4 @@
+pub mod Tasks
+pub mod Texts
+pub mod Workers
+pub mod Internal

@@ -1,0 +1,80 @@
+-- Scripts whose sessions work side by side on several hives (this project's own rules of the script).
+use Rattle.std.specs.Prelude.{◌≡◌, ◌≢◌, ℕ, zero, suc, ◌+◌, ◌<◌, Bool, true, false, List, ◌++◌, length, get_or, slice_get, Option}
+use Rattle.std.specs.Io.KnownBytes.{Appends, Consumes, IsAtEnd}
+use Rattle.reg_model.specs.Histories.{receipts_of}
+use Rattle.reg_model.specs.declared.reply.Entry.{Entry}
+use Rattle.reg_sessions.specs.declared.job.Done.{Done}
+use Rattle.reg_sessions.specs.Jobs.{are_of_kinds, receipts_by}
+use Rattle.reg_script.specs.declared.engine.ScriptFault.{ScriptFault}
+use Rattle.reg_script.specs.declared.engine.ScriptFault.TheVariants.{Read, Write, TooLong, Memory}
+use Rattle.reg_script.specs.LineWords.{lines_of}
+use Rattle.reg_script.specs.Stops.{AreWithin, IsLeft, IsTaken}
+use Rattle.reg_workers.specs.Tasks.{Task, first_settings, tasks_of, works_of, sessions_of}
+use Rattle.reg_workers.specs.Texts.{sessions_text, entries_text, end_text}
+
+-- how many changes of the first n sessions were accepted at hive h, by their outcomes
+abbrev pub accepted_at : ℕ → (ℕ → List Task) → (ℕ → List Done) → ℕ → ℕ
+accepted_at h tasks done zero = 0
+accepted_at h tasks done (suc n) = accepted_at h tasks done n + length (receipts_by h (works_of (tasks n)) (done n))
+
+-- a hive has a journal of as many entries as are told, and at some place of a session it differs from what the session was told
+pub record Differs (hives : ℕ) (tasks : ℕ → List Task) (done : ℕ → List Done) (entries : List ℕ) : Type 0 where
+  pub hive : ℕ
+  pub is_hive : hive < hives
+  pub journal : List Entry
+  pub long : length journal ≡ get_or entries hive 0
+  pub session : ℕ
+  pub place : ℕ
+  pub differ : slice_get (receipts_of session journal) place ≢ slice_get (receipts_by hive (works_of (tasks session)) (done session)) place
+
+-- what is told at the end is so: each hive has just as many entries as changes were accepted there, or one differs
+abbrev pub IsEnd : Bool → ℕ → (ℕ → List Task) → (ℕ → List Done) → ℕ → List ℕ → Type 0
+IsEnd true hives tasks done n entries = (h : ℕ) → h < hives → get_or entries h 0 ≡ accepted_at h tasks done n
+IsEnd false hives tasks done n entries = Differs hives tasks done entries
+
+-- the sessions of these lines may write this text together: each work has an outcome of its kind, and the text has the replies of each
+-- session, then a number for each hive, and then how it ended
+pub record WritesWorkers (hives : ℕ) (lines : List (List ℕ)) (text : List ℕ) : Type 0 where
+  pub done : ℕ → List Done
+  pub kinds : (s : ℕ) → s < sessions_of hives lines → are_of_kinds (works_of (tasks_of hives s lines first_settings)) (done s) ≡ true
+  pub entries : List ℕ
+  pub each : length entries ≡ hives
+  pub gathered : Bool
+  pub ends : IsEnd gathered hives (λ s. tasks_of hives s lines first_settings) done (sessions_of hives lines) entries
+  pub text_is : text ≡ sessions_text (λ s. tasks_of hives s lines first_settings) done (sessions_of hives lines) ++ (entries_text entries ++ end_text gathered)
+
+-- the input was read to its end, and what was written is a text that the sessions of its lines may write together
+pub record RunsWorkers (hives : ℕ) (unread left before after : Option (List ℕ)) : Type 0 where
+  pub at_end : IsAtEnd left
+  pub script : List ℕ
+  pub consumed : Consumes unread left script
+  pub within : AreWithin (lines_of script)
+  pub text : List ℕ
+  pub writes : WritesWorkers hives (lines_of script) text
+  pub appended : Appends before after text
+
+-- nothing was written, and of what was read some lines had ended within the bounds, and the rest is as this fault leaves it
+pub record StopsBefore (fault : ScriptFault) (unread left before after : Option (List ℕ)) : Type 0 where
+  pub lines : List ℕ
+  pub rest : List ℕ
+  pub read : Consumes unread left (lines ++ rest)
+  pub within : AreWithin (lines_of lines)
+  pub stands : IsLeft fault lines rest left
+  pub same : after ≡ before
+
+-- the input was read to its end, and the writer took just so many of the first bytes of a text that the sessions may write together
+pub record StopsWriting (hives written : ℕ) (unread left before after : Option (List ℕ)) : Type 0 where
+  pub at_end : IsAtEnd left
+  pub script : List ℕ
+  pub consumed : Consumes unread left script
+  pub within : AreWithin (lines_of script)
+  pub text : List ℕ
+  pub writes : WritesWorkers hives (lines_of script) text
+  pub taken : IsTaken before after text written
+
+-- what each fault leaves
+abbrev pub WorkersStop : ℕ → ScriptFault → (unread left before after : Option (List ℕ)) → Type 0
+WorkersStop hives Read unread left before after = StopsBefore Read unread left before after
+WorkersStop hives (Write written) unread left before after = StopsWriting hives written unread left before after
+WorkersStop hives TooLong unread left before after = StopsBefore TooLong unread left before after
+WorkersStop hives Memory unread left before after = StopsBefore Memory unread left before after
