@@ -1,11 +1,12 @@
 -- Jobs that are made of parts, and run.
-use Rattle.std.proofs.Common.{◌≡◌, ◌+◌, ◌<◌, ◌≤◌, ◌==◌, ℕ, zero, suc, Bool, true, false, List, [], ◌∷◌, ◌++◌, length, get_or, set, drop, nat_lt, slice_index_or, if◌then◌else◌, unwrap_or, refl, sym, ap, subst, ◌∙◌, inl, inr, arith, drop-cons, add-one}
+use Rattle.std.proofs.Common.{◌≡◌, ◌+◌, ◌<◌, ◌≤◌, ◌==◌, ℕ, zero, suc, Bool, true, false, List, [], ◌∷◌, ◌++◌, length, get_or, set, take, drop, nat_lt, slice_index_or, if◌then◌else◌, unwrap_or, refl, sym, ap, subst, ◌∙◌, inl, inr, arith, drop-cons, add-one}
 use Rattle.std.proofs.lemmas.List.{get_or-set_same, get_or-set_other, get_or_append_left, get_or_default}
 use Rattle.std.proofs.lemmas.Bool.{cases_eq, cases_lt}
 use Rattle.std.proofs.lemmas.Bool.Decides.{nat_tests}
 use Rattle.std.proofs.Math.Seq.{get_or-append_seam}
 use Rattle.std.proofs.Math.ListN.{get_or-eq_default}
 use Rattle.reg_callbacks.specs.Asking.{Answers}
+use Rattle.reg_journal.specs.Kept.{Seat, seat}
 use Rattle.reg_model.specs.declared.reply.Receipt.{Receipt}
 use Rattle.reg_script.specs.LineMeanings.{Meaning, nothing, at_moment, as_session, on_hive, asks, takes_notice, bad, within, meaning_in}
 use Rattle.reg_script.specs.LineWords.{words_of}
@@ -13,9 +14,10 @@ use Rattle.reg_script.specs.LineMeanings.{reading, verb_of, by_verb}
 use Rattle.reg_sessions.specs.declared.job.Work.{Work}
 use Rattle.reg_sessions.specs.declared.job.Done.{Done}
 use Rattle.reg_sessions.specs.declared.job.Job.{Job}
-use Rattle.reg_sessions.specs.Sessions.{SessionState, IsFresh, no_session, session_of, receipts_at}
-use Rattle.reg_sessions.specs.Jobs.{AreReady, IsReady, AreWithin, IsDone, are_of_kinds, receipts_by}
+use Rattle.reg_sessions.specs.Sessions.{SessionState, IsFresh, no_session, session_of, receipts_at, mark_at}
+use Rattle.reg_sessions.specs.Jobs.{AreReady, IsReady, AreWithin, IsDone, IsLawfulDone, AreLawful, are_of_kinds, receipts_by, mark_by}
 use Rattle.reg_workers.specs.Tasks.{Settings, first_settings, set_by, Task, bad_line, works, task_of, tasks_of, works_of}
+use Rattle.reg_workers.specs.Workers.{fresh_session}
 use Rattle.reg_workers.specs.Internal.Parts.{PartState, no_part, part_of, part_at}
 use Rattle.reg_workers.specs.Internal.Working.{IsJob, AreJobs, IsWorked, AreWorked}
 
@@ -161,8 +163,22 @@ ready hives sessions parts jobs made same fresh all s d below =
           subst (λ (n : ℕ). AreWithin n (get_or jobs s d).work.items) (sym seats) (subst (λ (ws : List Work). AreWithin hives ws) (sym j.work) (all s)));
     }
 
+-- what is lawful for a session without receipts whose marks are 0 is lawful for a fresh one
+lawful_from : {C : Type 0} (answers : C → Answers) (session : SessionState) (s : ℕ) (work : List Work) (done : List Done) → session.number ≡ s →
+    ((h : ℕ) → receipts_at h session ≡ []) → ((h : ℕ) → mark_at h session ≡ 0) → AreLawful answers session work done →
+    AreLawful answers (fresh_session s) work done
+lawful_from answers session s work done is none zeros all i w d asked told =
+    let seats : seat session.number (length (receipts_at w.hive session ++ receipts_by w.hive (take i work) (take i done)))
+        ≡ seat s (length (receipts_by w.hive (take i work) (take i done))) =
+    ap (λ (n : ℕ). seat n (length (receipts_at w.hive session ++ receipts_by w.hive (take i work) (take i done)))) is
+    ∙ ap (λ (rs : List Receipt). seat s (length (rs ++ receipts_by w.hive (take i work) (take i done)))) (none w.hive) in
+    subst (λ (m : ℕ). IsLawfulDone answers (seat s (length (receipts_by w.hive (take i work) (take i done))))
+    (mark_by w.hive m (take i work) (take i done)) w.moment w.ask d) (zeros w.hive)
+    (subst (λ (p : Seat). IsLawfulDone answers p (mark_by w.hive (mark_at w.hive session) (take i work) (take i done)) w.moment w.ask d) seats
+    (all i w d asked told))
+
 worked_one : {C : Type 0} (answers : C → Answers) (s hives : ℕ) (session : SessionState) (part : PartState) (old new : Job) → IsFresh s hives session → IsJob session part old →
-    IsDone answers old new → IsWorked s part new
+    IsDone answers old new → IsWorked answers s part new
 worked_one answers s hives session part old new fresh job done =
     let all : new.outcomes.items ≡ done.done.done = done.done.outcomes ∙ ap (λ (ds : List Done). ds ++ done.done.done) job.outcomes in
     let is_work = job.work in
@@ -171,6 +187,11 @@ worked_one answers s hives session part old new fresh job done =
       work = done.work ∙ job.work;
       kinds = subst (λ (ds : List Done). are_of_kinds part.work ds ≡ true) (sym all)
           (subst (λ (ws : List Work). are_of_kinds ws done.done.done ≡ true) is_work done.done.kinds);
+      lawful = subst (λ (ds : List Done). AreLawful answers (fresh_session s) part.work ds) (sym all)
+          (subst (λ (ws : List Work). AreLawful answers (fresh_session s) ws done.done.done) is_work
+          (lawful_from answers old.session s old.work.items done.done.done (ap (λ (x : SessionState). x.number) job.is_session ∙ fresh.is_number)
+          (λ h. ap (λ (x : SessionState). receipts_at h x) job.is_session ∙ fresh.receipts h)
+          (λ h. ap (λ (x : SessionState). mark_at h x) job.is_session ∙ fresh.marks h) done.done.lawful));
       receipts = λ h.
           done.done.receipts h
           ∙ ap (λ (rs : List Receipt). rs ++ receipts_by h old.work.items done.done.done) (ap (λ (x : SessionState). receipts_at h x) job.is_session ∙ fresh.receipts h)
@@ -180,7 +201,7 @@ worked_one answers s hives session part old new fresh job done =
 
 pub worked : {C : Type 0} (answers : C → Answers) (hives : ℕ) (sessions : List SessionState) (parts : List PartState) (old new : List Job) → AreJobs sessions parts old →
     length sessions ≡ length parts → ((s : ℕ) → s < length parts → IsFresh s hives (session_of sessions s)) → length new ≡ length old →
-    ((s : ℕ) (d : Job) → s < length old → IsDone answers (get_or old s d) (get_or new s d)) → AreWorked parts new
+    ((s : ℕ) (d : Job) → s < length old → IsDone answers (get_or old s d) (get_or new s d)) → AreWorked answers parts new
 worked answers hives sessions parts old new made same fresh long done = record {
   count = long ∙ made.count ∙ same;
   each = λ s d below.

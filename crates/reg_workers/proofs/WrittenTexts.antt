@@ -6,6 +6,7 @@ use Rattle.std.proofs.lemmas.List.Sums.{sum_by-append}
 use Rattle.std.proofs.Math.ListN.{get_or-eq_default}
 use Rattle.std.specs.Fmt.{decimal}
 use Rattle.reg_text.specs.Texts.{line_feed}
+use Rattle.reg_callbacks.specs.Asking.{Answers}
 use Rattle.reg_calls.specs.Views.{Booked}
 use Rattle.reg_model.specs.Histories.{receipts_of}
 use Rattle.reg_model.specs.declared.reply.Receipt.{Receipt}
@@ -13,13 +14,13 @@ use Rattle.reg_sessions.specs.declared.job.Work.{Work}
 use Rattle.reg_sessions.specs.declared.job.Done.{Done}
 use Rattle.reg_sessions.specs.declared.job.Job.{Job}
 use Rattle.reg_sessions.specs.Sessions.{SessionState, AreInOrder, no_session, session_of, receipts_at}
-use Rattle.reg_sessions.specs.Jobs.{are_of_kinds, receipts_by}
+use Rattle.reg_sessions.specs.Jobs.{are_of_kinds, receipts_by, AreLawful}
 use Rattle.reg_sessions.specs.Gathering.{IsMismatch, IsAudited, journal_at}
 use Rattle.reg_workers.specs.declared.part.Reply.{Reply}
 use Rattle.reg_workers.specs.declared.plan.Plan.{Plan}
 use Rattle.reg_workers.specs.Tasks.{first_settings, Task, bad_line, works, tasks_of, works_of, sessions_of}
 use Rattle.reg_workers.specs.Texts.{reply_text, replies_text, session_text, sessions_text, entries_text, end_text}
-use Rattle.reg_workers.specs.Workers.{accepted_at, Differs, IsEnd, WritesWorkers}
+use Rattle.reg_workers.specs.Workers.{accepted_at, Differs, IsEnd, fresh_session, no_answers, WritesWorkers}
 use Rattle.reg_workers.specs.Internal.Parts.{PartState, no_part, reply_of, part_of, part_at}
 use Rattle.reg_workers.specs.Internal.Plans.{IsPlanOf}
 use Rattle.reg_workers.specs.Internal.Working.{AreWorked, IsWorked, HaveReplies, works_among, replies_by, session_by, work_at, done_at, sessions_by, IsWritable, entries_of, IsGatheredSo, IsTold, IsToldOf}
@@ -45,18 +46,15 @@ among_same (works w ∷ ts) = let rest = among_same ts in omega (arith, rest)
 
 -- ---- the jobs that were run can be written
 
-pub writable : (parts kept : List PartState) (jobs : List Job) → AreWorked parts jobs → HaveReplies parts kept →
+pub writable : {C : Type 0} (answers : C → Answers) (parts kept : List PartState) (jobs : List Job) → AreWorked answers parts jobs → HaveReplies parts kept →
     ((s : ℕ) → works_among (part_at s parts).replies ≡ length (part_at s parts).work) →
     (s : ℕ) (d : Job) → s < length jobs → IsWritable (part_at s kept) (get_or jobs s d)
-writable parts kept jobs worked same counted s d below =
+writable answers parts kept jobs worked same counted s d below =
     let j = worked.each s d (omega (arith, below, worked.count)) in
     record {
       kinds = subst (λ (ws : List Work). are_of_kinds ws (get_or jobs s d).outcomes.items ≡ true) (sym j.work) j.kinds;
       count = ap works_among (same s) ∙ counted s ∙ ap (λ (ws : List Work). length ws) (sym j.work);
     }
-
-pub numbered : (parts : List PartState) (jobs : List Job) → AreWorked parts jobs → (s : ℕ) (d : Job) → s < length jobs → (get_or jobs s d).session.number ≡ s
-numbered parts jobs worked s d below = (worked.each s d (omega (arith, below, worked.count))).number
 
 pub part_counted : (hives s : ℕ) (lines : List (List ℕ)) (part : PartState) → part ≡ part_of (tasks_of hives s lines first_settings) →
     works_among part.replies ≡ length part.work
@@ -84,7 +82,7 @@ in_order n jobs sessions are count numbers = subst (λ (ss : List SessionState).
 
 module _ (hives : ℕ) (lines : List (List ℕ)) (parts kept : List PartState) (jobs : List Job)
     (planned : (s : ℕ) → part_at s parts ≡ part_of (tasks_of hives s lines first_settings)) (count : length parts ≡ sessions_of hives lines)
-    (worked : AreWorked parts jobs) (same : HaveReplies parts kept) where
+    (worked : AreWorked no_answers parts jobs) (same : HaveReplies parts kept) where
   abbrev tasks : ℕ → List Task
   tasks s = tasks_of hives s lines first_settings
 
@@ -98,8 +96,8 @@ module _ (hives : ℕ) (lines : List (List ℕ)) (parts kept : List PartState) (
   below_parts s below = omega (arith, below, worked.count)
 
   -- what is known of a job that is there
-  there : (s : ℕ) (below : s < length jobs) (j : Job) → j ≡ get_or jobs s j → IsWorked s (part_at s parts) j
-  there s below j is = subst (λ (k : Job). IsWorked s (part_at s parts) k) (sym is) (worked.each s j (below_parts s below))
+  there : (s : ℕ) (below : s < length jobs) (j : Job) → j ≡ get_or jobs s j → IsWorked no_answers s (part_at s parts) j
+  there s below j is = subst (λ (k : Job). IsWorked no_answers s (part_at s parts) k) (sym is) (worked.each s j (below_parts s below))
 
   work_is : (s : ℕ) → (part_at s parts).work ≡ works_of (tasks s)
   work_is s = ap (λ (p : PartState). p.work) (planned s)
@@ -117,6 +115,12 @@ module _ (hives : ℕ) (lines : List (List ℕ)) (parts kept : List PartState) (
       let j = job_there jobs s below in
       subst (λ (ds : List Done). are_of_kinds (works_of (tasks s)) ds ≡ true) (sym (done_at_is jobs s j.0 below j.1))
       (subst (λ (ws : List Work). are_of_kinds ws j.0.outcomes.items ≡ true) (work_is s) (there s below j.0 j.1).kinds)
+
+  lawful_there : (s : ℕ) → s < length jobs → AreLawful no_answers (fresh_session s) (works_of (tasks s)) (done s)
+  lawful_there s below =
+      let j = job_there jobs s below in
+      subst (λ (ds : List Done). AreLawful no_answers (fresh_session s) (works_of (tasks s)) ds) (sym (done_at_is jobs s j.0 below j.1))
+      (subst (λ (ws : List Work). AreLawful no_answers (fresh_session s) ws j.0.outcomes.items) (work_is s) (there s below j.0 j.1).lawful)
 
   -- the receipts of any session are those of its outcomes
   receipts_are : (s h : ℕ) → receipts_at h (session_of sessions s) ≡ receipts_by h (works_of (tasks s)) (done s)
@@ -194,6 +198,7 @@ module _ (hives : ℕ) (lines : List (List ℕ)) (parts kept : List PartState) (
     record {
       done = done;
       kinds = λ s below. kinds_there s (omega (arith, below, number_of_jobs));
+      lawful = λ s below. lawful_there s (omega (arith, below, number_of_jobs));
       entries = entries_of h.told.booked;
       each = entries_long h.told.booked ∙ h.told.count;
       gathered = h.told.gathered;

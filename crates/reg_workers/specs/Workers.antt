@@ -1,10 +1,13 @@
 -- Scripts whose sessions work side by side on several hives (this project's own rules of the script).
-use Rattle.std.specs.Prelude.{◌≡◌, ◌≢◌, ℕ, zero, suc, ◌+◌, ◌<◌, Bool, true, false, List, ◌++◌, length, get_or, slice_get, Option}
+use Rattle.std.specs.Prelude.{◌≡◌, ◌≢◌, ℕ, zero, suc, ◌+◌, ◌<◌, Bool, true, false, List, [], ◌++◌, length, get_or, slice_get, Option}
 use Rattle.std.specs.Io.KnownBytes.{Appends, Consumes, IsAtEnd}
+use Rattle.reg_callbacks.specs.Asking.{Answers}
+use Rattle.reg_callbacks.specs.declared.callback.NoCallback.{NoCallback}
 use Rattle.reg_model.specs.Histories.{receipts_of}
 use Rattle.reg_model.specs.declared.reply.Entry.{Entry}
 use Rattle.reg_sessions.specs.declared.job.Done.{Done}
-use Rattle.reg_sessions.specs.Jobs.{are_of_kinds, receipts_by}
+use Rattle.reg_sessions.specs.Jobs.{are_of_kinds, receipts_by, AreLawful}
+use Rattle.reg_sessions.specs.Sessions.{SessionState}
 use Rattle.reg_script.specs.declared.engine.ScriptFault.{ScriptFault}
 use Rattle.reg_script.specs.declared.engine.ScriptFault.TheVariants.{Read, Write, TooLong, Memory}
 use Rattle.reg_script.specs.LineWords.{lines_of}
@@ -32,11 +35,21 @@ abbrev pub IsEnd : Bool → ℕ → (ℕ → List Task) → (ℕ → List Done) 
 IsEnd true hives tasks done n entries = (h : ℕ) → h < hives → get_or entries h 0 ≡ accepted_at h tasks done n
 IsEnd false hives tasks done n entries = Differs hives tasks done entries
 
--- the sessions of these lines may write this text together: each work has an outcome of its kind, and the text has the replies of each
--- session, then a number for each hive, and then how it ended
+-- a session before its first line: without receipts, and with marks of 0
+abbrev pub fresh_session : ℕ → SessionState
+fresh_session s = record { number = s; places = [] }
+
+-- a script's hives have no callback that could refuse a call
+abbrev pub no_answers : NoCallback → Answers
+no_answers callback session moment path seen = 0
+
+-- the sessions of these lines may write this text together: each work has an outcome of its kind, which is lawful by those before it, and
+-- the text has the replies of each session, then a number for each hive, and then how it ended
 pub record WritesWorkers (hives : ℕ) (lines : List (List ℕ)) (text : List ℕ) : Type 0 where
   pub done : ℕ → List Done
   pub kinds : (s : ℕ) → s < sessions_of hives lines → are_of_kinds (works_of (tasks_of hives s lines first_settings)) (done s) ≡ true
+  pub lawful : (s : ℕ) → s < sessions_of hives lines →
+      AreLawful no_answers (fresh_session s) (works_of (tasks_of hives s lines first_settings)) (done s)
   pub entries : List ℕ
   pub each : length entries ≡ hives
   pub gathered : Bool

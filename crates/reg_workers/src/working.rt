@@ -123,7 +123,7 @@ fn do_parts<Rt: Threads + Wait + Sync, C: Callback + Send>(
     requires count { length sessions.items ≡ length parts.old.items }
     requires fresh { (s : ℕ) → s < length parts.old.items → IsFresh s registry.now.hives (session_of sessions.items s) }
     requires within { (s : ℕ) → AreWithin registry.now.hives (part_at s parts.old.items).work }
-    ensures jobs { IfOk result (λ jobs. AreWorked parts.old.items jobs.items) }
+    ensures jobs { IfOk result (λ jobs. AreWorked C.answers parts.old.items jobs.items) }
     ensures replies { HaveReplies parts.old.items parts.new.items }
     ensures len { length parts.new.items ≡ length parts.old.items }
 {
@@ -146,7 +146,7 @@ fn work_on<Rt: Threads + Wait + Sync, C: Callback + Send>(
     requires fresh { (s : ℕ) → s < length parts.old.items → IsFresh s registry.hives (session_of sessions.items s) }
     requires within { (s : ℕ) → AreWithin registry.hives (part_at s parts.old.items).work }
     requires counted { (s : ℕ) → works_among (part_at s parts.old.items).replies ≡ length (part_at s parts.old.items).work }
-    ensures { OnOk result (IsWorkedOn registry.hives parts.old.items (string_bytes text.old) (string_bytes text.new)) }
+    ensures { OnOk result (IsWorkedOn C.answers registry.hives parts.old.items (string_bytes text.old) (string_bytes text.new)) }
 {
     let jobs = do_parts(rt, alloc, &registry, sessions, parts)?;
     write_all(alloc, text, parts.as_slice(), jobs, registry)?;

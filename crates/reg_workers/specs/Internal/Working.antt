@@ -2,16 +2,18 @@
 use Rattle.std.specs.Prelude.{◌≡◌, ℕ, zero, suc, ◌+◌, ◌<◌, Bool, true, false, List, [], ◌∷◌, ◌++◌, codes, length, map, get_or, slice_index_or, sum_by}
 use Rattle.std.specs.Fmt.{decimal}
 use Rattle.reg_text.specs.Texts.{line_feed}
+use Rattle.reg_callbacks.specs.Asking.{Answers}
 use Rattle.reg_calls.specs.Views.{Booked}
 use Rattle.reg_sessions.specs.declared.job.Work.{Work}
 use Rattle.reg_sessions.specs.declared.job.Done.{Done}
 use Rattle.reg_sessions.specs.declared.job.Job.{Job}
 use Rattle.reg_sessions.specs.Sessions.{SessionState, session_of, receipts_at}
-use Rattle.reg_sessions.specs.Jobs.{are_of_kinds, receipts_by}
+use Rattle.reg_sessions.specs.Jobs.{are_of_kinds, receipts_by, AreLawful}
 use Rattle.reg_sessions.specs.Gathering.{IsMismatch}
 use Rattle.reg_workers.specs.declared.part.Reply.{Reply}
 use Rattle.reg_workers.specs.declared.part.Reply.TheVariants.{Bad, Worked}
 use Rattle.reg_workers.specs.Texts.{reply_text, entries_text, end_text}
+use Rattle.reg_workers.specs.Workers.{fresh_session}
 use Rattle.reg_workers.specs.Internal.Parts.{PartState, part_at}
 
 -- ---- jobs
@@ -28,15 +30,16 @@ pub record AreJobs (sessions : List SessionState) (parts : List PartState) (jobs
   pub each : (s : ℕ) (d : Job) → s < length sessions → IsJob (session_of sessions s) (part_at s parts) (slice_index_or jobs s d)
 
 -- the job of session s was run, which had no receipt before
-pub record IsWorked (s : ℕ) (part : PartState) (job : Job) : Type 0 where
+pub record IsWorked {C : Type 0} (answers : C → Answers) (s : ℕ) (part : PartState) (job : Job) : Type 0 where
   pub number : job.session.number ≡ s
   pub work : job.work.items ≡ part.work
   pub kinds : are_of_kinds part.work job.outcomes.items ≡ true
+  pub lawful : AreLawful answers (fresh_session s) part.work job.outcomes.items
   pub receipts : (h : ℕ) → receipts_at h job.session ≡ receipts_by h part.work job.outcomes.items
 
-pub record AreWorked (parts : List PartState) (jobs : List Job) : Type 0 where
+pub record AreWorked {C : Type 0} (answers : C → Answers) (parts : List PartState) (jobs : List Job) : Type 0 where
   pub count : length jobs ≡ length parts
-  pub each : (s : ℕ) (d : Job) → s < length parts → IsWorked s (part_at s parts) (slice_index_or jobs s d)
+  pub each : (s : ℕ) (d : Job) → s < length parts → IsWorked answers s (part_at s parts) (slice_index_or jobs s d)
 
 -- the same replies
 abbrev pub HaveReplies : List PartState → List PartState → Type 0
@@ -108,9 +111,9 @@ pub record IsToldOf (hives : ℕ) (parts : List PartState) (jobs : List Job) (ol
   pub told : IsTold hives (map (λ (j : Job). j.session) jobs) mid new
 
 -- all parts were worked on, and all was written
-pub record IsWorkedOn (hives : ℕ) (parts : List PartState) (old new : List ℕ) : Type 0 where
+pub record IsWorkedOn {C : Type 0} (answers : C → Answers) (hives : ℕ) (parts : List PartState) (old new : List ℕ) : Type 0 where
   pub jobs : List Job
   pub kept : List PartState
-  pub worked : AreWorked parts jobs
+  pub worked : AreWorked answers parts jobs
   pub same : HaveReplies parts kept
   pub told : IsToldOf hives kept jobs old new
