@@ -128,11 +128,11 @@ pub fn told_in(queues: &Vec<Queue>, session: u8) -> &[Notice]
 }
 
 /// How many of them it didn't take yet.
-pub fn kept_in(queues: &Vec<Queue>, session: u8) -> usize
+pub fn kept_in(queues: &Vec<Queue>, session: u8) -> u64
     ensures { result ≡ length (told_at queues.now.items session) - taken_at queues.now.items session }
 {
     match queues.get(session as usize) {
-        Some(queue) => queue.told.len().saturating_sub(queue.taken),
+        Some(queue) => queue.told.len().saturating_sub(queue.taken) as u64,
         None => 0,
     }
 }

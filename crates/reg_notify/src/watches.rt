@@ -104,7 +104,7 @@ impl Watches {
     }
 
     /// How many of these the session didn't take yet.
-    pub fn kept(&self, session: u8) -> usize
+    pub fn kept(&self, session: u8) -> u64
         ensures { result ≡ length (told_to self.now session) - taken_by self.now session }
     {
         kept_in(&self.table.queues, session)
