@@ -21,3 +21,4 @@ pub mod QuietChanges
 pub mod HandlesLead
 pub mod SharesOfHives
 pub mod LargestNumbers
+pub mod ToldNotices

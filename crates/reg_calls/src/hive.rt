@@ -168,6 +168,28 @@ impl<C: Callback> Hive<C> {
         self.core.pending()
     }
 
+    /// All notices that a session was told, in order, whether they were handed out or not. A number that is no session's was told none.
+    pub fn fired(&self, session: u8) -> &[Notice]
+        ensures { result.now ≡ told_in (view_of self.now) session }
+    {
+        self.core.fired(session)
+    }
+
+    /// How many of the notices that a session was told weren't handed out yet.
+    pub fn kept(&self, session: u8) -> u64
+        ensures { result + taken_by (view_of self.now).watches session ≡ length (told_in (view_of self.now) session) }
+    {
+        self.core.kept(session)
+    }
+
+    /// The next notice of a session, which [`Hive::take_notice`] hands out: the first of those that it was told that wasn't handed out
+    /// yet. `None` exactly where all were.
+    pub fn first_notice(&self, session: u8) -> Option<Notice>
+        ensures { result ≡ slice_get (told_in (view_of self.now) session) (taken_by (view_of self.now).watches session) }
+    {
+        self.core.first_notice(session)
+    }
+
     /// Hands a session its next notice: the first of those that it was told that wasn't handed out yet. `None` exactly where
     /// all were, as for a session that never asked for any. Takes no memory, and changes nothing but what is handed out next.
     pub fn take_notice(&mut self, session: u8) -> Option<Notice>

@@ -187,6 +187,27 @@ impl Core {
         self.store.watches.len()
     }
 
+    /// All notices that a session was told, in order.
+    pub fn fired(&self, session: u8) -> &[Notice]
+        ensures { result.now ≡ told_in self.now.view session }
+    {
+        self.store.watches.told(session)
+    }
+
+    /// How many of them it didn't take yet.
+    pub fn kept(&self, session: u8) -> u64
+        ensures { result + taken_by self.now.view.watches session ≡ length (told_in self.now.view session) }
+    {
+        self.store.watches.kept(session)
+    }
+
+    /// The first that it didn't take yet.
+    pub fn first_notice(&self, session: u8) -> Option<Notice>
+        ensures { result ≡ slice_get (told_in self.now.view session) (taken_by self.now.view.watches session) }
+    {
+        self.store.watches.first(session)
+    }
+
     /// The session's next notice, if it was told one more than it took.
     pub fn take_notice(&mut self, session: u8) -> Option<Notice>
         ensures notice { IsNoticeTaken self.old.view self.new.view session result }

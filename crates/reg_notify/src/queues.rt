@@ -117,6 +117,36 @@ pub fn push_all(queues: &mut Vec<Queue>, sent: &[Sent])
     }
 }
 
+/// All notices that a session was told, in order.
+pub fn told_in(queues: &Vec<Queue>, session: u8) -> &[Notice]
+    ensures { result.now ≡ told_at queues.now.items session }
+{
+    match queues.get(session as usize) {
+        Some(queue) => queue.told.as_slice(),
+        None => &[],
+    }
+}
+
+/// How many of them it didn't take yet.
+pub fn kept_in(queues: &Vec<Queue>, session: u8) -> u64
+    ensures { result ≡ length (told_at queues.now.items session) - taken_at queues.now.items session }
+{
+    match queues.get(session as usize) {
+        Some(queue) => queue.told.len().saturating_sub(queue.taken) as u64,
+        None => 0,
+    }
+}
+
+/// The first of those, which [`take_from`] takes.
+pub fn first_in(queues: &Vec<Queue>, session: u8) -> Option<Notice>
+    ensures { result ≡ slice_get (told_at queues.now.items session) (taken_at queues.now.items session) }
+{
+    match queues.get(session as usize) {
+        Some(queue) => queue.told.get(queue.taken).copied(),
+        None => None,
+    }
+}
+
 /// The session's next notice, if it was told one more than it took.
 pub fn take_from(queues: &mut Vec<Queue>, session: u8) -> Option<Notice>
     ensures notice { result ≡ slice_get (told_at queues.old.items session) (taken_at queues.old.items session) }

@@ -1,5 +1,5 @@
 //! The table of watches as its callers see it.
-ghost use Rattle.std.specs.Prelude.{◌≡◌, ◌+◌, ◌<◌, ◌≤◌, ◌==◌, ◌&&◌, ℕ, [], All, IfOk, OnOk, OnErr, if◌then◌else◌, is_some, length, slice_get};
+ghost use Rattle.std.specs.Prelude.{◌≡◌, ◌+◌, ◌-◌, ◌<◌, ◌≤◌, ◌==◌, ◌&&◌, ℕ, [], All, IfOk, OnOk, OnErr, if◌then◌else◌, is_some, length, slice_get};
 ghost use Rattle.reg_model.specs.declared.filters.TheConstants.{EVENTS};
 ghost use Rattle.reg_model.specs.declared.limits.TheConstants.{SESSIONS_LIMIT, WATCHES_LIMIT};
 ghost use Rattle.reg_model.specs.Causes.{watches_of};
@@ -7,7 +7,7 @@ ghost use Rattle.reg_notify.specs.Tables.{told_to, taken_by};
 ghost use Rattle.reg_notify.specs.Asked.{watch_in, ending_by, closing_by, Fires, Adds};
 
 use crate::asked::{Event, Registration, Removed};
-use crate::queues::take_from;
+use crate::queues::{first_in, kept_in, take_from, told_in};
 use crate::table::{Table, start_with};
 use reg_model::{Notice, Reason};
 use std::alloc::{AllocError, Global};
@@ -94,6 +94,27 @@ impl Watches {
         start_with(&mut self.start, handle);
         self.table.end_past_handle(&self.start, by, Reason::Closed);
         self.table.hand_out();
+    }
+
+    /// All notices that the session was told, in order. A number that is no session's was told none.
+    pub fn told(&self, session: u8) -> &[Notice]
+        ensures { result.now ≡ told_to self.now session }
+    {
+        told_in(&self.table.queues, session)
+    }
+
+    /// How many of these the session didn't take yet.
+    pub fn kept(&self, session: u8) -> u64
+        ensures { result ≡ length (told_to self.now session) - taken_by self.now session }
+    {
+        kept_in(&self.table.queues, session)
+    }
+
+    /// The first that the session didn't take yet, which [`Watches::take`] hands out.
+    pub fn first(&self, session: u8) -> Option<Notice>
+        ensures { result ≡ slice_get (told_to self.now session) (taken_by self.now session) }
+    {
+        first_in(&self.table.queues, session)
     }
 
     /// The session's next notice, if it was told one more than it took. Takes no memory.
