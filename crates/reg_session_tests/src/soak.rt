@@ -1,12 +1,11 @@
 //! Sixty-four sessions on threads of their own at sixteen hives, with calls taken at random. When all are gathered, each hive's journal, run
 //! again on one thread, is answered as it was, and leaves the same tree.
 use crate::asserts::assert_report;
+use crate::jobs::run;
 use reg_callbacks::NoCallback;
 use reg_calls::{Hive, SeatedHive};
 use reg_model::{Bytes, Call, Change, Query};
-use reg_sessions::{
-    Ask, Audit, Job, OpenGate, Registry, Session, Work, are_ready, drive, gather, start,
-};
+use reg_sessions::{Ask, Audit, Job, OpenGate, Registry, Session, Work, gather, start};
 use reg_tree::Tree;
 use reg_tree_text::dump;
 use reg_workload::Chance;
@@ -192,10 +191,7 @@ fn driven<Rt: Threads + Wait + Sync>(
     jobs: Vec<Job>,
 ) -> Result<Vec<Session>, Fail> {
     let mut jobs = jobs;
-    if !are_ready(jobs.as_slice(), registry.hives()) {
-        return Err("the jobs are not ready".into());
-    }
-    drive(rt, registry, jobs.as_mut_slice(), &OpenGate)?;
+    run(rt, registry, &mut jobs, &OpenGate)?;
     let mut sessions = Vec::new(alloc);
     for job in jobs {
         let Job {
