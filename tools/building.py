@@ -271,6 +271,22 @@ def build(program, at_once=None, out=sys.stdout):
         work.link()
 
 
+@contextmanager
+def room_of(crate):
+    """The folder of a copy of a crate, where `rt` finds the libraries below it, which are proved and built first where they aren't."""
+    with rooms_of() as rooms:
+        try:
+            Build(crate, checks_at_once(), rooms, sys.stderr).libraries()
+        except Failed as why:
+            raise Untried(why) from None
+        room = Room(rooms, crate)
+        room.fill()
+        try:
+            yield room.folder
+        finally:
+            room.empty(False)
+
+
 def built(program):
     """The path of a program as LLVM builds it, which is proved and built first where it isn't there."""
     path = f"{folder_of(program)}/out/{program}"

@@ -1,19 +1,24 @@
-//! Measures what calls of the libraries cost that the tool can't show: cells, a tree's memory, and calls of a hive beside plain maps,
-//! at two sizes, with watches and with callbacks.
+//! Measures what calls of the libraries cost that the tool can't show: cells, a tree's memory, calls of a hive beside plain maps, at two
+//! sizes, with watches and with callbacks, and calls of sessions, on one thread and on several.
 //!
 //! `reg_bench measure SUBJECT` prints the mean time of a call for each row of a subject, beside the same calls on plain maps or on
-//! another hive; the subjects are `arena`, `maps`, `sizes`, `watches` and `callbacks`. `reg_bench memory` makes a tree of 180,000 keys
-//! and prints how many bytes its bins have; the system tells the process's memory. Without an argument everything is done with a few
-//! keys, and counts are printed alone, which are the same on every run.
+//! another hive, or of sessions on threads how many calls a second are answered, beside those of one session. The subjects are `arena`,
+//! `maps`, `sizes`, `watches`, `callbacks` and `sessions`. `reg_bench memory tree` makes a tree of 180,000 keys and prints how many bytes
+//! its bins have; `memory session` has a session make 1,000,000 changes, `memory hive` makes them without one. The system tells the
+//! process's memory. Without an argument everything is done with a few keys, and counts are printed alone, which are the same on every run.
 //!
 //! A row is a [`row::Row`]: a [`step::Step`] on the keys of a [`place::Place`], whose calls a [`stage::Stage`] answers. One loop times
 //! all of them. Whatever works on a hive is generic in a [`reg_fixtures::Registry`], which is checked without all that a hive is made
-//! of.
+//! of. Sessions have rows of their own: [`alone`] on this thread, [`crew`] on several, [`receipts`] for memory.
 #![tactic(auto)]
 
+mod act;
+mod alone;
 mod calls;
 mod cells;
+mod crew;
 mod place;
+mod receipts;
 mod row;
 mod rows;
 mod stage;
@@ -28,12 +33,17 @@ use reg_fixtures::{PlainHive, Registry};
 use std::alloc::Global;
 use std::env;
 use std::rt::Clock;
+use std::sync::Wait;
+use std::thread::Threads;
 
 /// What is measured.
-const SUBJECTS: [&str; 5] = ["arena", "maps", "sizes", "watches", "callbacks"];
+const SUBJECTS: [&str; 6] = ["arena", "maps", "sizes", "watches", "callbacks", "sessions"];
 
 /// How many callbacks are registered.
 const CALLBACKS: u32 = 64;
+
+/// How many changes are made whose memory is told.
+const CHANGES: u32 = 1_000_000;
 
 /// Registers callbacks, each at an altitude of its own.
 fn register_all<C: Callback>(hive: &mut Hive<C>, callbacks: Vec<C>) -> Result<()> {
@@ -76,9 +86,18 @@ fn run_with_callbacks(rt: &(impl Print + Clock), alloc: Global, takes_time: bool
     Ok(())
 }
 
+fn run_sessions<H: Registry>(
+    rt: &(impl Print + Clock + Threads + Wait + Sync),
+    alloc: Global,
+    takes_time: bool,
+) -> Result<()> {
+    alone::run::<H>(rt, alloc, takes_time)?;
+    crew::run(rt, alloc, takes_time)
+}
+
 /// Does the rows of a subject.
 fn run_subject<H: Registry>(
-    rt: &(impl Print + Clock),
+    rt: &(impl Print + Clock + Threads + Wait + Sync),
     alloc: Global,
     subject: &str,
     takes_time: bool,
@@ -94,7 +113,8 @@ fn run_subject<H: Registry>(
         "sizes" => rows::at_two_sizes(alloc)?,
         "watches" => rows::with_watches(alloc)?,
         "callbacks" => return run_with_callbacks(rt, alloc, takes_time),
-        _ => bail!("the subjects are: arena, maps, sizes, watches, callbacks"),
+        "sessions" => return run_sessions::<H>(rt, alloc, takes_time),
+        _ => bail!("the subjects are: arena, maps, sizes, watches, callbacks, sessions"),
     };
     for row in rows.iter() {
         row.run(rt, alloc, &mut Stage::<H>::hive(alloc)?, takes_time)?;
@@ -102,9 +122,27 @@ fn run_subject<H: Registry>(
     Ok(())
 }
 
+/// Makes something large, of which the system tells the memory.
+fn run_memory<H: Registry>(rt: &(impl Print + Wait), alloc: Global, what: &str) -> Result<()> {
+    match what {
+        "tree" => cells::fill_tree(rt, alloc, 180_000),
+        "session" => {
+            receipts::print_sizes(rt)?;
+            receipts::fill_session(rt, alloc, CHANGES)
+        }
+        "hive" => receipts::fill_hive::<H>(rt, alloc, CHANGES),
+        _ => bail!("what has memory: tree, session, hive"),
+    }
+}
+
 /// Does everything with a few keys.
-fn run_small<H: Registry>(rt: &(impl Print + Clock), alloc: Global) -> Result<()> {
+fn run_small<H: Registry>(
+    rt: &(impl Print + Clock + Threads + Wait + Sync),
+    alloc: Global,
+) -> Result<()> {
     cells::fill_tree(rt, alloc, 12)?;
+    receipts::fill_session(rt, alloc, 12)?;
+    receipts::fill_hive::<H>(rt, alloc, 12)?;
     for subject in SUBJECTS {
         run_subject::<H>(rt, alloc, subject, false)?;
     }
@@ -118,14 +156,12 @@ fn main(rt: HostRuntime) -> Result<()> {
     let Some(word) = words.next() else {
         return run_small::<PlainHive>(&rt, alloc);
     };
-    if word.as_str() == "memory" {
-        return cells::fill_tree(&rt, alloc, 180_000);
-    }
-    if word.as_str() != "measure" {
-        bail!("the words are: measure SUBJECT, memory");
-    }
-    let Some(subject) = words.next() else {
-        bail!("a subject is missing: measure SUBJECT");
+    let Some(what) = words.next() else {
+        bail!("the words are: measure SUBJECT, memory WHAT");
     };
-    run_subject::<PlainHive>(&rt, alloc, subject.as_str(), true)
+    match word.as_str() {
+        "measure" => run_subject::<PlainHive>(&rt, alloc, what.as_str(), true),
+        "memory" => run_memory::<PlainHive>(&rt, alloc, what.as_str()),
+        _ => bail!("the words are: measure SUBJECT, memory WHAT"),
+    }
 }

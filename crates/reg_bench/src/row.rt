@@ -12,7 +12,7 @@ use std::rt::Clock;
 use std::time::{Duration, Instant};
 
 /// On how many keys calls are made between two readings of the clock. A session is to have so many more handles than a place has.
-const BATCH: u32 = 100;
+pub const BATCH: u32 = 100;
 
 /// On how many keys calls are made where nothing else is said.
 const CALLS: u32 = 32_000;
@@ -35,9 +35,25 @@ pub struct Row {
 
 /// How long the calls took on the hive, and on what stands beside.
 #[derive(Clone, Copy)]
-struct Times {
-    ours: Duration,
-    beside: Duration,
+pub struct Times {
+    pub ours: Duration,
+    pub beside: Duration,
+}
+
+impl Times {
+    /// No time yet.
+    pub fn none() -> Times {
+        Times {
+            ours: Duration::ZERO,
+            beside: Duration::ZERO,
+        }
+    }
+
+    /// Adds what more calls took on both.
+    pub fn add(&mut self, ours: Duration, beside: Duration) {
+        self.ours = self.ours.saturating_add(ours);
+        self.beside = self.beside.saturating_add(beside);
+    }
 }
 
 impl Row {
@@ -123,15 +139,10 @@ impl Row {
         let other = self.other.unwrap_or(self.place);
         self.place.fill(alloc, hive)?;
         other.fill(alloc, beside)?;
-        let mut times = Times {
-            ours: Duration::ZERO,
-            beside: Duration::ZERO,
-        };
+        let mut times = Times::none();
         for batch in 0..self.calls.div_ceil(BATCH) {
             let time = self.time_batch(rt, alloc, hive, self.place, batch)?;
-            times.ours = times.ours.saturating_add(time);
-            let time = self.time_batch(rt, alloc, beside, other, batch)?;
-            times.beside = times.beside.saturating_add(time);
+            times.add(time, self.time_batch(rt, alloc, beside, other, batch)?);
         }
         Ok(times)
     }
@@ -184,7 +195,8 @@ impl Row {
     }
 }
 
-fn time_calls<H: Registry>(
+/// Makes calls, and answers how long they take.
+pub fn time_calls<H: Registry>(
     rt: &impl Clock,
     stage: &mut Stage<H>,
     calls: Vec<Call>,

@@ -14,6 +14,11 @@ pub enum Stage<H> {
     Maps(PlainMaps),
 }
 
+/// Whether a question was answered.
+pub fn is_answered(body: &AnswerBody) -> bool {
+    !matches!(body, AnswerBody::Refused { .. } | AnswerBody::Short { .. })
+}
+
 impl<H: Registry> Stage<H> {
     /// A hive of one root, in which nothing was changed.
     pub fn hive(alloc: Global) -> Result<Stage<H>> {
@@ -52,12 +57,10 @@ impl<H: Registry> Stage<H> {
             Stage::Hive(hive) => hive.read(0, query).body,
             Stage::Maps(maps) => maps.read(query)?,
         };
-        match &body {
-            AnswerBody::Refused { .. } | AnswerBody::Short { .. } => {
-                bail!("a question was refused")
-            }
-            _ => Ok(()),
+        if !is_answered(&body) {
+            bail!("a question was refused");
         }
+        Ok(())
     }
 
     /// Makes calls of session 0, each of which is accepted.

@@ -21,6 +21,15 @@ const SESSIONS: u8 = 64;
 /// How many calls each session makes.
 const CALLS: u32 = 100;
 
+/// The first seed: session 0 has it, and each other session the one after that of the session before.
+const SEED: u64 = 0;
+
+/// How often all is done, with seeds of its own each time. `tools/soak` has other numbers for these three.
+const ROUNDS: u64 = 1;
+
+/// What is told where all is well.
+const WELL: &str = "16 hives, many entries true";
+
 /// The names of keys, and of values.
 const NAMES: [&str; 6] = [
     "Alpha",
@@ -149,9 +158,9 @@ fn handles<Rt: Wait>(
     Ok(all)
 }
 
-/// The work of one session, by its handle at each hive.
-fn works(alloc: Global, number: u8, handles: &[u64]) -> Result<Vec<Work>, Fail> {
-    let mut chance = Chance::new(u64::from(number));
+/// The work of one session with its seed, by its handle at each hive.
+fn works(alloc: Global, seed: u64, handles: &[u64]) -> Result<Vec<Work>, Fail> {
+    let mut chance = Chance::new(seed);
     let mut all = Vec::new(alloc);
     for call in 0..CALLS {
         let hive = chance.below(handles.len());
@@ -167,13 +176,15 @@ fn jobs<Rt: Wait>(
     rt: &Rt,
     alloc: Global,
     registry: &Registry,
+    seed: u64,
     sessions: Vec<Session>,
 ) -> Result<Vec<Job>, Fail> {
     let mut jobs = Vec::new(alloc);
     for session in sessions {
         let mut session = session;
         let handles = handles(rt, alloc, registry, &mut session)?;
-        let work = works(alloc, session.number(), handles.as_slice())?;
+        let seed = seed.wrapping_add(u64::from(session.number()));
+        let work = works(alloc, seed, handles.as_slice())?;
         jobs.push(Job {
             session,
             work,
@@ -259,23 +270,35 @@ fn tell(alloc: Global, audit: &Audit) -> Result<String, Fail> {
     Ok(format!(in alloc; "{same} hives, many entries {}", entries > 1_500)?)
 }
 
-fn told<Rt: Threads + Wait + Sync>(rt: &Rt, alloc: Global) -> Result<String, Fail> {
+fn told<Rt: Threads + Wait + Sync>(rt: &Rt, alloc: Global, seed: u64) -> Result<String, Fail> {
     let mut hives = Vec::new(alloc);
     for _hive in 0..HIVES {
         hives.push(hive(alloc)?)?;
     }
     let (registry, sessions) = start(alloc, hives, SESSIONS)?;
-    let jobs = jobs(rt, alloc, &registry, sessions)?;
+    let jobs = jobs(rt, alloc, &registry, seed, sessions)?;
     let sessions = driven(rt, alloc, &registry, jobs)?;
     match gather(registry, sessions) {
         Ok(audit) => tell(alloc, &audit),
-        Err(_) => Err("not gathered".into()),
+        Err(_) => Ok(format!(in alloc; "not gathered")?),
     }
+}
+
+/// What a round tells in which not all is well, with its seed, or else that all is.
+fn told_of_rounds<Rt: Threads + Wait + Sync>(rt: &Rt, alloc: Global) -> Result<String, Fail> {
+    for round in 0..ROUNDS {
+        let seed = SEED.wrapping_add(round.wrapping_mul(u64::from(SESSIONS)));
+        let text = told(rt, alloc, seed)?;
+        if text.as_str() != WELL {
+            return Ok(format!(in alloc; "{}, of seed {seed}", text.as_str())?);
+        }
+    }
+    Ok(format!(in alloc; "{WELL}")?)
 }
 
 #[test]
 fn sessions_at_random_are_gathered_and_each_hive_is_its_journals(
     rt: HostRuntime,
 ) -> Result<(), Fail> {
-    assert_report(told(&rt, rt.alloc()), "16 hives, many entries true")
+    assert_report(told_of_rounds(&rt, rt.alloc()), WELL)
 }
