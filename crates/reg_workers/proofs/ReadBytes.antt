@@ -1,10 +1,10 @@
 -- A script's bytes, taken one after another.
-use Rattle.std.proofs.Common.{◌≡◌, ◌≢◌, ◌⊎◌, ℕ, ◌+◌, ◌*◌, ◌<◌, ◌≤◌, List, [], ◌∷◌, ◌++◌, ◌-◌, length, take, drop, Option, refl, sym, ap, subst, ◌∙◌, inl, inr, arith, append-nil, append_assoc}
+use Rattle.std.proofs.Common.{◌≡◌, ◌⊎◌, ℕ, ◌+◌, ◌<◌, ◌≤◌, List, [], ◌∷◌, ◌++◌, ◌-◌, length, take, drop, Option, refl, sym, ap, subst, ◌∙◌, inl, inr, arith, append-nil, append_assoc}
 use Rattle.std.specs.List.{AllByRecursion}
 use Rattle.std.specs.Io.KnownBytes.{Consumes}
 use Rattle.std.proofs.lemmas.List.{length-append, take_rest}
 use Rattle.reg_script.specs.declared.engine.ScriptFault.{ScriptFault}
-use Rattle.reg_script.specs.declared.engine.ScriptFault.TheVariants.{Read, Write, TooLong, Memory}
+use Rattle.reg_script.specs.declared.engine.ScriptFault.TheVariants.{Read, TooLong, Memory}
 use Rattle.reg_script.specs.LineWords.{lines_of}
 use Rattle.reg_script.specs.Stops.{longest_line, most_lines, HasNoFeed, AreWithin, PassesBound}
 use Rattle.reg_script.specs.Internal.Progress.{with_feeds, IsLine, JoinsWithin, IsPartFault}

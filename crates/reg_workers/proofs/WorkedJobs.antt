@@ -1,10 +1,9 @@
 -- Jobs that are made of parts, and run.
-use Rattle.std.proofs.Common.{◌≡◌, ◌+◌, ◌<◌, ◌≤◌, ◌==◌, ℕ, zero, suc, Bool, true, false, List, [], ◌∷◌, ◌++◌, length, get_or, set, take, drop, nat_lt, slice_index_or, if◌then◌else◌, unwrap_or, refl, sym, ap, subst, ◌∙◌, inl, inr, arith, drop-cons, add-one}
+use Rattle.std.proofs.Common.{◌≡◌, ◌+◌, ◌<◌, ◌≤◌, ◌==◌, ℕ, zero, suc, Bool, true, false, List, [], ◌∷◌, ◌++◌, length, get_or, set, take, drop, nat_lt, if◌then◌else◌, unwrap_or, refl, sym, ap, subst, ◌∙◌, inl, inr, arith, drop-cons, add-one}
 use Rattle.std.proofs.lemmas.List.{get_or-set_same, get_or-set_other, get_or_append_left, get_or_default}
 use Rattle.std.proofs.lemmas.Bool.{cases_eq, cases_lt}
 use Rattle.std.proofs.lemmas.Bool.Decides.{nat_tests}
 use Rattle.std.proofs.Math.Seq.{get_or-append_seam}
-use Rattle.std.proofs.Math.ListN.{get_or-eq_default}
 use Rattle.reg_callbacks.specs.Asking.{Answers}
 use Rattle.reg_journal.specs.Kept.{Seat, seat}
 use Rattle.reg_model.specs.declared.reply.Receipt.{Receipt}
@@ -15,7 +14,7 @@ use Rattle.reg_sessions.specs.declared.job.Work.{Work}
 use Rattle.reg_sessions.specs.declared.job.Done.{Done}
 use Rattle.reg_sessions.specs.declared.job.Job.{Job}
 use Rattle.reg_sessions.specs.Sessions.{SessionState, IsFresh, no_session, session_of, receipts_at, mark_at}
-use Rattle.reg_sessions.specs.Jobs.{AreReady, IsReady, AreWithin, IsDone, IsLawfulDone, AreLawful, are_of_kinds, receipts_by, mark_by}
+use Rattle.reg_sessions.specs.Jobs.{AreReady, AreWithin, IsDone, IsLawfulDone, AreLawful, are_of_kinds, receipts_by, mark_by}
 use Rattle.reg_workers.specs.Tasks.{Settings, first_settings, set_by, Task, bad_line, works, task_of, tasks_of, works_of}
 use Rattle.reg_workers.specs.Workers.{fresh_session}
 use Rattle.reg_workers.specs.Internal.Parts.{PartState, no_part, part_of, part_at}
@@ -169,7 +168,7 @@ lawful_from : {C : Type 0} (answers : C → Answers) (session : SessionState) (s
     AreLawful answers (fresh_session s) work done
 lawful_from answers session s work done is none zeros all i w d asked told =
     let seats : seat session.number (length (receipts_at w.hive session ++ receipts_by w.hive (take i work) (take i done)))
-        ≡ seat s (length (receipts_by w.hive (take i work) (take i done))) =
+    ≡ seat s (length (receipts_by w.hive (take i work) (take i done))) =
     ap (λ (n : ℕ). seat n (length (receipts_at w.hive session ++ receipts_by w.hive (take i work) (take i done)))) is
     ∙ ap (λ (rs : List Receipt). seat s (length (rs ++ receipts_by w.hive (take i work) (take i done)))) (none w.hive) in
     subst (λ (m : ℕ). IsLawfulDone answers (seat s (length (receipts_by w.hive (take i work) (take i done))))

@@ -1,5 +1,5 @@
 -- How a run of workers ends.
-use Rattle.std.proofs.Common.{◌≡◌, ◌+◌, ◌≤◌, ℕ, List, [], ◌++◌, length, take, Option, refl, sym, ap, subst, ◌∙◌, arith}
+use Rattle.std.proofs.Common.{◌≡◌, ℕ, List, [], ◌++◌, Option, ap, subst, ◌∙◌, arith}
 use Rattle.std.specs.Io.KnownBytes.{Appends, Consumes, IsAtEnd}
 use Rattle.reg_text.specs.Outputs.{IsCut}
 use Rattle.reg_script.specs.declared.engine.ScriptFault.{ScriptFault}
@@ -7,7 +7,7 @@ use Rattle.reg_script.specs.declared.engine.ScriptFault.TheVariants.{Read, Write
 use Rattle.reg_script.specs.LineWords.{lines_of}
 use Rattle.reg_script.specs.Stops.{IsTaken}
 use Rattle.reg_workers.specs.declared.plan.Plan.{Plan}
-use Rattle.reg_workers.specs.Workers.{WritesWorkers, RunsWorkers, StopsBefore, StopsWriting, WorkersStop}
+use Rattle.reg_workers.specs.Workers.{WritesWorkers, RunsWorkers, StopsBefore, WorkersStop}
 use Rattle.reg_workers.specs.Internal.Readings.{IsWhole, EndsEarly, StopsReading}
 use Rattle.reg_workers.proofs.ReadBytes.{no_memory}
 

@@ -1,5 +1,5 @@
 -- Replies, one after another.
-use Rattle.std.proofs.Common.{◌≡◌, ◌+◌, ◌-◌, ◌<◌, ◌&&◌, ℕ, zero, suc, Bool, true, false, List, [], ◌∷◌, ◌++◌, codes, length, map, get_or, drop, take, refl, sym, ap, subst, ◌∙◌, arith, append-nil, append_assoc, drop-cons, length-drop, add-one}
+use Rattle.std.proofs.Common.{◌≡◌, ◌+◌, ◌<◌, ◌&&◌, ℕ, zero, suc, Bool, true, false, List, [], ◌∷◌, ◌++◌, codes, length, get_or, drop, take, refl, sym, ap, subst, ◌∙◌, arith, append-nil, append_assoc, drop-cons, length-drop, add-one}
 use Rattle.std.specs.Fmt.{decimal}
 use Rattle.std.proofs.lemmas.List.{take_more}
 use Rattle.reg_text.specs.Texts.{line_feed}

@@ -1,6 +1,6 @@
 -- What was written is a text of the lines' sessions.
-use Rattle.std.proofs.Common.{◌≡◌, ◌≢◌, ◌+◌, ◌<◌, ◌≤◌, ℕ, zero, suc, Bool, true, false, List, [], ◌∷◌, ◌++◌, codes, length, map, get_or, take, sum_by, slice_get, refl, sym, ap, subst, ◌∙◌, inl, inr, arith, append-nil, append_assoc, add-one}
-use Rattle.std.proofs.lemmas.List.{take_more, get_or_default, length-map}
+use Rattle.std.proofs.Common.{◌≡◌, ◌≢◌, ◌<◌, ◌≤◌, ℕ, zero, suc, Bool, true, false, List, [], ◌∷◌, ◌++◌, codes, length, map, get_or, take, sum_by, slice_get, refl, sym, ap, subst, ◌∙◌, inl, inr, arith, append_assoc, add-one}
+use Rattle.std.proofs.lemmas.List.{take_more, length-map}
 use Rattle.std.proofs.lemmas.Bool.{cases_lt}
 use Rattle.std.proofs.lemmas.List.Sums.{sum_by-append}
 use Rattle.std.proofs.Math.ListN.{get_or-eq_default}
@@ -17,12 +17,10 @@ use Rattle.reg_sessions.specs.Sessions.{SessionState, AreInOrder, no_session, se
 use Rattle.reg_sessions.specs.Jobs.{are_of_kinds, receipts_by, AreLawful}
 use Rattle.reg_sessions.specs.Gathering.{IsMismatch, IsAudited, journal_at}
 use Rattle.reg_workers.specs.declared.part.Reply.{Reply}
-use Rattle.reg_workers.specs.declared.plan.Plan.{Plan}
 use Rattle.reg_workers.specs.Tasks.{first_settings, Task, bad_line, works, tasks_of, works_of, sessions_of}
 use Rattle.reg_workers.specs.Texts.{reply_text, replies_text, session_text, sessions_text, entries_text, end_text}
-use Rattle.reg_workers.specs.Workers.{accepted_at, Differs, IsEnd, fresh_session, no_answers, WritesWorkers}
+use Rattle.reg_workers.specs.Workers.{accepted_at, IsEnd, fresh_session, no_answers, WritesWorkers}
 use Rattle.reg_workers.specs.Internal.Parts.{PartState, no_part, reply_of, part_of, part_at}
-use Rattle.reg_workers.specs.Internal.Plans.{IsPlanOf}
 use Rattle.reg_workers.specs.Internal.Working.{AreWorked, IsWorked, HaveReplies, works_among, replies_by, session_by, work_at, done_at, sessions_by, IsWritable, entries_of, IsGatheredSo, IsTold, IsToldOf}
 use Rattle.reg_workers.proofs.WrittenReplies.{work_at_is, done_at_is, entries_at, entries_long}
 use Rattle.reg_workers.proofs.WorkedJobs.{job_there}

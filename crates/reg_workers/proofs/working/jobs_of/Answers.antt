@@ -1,5 +1,5 @@
-use Rattle.std.proofs.Common.{◌≡◌, ◌+◌, ◌<◌, ◌∙◌, ℕ, length, sym, arith, rules}
-use Rattle.std.specs.Vec.Iter.{into_iter_items, into_iter_len}
+use Rattle.std.proofs.Common.{◌<◌, ◌∙◌, ℕ, length, sym, arith, rules}
+use Rattle.std.specs.Vec.Iter.{into_iter_items}
 use Rattle.reg_sessions.specs.declared.job.Job.{Job}
 use Rattle.reg_sessions.specs.Sessions.{session_of}
 use Rattle.reg_workers.specs.Internal.Parts.{part_at}

@@ -1,7 +1,6 @@
-use Rattle.std.proofs.Common.{◌+◌, ◌∙◌, ℕ, List, length, get_or, sym, subst}
-use Rattle.reg_sessions.specs.declared.job.Job.{Job}
-use Rattle.reg_workers.specs.Internal.Parts.{PartState, part_at}
-use Rattle.reg_workers.specs.Internal.Working.{HaveReplies, IsWritable}
+use Rattle.std.proofs.Common.{List, sym, subst}
+use Rattle.reg_workers.specs.Internal.Parts.{PartState}
+use Rattle.reg_workers.specs.Internal.Working.{HaveReplies}
 use Rattle.reg_workers.proofs.WrittenTexts.{writable}
 use Rattle.reg_workers.proofs.working.work_on.Goals as goal
 

@@ -1,4 +1,4 @@
-use Rattle.std.proofs.Common.{take, drop, ◌+◌}
+use Rattle.std.proofs.Common.{take}
 use Rattle.reg_script.proofs.FailedCalls.{if_err}
 use Rattle.reg_script.proofs.ScriptParts.{fed-at, not-fed}
 use Rattle.reg_workers.proofs.ReadBytes.{read_part, cut_part, front_none, front_line, front_all, cut_in, cut_at, cut_all}
