@@ -2,8 +2,9 @@
 //! stand there.
 //!
 //! `data/` has the cases, and copies of the pages and of the files that they name; `data/cases/README.md` says how a case is written. All
-//! run on files of the system, by `file_tool` of reg_files. A line tells each that isn't as wanted, and at the end stands how many there
-//! were. No clause says what a file holds, so these functions are proved to be safe, and what they print is compared by the gate.
+//! run on files of the system, by `file_tool` of reg_files; a script of one session is run once more, by one worker. A line tells each
+//! that isn't as wanted, and at the end stands how many there were. No clause says what a file holds, so these functions are proved to be
+//! safe, and what they print is compared by the gate.
 #![tactic(auto)]
 
 mod bins;
@@ -21,6 +22,7 @@ mod shown;
 mod steps;
 mod themes;
 mod verbs;
+mod workers;
 
 use crate::pages::run_page;
 use crate::themes::run_themes;

@@ -78,7 +78,15 @@ pub fn tool(rt: &HostRuntime, command: &CommandLine, given: &Given) -> Result<Ou
     let mut errors = Vec::new(alloc);
     let mut device = Device::new(&mut output);
     let words = command.words.clone()?;
-    let status = file_tool(alloc, &host, words, &mut input, &mut device, &mut errors);
+    let status = file_tool(
+        rt,
+        alloc,
+        &host,
+        words,
+        &mut input,
+        &mut device,
+        &mut errors,
+    );
     Ok(Outcome {
         status,
         reads: input.calls,

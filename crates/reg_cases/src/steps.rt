@@ -8,6 +8,7 @@ use crate::repeats::{filled, written_out};
 use crate::shown::difference;
 use crate::verbs::{Scene, perform};
 use anyhow::Result;
+use std::alloc::Global;
 use std::fs::{File, Permissions};
 use std::os::unix::fs::PermissionsExt;
 use std::{env, fs};
@@ -62,6 +63,13 @@ fn fault_in(rt: &HostRuntime, given: &Given, outcome: &Outcome) -> Result<Option
     Ok(Some(format!(in alloc; "wanted status {status}, came {came}")?))
 }
 
+/// What is wrong with a call of the tool; `None` where all is as wanted.
+pub fn fault_of_call(rt: &HostRuntime, line: &str, given: &Given) -> Result<Option<String>> {
+    let command = read_line(rt.alloc(), line)?;
+    let outcome = tool(rt, &command, given)?;
+    fault_in(rt, given, &outcome)
+}
+
 /// What is wrong with a step; `None` where all is as wanted.
 fn fault_of_step(
     rt: &HostRuntime,
@@ -77,7 +85,7 @@ fn fault_of_step(
 }
 
 /// A fault with its step: the line's number, the command line, and the row if there is one.
-fn told(rt: &HostRuntime, step: &Step<'_>, row: &str, fault: &str) -> Result<String> {
+pub fn told(rt: &HostRuntime, step: &Step<'_>, row: &str, fault: &str) -> Result<String> {
     let (number, line) = (step.number, step.line);
     if row.is_empty() {
         return Ok(format!(in rt.alloc(); "{number}: {line}: {fault}")?);
@@ -85,15 +93,19 @@ fn told(rt: &HostRuntime, step: &Step<'_>, row: &str, fault: &str) -> Result<Str
     Ok(format!(in rt.alloc(); "{number}: {line} ({row}): {fault}")?)
 }
 
+/// The parts of a row; the empty row has none.
+pub fn parts_of<'a>(alloc: Global, row: &'a str) -> Result<Vec<&'a str>> {
+    if row.is_empty() {
+        return Ok(Vec::new(alloc));
+    }
+    Ok(row.split(BETWEEN).collect(alloc)?)
+}
+
 /// Runs the steps of a case up to the first at which something is wrong, and tells that.
 fn fault_of_steps(rt: &HostRuntime, case: &Case<'_>, row: &str) -> Result<Option<String>> {
     let alloc = rt.alloc();
     let mut scene = Scene::new(alloc);
-    let parts: Vec<&str> = if row.is_empty() {
-        Vec::new(alloc)
-    } else {
-        row.split(BETWEEN).collect(alloc)?
-    };
+    let parts = parts_of(alloc, row)?;
     for step in &case.steps {
         match fault_of_step(rt, step, &parts, &mut scene) {
             Ok(None) => {}

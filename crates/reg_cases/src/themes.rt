@@ -2,6 +2,7 @@
 
 use crate::cases::cases_in;
 use crate::steps::run_case;
+use crate::workers::run_again;
 use anyhow::{Context, Result};
 use std::fs;
 
@@ -18,6 +19,38 @@ pub struct Counts {
     pub cases: u32,
     /// How many weren't as wanted.
     pub wrong: u32,
+    /// How many of their scripts were run once more, by one worker.
+    pub scripts: u32,
+    /// How many of these weren't as wanted.
+    pub astray: u32,
+}
+
+impl Counts {
+    /// Nothing counted yet.
+    const NONE: Counts = Counts {
+        cases: 0,
+        wrong: 0,
+        scripts: 0,
+        astray: 0,
+    };
+
+    /// Adds those of a part.
+    fn add(&mut self, part: Counts) {
+        self.cases = self.cases.saturating_add(part.cases);
+        self.wrong = self.wrong.saturating_add(part.wrong);
+        self.scripts = self.scripts.saturating_add(part.scripts);
+        self.astray = self.astray.saturating_add(part.astray);
+    }
+}
+
+/// Tells faults, a line each, behind the file's name, and answers how many there are.
+fn tell(rt: &HostRuntime, path: &str, faults: &[String]) -> Result<u32> {
+    let mut count = 0u32;
+    for fault in faults {
+        println!(rt; "{path}:{}", fault.as_str())?;
+        count = count.saturating_add(1);
+    }
+    Ok(count)
 }
 
 /// The paths of what is in a folder, in order.
@@ -38,37 +71,40 @@ fn run_file(rt: &HostRuntime, path: &str) -> Result<Counts> {
     let alloc = rt.alloc();
     let text = fs::read_to_string(rt, path).context(format_args!("reading {path}"))?;
     let cases = cases_in(alloc, text.as_str()).context(format_args!("reading {path}"))?;
-    let mut counts = Counts { cases: 0, wrong: 0 };
+    let mut counts = Counts::NONE;
     for case in &cases {
         let (faults, runs) = run_case(rt, case).context(format_args!(
             "{path}, the case of line {}",
             case.number
         ))?;
-        counts.cases = counts.cases.saturating_add(runs);
-        for fault in &faults {
-            println!(rt; "{path}:{}", fault.as_str())?;
-            counts.wrong = counts.wrong.saturating_add(1);
-        }
+        let (others, scripts) = run_again(rt, case).context(format_args!(
+            "{path}, the case of line {} by one worker",
+            case.number
+        ))?;
+        counts.add(Counts {
+            cases: runs,
+            wrong: tell(rt, path, &faults)?,
+            scripts,
+            astray: tell(rt, path, &others)?,
+        });
     }
     Ok(counts)
 }
 
 /// Runs the cases of a theme.
 fn run_theme(rt: &HostRuntime, folder: &str) -> Result<Counts> {
-    let mut counts = Counts { cases: 0, wrong: 0 };
+    let mut counts = Counts::NONE;
     for path in &paths_in(rt, folder)? {
         if path.as_str().ends_with(ENDING) {
-            let file = run_file(rt, path.as_str())?;
-            counts.cases = counts.cases.saturating_add(file.cases);
-            counts.wrong = counts.wrong.saturating_add(file.wrong);
+            counts.add(run_file(rt, path.as_str())?);
         }
     }
     Ok(counts)
 }
 
-/// Runs the cases of all themes, tells how many each has, and answers how many weren't as wanted.
+/// Runs the cases of all themes, tells how many each has and how many scripts ran once more, and answers how many weren't as wanted.
 pub fn run_themes(rt: &HostRuntime) -> Result<u32> {
-    let mut wrong = 0u32;
+    let mut all = Counts::NONE;
     for path in &paths_in(rt, THEMES)? {
         if path.as_str().ends_with(".md") {
             continue;
@@ -80,7 +116,11 @@ pub fn run_themes(rt: &HostRuntime) -> Result<u32> {
             counts.cases,
             counts.wrong
         )?;
-        wrong = wrong.saturating_add(counts.wrong);
+        all.add(counts);
     }
-    Ok(wrong)
+    println!(rt;
+        "workers: {} scripts again, {} not as wanted",
+        all.scripts, all.astray
+    )?;
+    Ok(all.wrong.saturating_add(all.astray))
 }

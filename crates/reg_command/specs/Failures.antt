@@ -13,8 +13,9 @@ use Rattle.reg_tree_image.specs.declared.LoadFault.{LoadFault}
 use Rattle.reg_tree_image.specs.Loads.{ReadsImage, MeetsFault}
 use Rattle.reg_words.specs.CommandLines.{AsksNoStream, IsCommandLine}
 use Rattle.reg_words.specs.declared.request.StreamRequest.{StreamRequest}
-use Rattle.reg_words.specs.declared.request.StreamRequest.TheVariants.{Run, Image, Dump, Check}
+use Rattle.reg_words.specs.declared.request.StreamRequest.TheVariants.{Run, Image, Workers, Dump, Check}
 use Rattle.reg_words.specs.declared.request.Request.TheVariants.{Stream}
+use Rattle.reg_workers.specs.Workers.{RunsWorkers, WorkersStop}
 use Rattle.reg_command.specs.ScriptRuns.{RunsScript, LeadsTo, WritesImage, image_at}
 use Rattle.reg_command.specs.ImageRuns.{WritesTreeText, fault_line}
 use Rattle.reg_command.specs.declared.failure.Stop.{Stop}
@@ -47,6 +48,11 @@ ImageStops sequence Memory unread left before after =
     (after ≡ before) × ((left ≡ unread) ⊎ ((last : View) × (moment : ℕ) × LeadsTo unread left last moment))
 ImageStops sequence (Load fault) unread left before after = ⊥
 
+-- what ended `run --workers`: a script's fault, by what that leaves of sessions side by side
+abbrev pub SessionsStop : ℕ → Stop → (unread left before after : Option (List ℕ)) → Type 0
+SessionsStop hives (Script fault) unread left before after = WorkersStop hives fault unread left before after
+SessionsStop hives stop unread left before after = ⊥
+
 -- what ended the telling of an image: a load fault, whose line was written; a failed write, of that line or of the image's text; or want
 -- of memory for the text, of which a front may have been written
 abbrev pub TextStops : (Tree → List ℕ) → Stop → (unread left before after : Option (List ℕ)) → Type 0
@@ -61,6 +67,7 @@ TextStops text_of (Script fault) unread left before after = ⊥
 abbrev pub Does : StreamRequest → (unread left before after : Option (List ℕ)) → Type 0
 Does Run unread left before after = RunsScript unread left before after
 Does (Image sequence) unread left before after = WritesImage sequence unread left before after
+Does (Workers count) unread left before after = RunsWorkers count.number unread left before after
 Does Dump unread left before after = WritesTreeText dump_text unread left before after
 Does Check unread left before after = WritesTreeText check_text unread left before after
 
@@ -68,6 +75,7 @@ Does Check unread left before after = WritesTreeText check_text unread left befo
 abbrev pub Stops : StreamRequest → Stop → (unread left before after : Option (List ℕ)) → Type 0
 Stops Run stop unread left before after = RunStops stop unread left before after
 Stops (Image sequence) stop unread left before after = ImageStops sequence stop unread left before after
+Stops (Workers count) stop unread left before after = SessionsStop count.number stop unread left before after
 Stops Dump stop unread left before after = TextStops dump_text stop unread left before after
 Stops Check stop unread left before after = TextStops check_text stop unread left before after
 

@@ -4,9 +4,9 @@
 //! Its contracts are those of [`serve_stream`], which does what is asked of standard input (the status is 0 only where that was done,
 //! and 1 where a script's fault, a load fault, a failed write or want of memory ended it), and of [`tool`], which reads a command line
 //! before, and answers 2 for words that ask for nothing of the kind, and then nothing is touched. [`refuse_words`] tells these words'
-//! fault. [`perform`] and [`report_stop`] are the two halves of [`serve_stream`], and [`say`] tells a line on the side. It stands on
-//! reg_words, which reads the words by `clap`, and on reg_script, reg_image, reg_tree_text and reg_calls. Its one type is [`Stop`], what
-//! ended a request early.
+//! fault: `error options` where `run` has both its options. [`dump_image`] and [`check_image`] do what is asked of an image, and
+//! [`report_stop`] tells what ended that; [`say`] tells a line on the side. It stands on reg_words, which reads the words by `clap`, and
+//! on reg_script, reg_workers, reg_image, reg_tree_text and reg_calls. Its one type is [`Stop`], what ended a request early.
 //!
 //! `scripts` has what `run` does, `images` what `dump` and `check` do, and `reports` what is told on the side.
 #![tactic(auto)]
@@ -16,21 +16,24 @@ mod images;
 mod reports;
 mod scripts;
 
-ghost use Rattle.std.specs.Prelude.{◌≡◌, ◌≤◌, OnOk, IfErr};
-ghost use Rattle.reg_words.specs.CommandLines.{texts};
-ghost use Rattle.reg_command.specs.Failures.{Does, Stops, EndsEarly, IsDone, IsRefused, IsStopped};
+ghost use Rattle.std.specs.Prelude.{◌≡◌, ◌≤◌, OnOk, IfErr, codes};
+ghost use Rattle.reg_words.specs.CommandLines.{texts, HasBothOptions};
+ghost use Rattle.reg_command.specs.Failures.{Does, Stops, EndsEarly, IsDone, IsRefused, IsSaid, IsStopped};
 
-use crate::images::{check_image, dump_image};
-use crate::scripts::{run_script, run_to_image};
+use crate::scripts::{run_script, run_sessions, run_to_image};
 pub use failure::Stop;
+pub use images::{check_image, dump_image};
 use reg_text::Sink;
 use reg_words::{StreamRequest, read_stream_words};
 pub use reports::{refuse_words, report_stop, say};
 use std::alloc::Global;
 use std::io::{Read, Write};
+use std::sync::Wait;
+use std::thread::Threads;
 
 /// Does what [`serve_stream`] does, but leaves it to the caller to say what ended it early ([`report_stop`]).
-pub fn perform<R: Read, W: Write>(
+fn perform<Rt: Threads + Wait + Sync, R: Read, W: Write>(
+    rt: &Rt,
     alloc: Global,
     request: StreamRequest,
     input: &mut R,
@@ -44,6 +47,7 @@ pub fn perform<R: Read, W: Write>(
     match request {
         StreamRequest::Run => run_script(alloc, input, output),
         StreamRequest::Image(sequence) => run_to_image(alloc, sequence, input, output),
+        StreamRequest::Workers(count) => run_sessions(rt, alloc, count, input, output),
         StreamRequest::Dump => dump_image(alloc, input, output),
         StreamRequest::Check => check_image(alloc, input, output),
     }
@@ -52,14 +56,16 @@ pub fn perform<R: Read, W: Write>(
 /// Does what is asked of `input`, and answers the exit status.
 ///
 /// `Run` runs a script and writes its replies to `output`; `Image` writes no replies but, at the script's end, the image of its hive
-/// at the moment of the last `at`, with that sequence number. `Dump` reads an image and writes its tree as text, `Check` how many keys
+/// at the moment of the last `at`, with that sequence number. `Workers` reads a whole script, has its sessions work side by side on so many
+/// hives, each on a thread of its own, and then writes each session's replies and how many entries each hive has. `Dump` reads an image and writes its tree as text, `Check` how many keys
 /// and values it has.
 ///
-/// The status is 0 where all that was done. It is 1 after a script's fault (`error script N` on `errors`; no image is written), after
-/// a load fault (`error 1009 load N` on `output`, `error 8` where memory was wanting), after a failed write of an image or of the text
+/// The status is 0 where all that was done. It is 1 after a script's fault (`error script N` on `errors`; no image is written, and of
+/// sessions side by side no reply, or a front of their text where its write failed), after a load fault (`error 1009 load N` on `output`, `error 8` where memory was wanting), after a failed write of an image or of the text
 /// of a tree (`error 1013 written N` on `errors`), and for any other want of memory (`error 8` on `errors`). A failed write to `errors`
 /// changes nothing.
-pub fn serve_stream<R: Read, W: Write, E: Sink>(
+pub fn serve_stream<Rt: Threads + Wait + Sync, R: Read, W: Write, E: Sink>(
+    rt: &Rt,
     alloc: Global,
     request: StreamRequest,
     input: &mut R,
@@ -72,7 +78,7 @@ pub fn serve_stream<R: Read, W: Write, E: Sink>(
     ensures stopped { result ≡ 1 → EndsEarly request (R.remaining input.old) (R.remaining input.new) (W.contents output.old)
         (W.contents output.new) (E.contents errors.old) (E.contents errors.new) (E.failures errors.old) (E.failures errors.new) }
 {
-    match perform(alloc, request, input, output) {
+    match perform(rt, alloc, request, input, output) {
         Ok(()) => 0,
         Err(stop) => {
             report_stop(alloc, errors, stop);
@@ -84,9 +90,10 @@ pub fn serve_stream<R: Read, W: Write, E: Sink>(
 /// Runs the tool on a command line, whose first word is the program's name, and answers the exit status: that of [`serve_stream`] for
 /// what the words ask for.
 ///
-/// It is 2 for a command line that asks for nothing of the standard streams, or for help (the text on `errors`), and then nothing was
-/// read or written; and 1 (`error 8` on `errors`) where there is no memory to read it.
-pub fn tool<R: Read, W: Write, E: Sink>(
+/// It is 2 for a command line that asks for nothing of the standard streams, or for help (the text on `errors`; `error options` where
+/// `run` has both its options), and then nothing was read or written; and 1 (`error 8` on `errors`) where there is no memory to read it.
+pub fn tool<Rt: Threads + Wait + Sync, R: Read, W: Write, E: Sink>(
+    rt: &Rt,
     alloc: Global,
     words: Vec<String>,
     input: &mut R,
@@ -102,9 +109,11 @@ pub fn tool<R: Read, W: Write, E: Sink>(
         (W.contents output.new) (E.contents errors.old) (E.contents errors.new) (E.failures errors.old) (E.failures errors.new) }
     ensures usage { result ≡ 2 →
         IsRefused (texts words.items) (R.remaining input.old) (R.remaining input.new) (W.contents output.old) (W.contents output.new) }
+    ensures options { HasBothOptions (texts words.items) → result ≡ 2 → IsSaid (codes "error options\n") (E.contents errors.old)
+        (E.contents errors.new) (E.failures errors.old) (E.failures errors.new) }
 {
     match read_stream_words(alloc, words.as_slice()) {
-        Ok(request) => serve_stream(alloc, request, input, output, errors),
-        Err(error) => refuse_words(alloc, errors, &error),
+        Ok(request) => serve_stream(rt, alloc, request, input, output, errors),
+        Err(fault) => refuse_words(alloc, errors, &fault),
     }
 }

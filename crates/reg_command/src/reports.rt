@@ -3,6 +3,8 @@
 ghost use Rattle.std.specs.Prelude.{◌≡◌, ◌≤◌, IfOk, codes, string_bytes};
 ghost use Rattle.clap.specs.Values.{kind_of};
 ghost use Rattle.clap.specs.declared.error.kind.ErrorKind.TheVariants.{OutOfMemory};
+ghost use Rattle.reg_words.specs.WordsFaults.{WantsMemory};
+ghost use Rattle.reg_words.specs.declared.fault.WordsFault.{WordsFault};
 ghost use Rattle.reg_command.specs.Failures.{IsSaid, IsStopSaid, script_line, cut_line};
 ghost use Rattle.reg_command.specs.declared.failure.Stop.{Stop};
 
@@ -11,6 +13,7 @@ use clap::Error;
 use clap::error::ErrorKind;
 use reg_script::ScriptFault;
 use reg_text::{Sink, write_counted};
+use reg_words::WordsFault;
 use std::alloc::{AllocError, Global};
 
 /// Tells a line. What a writer doesn't take is lost.
@@ -61,8 +64,8 @@ pub fn report_stop<E: Sink>(alloc: Global, errors: &mut E, stop: Stop)
     }
 }
 
-/// Tells why words are no command line, and answers the status: 2, or 1 where memory is wanting.
-pub fn refuse_words<E: Sink>(alloc: Global, errors: &mut E, error: &Error) -> u8
+/// Tells what `clap` tells of words that are no command line, and answers the status: 2, or 1 where memory is wanting.
+fn refuse_unread<E: Sink>(alloc: Global, errors: &mut E, error: &Error) -> u8
     ensures status { (1 ≤ result) × (result ≤ 2) }
     ensures memory { kind_of error.now ≡ OutOfMemory → result ≡ 1 }
     ensures said { result ≡ 1 →
@@ -81,5 +84,30 @@ pub fn refuse_words<E: Sink>(alloc: Global, errors: &mut E, error: &Error) -> u8
             say(errors, b"error 8\n");
             1
         }
+    }
+}
+
+/// Tells that `run` has both its options, and answers the status.
+fn refuse_options<E: Sink>(errors: &mut E) -> u8
+    ensures status { result ≡ 2 }
+    ensures said { IsSaid (codes "error options\n") (E.contents errors.old) (E.contents errors.new) (E.failures errors.old)
+        (E.failures errors.new) }
+{
+    say(errors, b"error options\n");
+    2
+}
+
+/// Tells why words are no command line, and answers the status: 2, or 1 where memory is wanting.
+pub fn refuse_words<E: Sink>(alloc: Global, errors: &mut E, fault: &WordsFault) -> u8
+    ensures status { (1 ≤ result) × (result ≤ 2) }
+    ensures memory { WantsMemory fault.now → result ≡ 1 }
+    ensures said { result ≡ 1 →
+        IsSaid (codes "error 8\n") (E.contents errors.old) (E.contents errors.new) (E.failures errors.old) (E.failures errors.new) }
+    ensures options { fault.now ≡ WordsFault.Options → (result ≡ 2) × IsSaid (codes "error options\n") (E.contents errors.old)
+        (E.contents errors.new) (E.failures errors.old) (E.failures errors.new) }
+{
+    match fault {
+        WordsFault::Options => refuse_options(errors),
+        WordsFault::Unread(error) => refuse_unread(alloc, errors, error),
     }
 }

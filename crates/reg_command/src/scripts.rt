@@ -1,9 +1,10 @@
-//! What `run` does: a script on a fresh hive, and its replies or the hive's image.
+//! What `run` does: a script on a fresh hive, and its replies or the hive's image; or its sessions side by side on several.
 ghost use Rattle.std.specs.Prelude.{◌≡◌, ℕ, OnOk, IfOk, IfErr};
 ghost use Rattle.std.specs.Io.KnownBytes.{Appends};
 ghost use Rattle.reg_calls.specs.HiveView.{view_of};
 ghost use Rattle.reg_command.specs.ScriptRuns.{RunsScript, WritesImage, image_at};
-ghost use Rattle.reg_command.specs.Failures.{RunStops, ImageStops};
+ghost use Rattle.reg_workers.specs.Workers.{RunsWorkers};
+ghost use Rattle.reg_command.specs.Failures.{RunStops, ImageStops, SessionsStop};
 ghost use Rattle.reg_command.specs.Internal.Steps.{IsScriptHive, SendStops};
 
 use crate::failure::Stop;
@@ -11,9 +12,13 @@ use reg_callbacks::{Callback, NoCallback};
 use reg_calls::{Hive, NewFault, SeatedHive};
 use reg_image::write_hive;
 use reg_script::{FRESH_DESCRIPTOR, run, run_to};
+use reg_words::HiveCount;
+use reg_workers::run_workers;
 use std::alloc::Global;
 use std::io;
 use std::io::{Read, Write};
+use std::sync::Wait;
+use std::thread::Threads;
 
 /// The name of a script's hive's root.
 const ROOT_NAME: &[u8; 4] = b"ROOT";
@@ -128,5 +133,24 @@ pub fn run_to_image<R: Read, W: Write>(
     match seated_hive(alloc) {
         Ok(mut seated) => image_after(alloc, &mut seated, sequence, input, output),
         Err(_) => Err(Stop::Memory),
+    }
+}
+
+/// Runs a script's sessions side by side on so many hives, and writes their replies and how many entries each hive has.
+pub fn run_sessions<Rt: Threads + Wait + Sync, R: Read, W: Write>(
+    rt: &Rt,
+    alloc: Global,
+    count: HiveCount,
+    input: &mut R,
+    output: &mut W,
+) -> Result<(), Stop>
+    ensures ok { OnOk result (RunsWorkers count.number (R.remaining input.old) (R.remaining input.new) (W.contents output.old)
+        (W.contents output.new)) }
+    ensures err { IfErr result (λ stop. SessionsStop count.number stop (R.remaining input.old) (R.remaining input.new) (W.contents output.old)
+        (W.contents output.new)) }
+{
+    match run_workers(rt, alloc, input, output, count.number) {
+        Ok(()) => Ok(()),
+        Err(met) => Err(Stop::Script(met)),
     }
 }

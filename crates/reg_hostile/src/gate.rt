@@ -21,32 +21,32 @@ const STRIDE: usize = 37;
 const SEEDS: u64 = 20_000;
 
 /// Fronts and bits of the image of a fresh hive.
-fn sweep_fresh(rt: &impl Print, alloc: Global) -> Result<()> {
+fn sweep_fresh(rt: &HostRuntime, alloc: Global) -> Result<()> {
     let mut image = scripted::<PlainHive>(alloc, b"")?;
     let len = image.len();
-    println!(rt; "fresh hive, fronts: {}", fronts(alloc, &image)?)?;
+    println!(rt; "fresh hive, fronts: {}", fronts(rt, alloc, &image)?)?;
     println!(rt;
         "fresh hive, bits: {}",
-        all_bits(alloc, &mut image, 0, len)?
+        all_bits(rt, alloc, &mut image, 0, len)?
     )?;
     println!(rt;
         "fresh hive, bits with a checksum: {}",
-        sealed_bits(alloc, &mut image)?
+        sealed_bits(rt, alloc, &mut image)?
     )?;
     Ok(())
 }
 
 /// Fronts and bits of the image with every record.
-fn sweep_records(rt: &impl Print, alloc: Global) -> Result<()> {
+fn sweep_records(rt: &HostRuntime, alloc: Global) -> Result<()> {
     let mut image = every_record(alloc)?;
-    println!(rt; "every record, fronts: {}", fronts(alloc, &image)?)?;
+    println!(rt; "every record, fronts: {}", fronts(rt, alloc, &image)?)?;
     println!(rt;
         "every record, bits of records: {}",
-        all_bits(alloc, &mut image, 4096, RECORDS_END)?
+        all_bits(rt, alloc, &mut image, 4096, RECORDS_END)?
     )?;
     println!(rt;
         "every record, bits: {}",
-        some_bits(alloc, &mut image, BITS)?
+        some_bits(rt, alloc, &mut image, BITS)?
     )?;
     Ok(())
 }
@@ -83,11 +83,11 @@ fn fail_all_readers(rt: &impl Print, alloc: Global) -> Result<()> {
 }
 
 /// Images by the tool.
-fn tool_images(rt: &impl Print, alloc: Global) -> Result<()> {
+fn tool_images(rt: &HostRuntime, alloc: Global) -> Result<()> {
     let mut told: u32 = 0;
     let images = images::<PlainHive>(alloc)?;
     for image in &images {
-        if is_told_by_tool(alloc, image)? {
+        if is_told_by_tool(rt, alloc, image)? {
             told = told.saturating_add(1);
         }
     }
@@ -96,7 +96,7 @@ fn tool_images(rt: &impl Print, alloc: Global) -> Result<()> {
 }
 
 /// Runs all that the gate runs.
-pub fn run(rt: &impl Print, alloc: Global) -> Result<()> {
+pub fn run(rt: &HostRuntime, alloc: Global) -> Result<()> {
     sweep_fresh(rt, alloc)?;
     sweep_records(rt, alloc)?;
     fail_all_readers(rt, alloc)?;

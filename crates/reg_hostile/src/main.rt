@@ -39,14 +39,17 @@ fn print_fuzz(rt: &impl Print, alloc: Global, first: u64, count: u64) -> Result<
 }
 
 /// Prints the verdicts on each bit of the image with every record.
-fn print_bits(rt: &impl Print, alloc: Global) -> Result<()> {
+fn print_bits(rt: &HostRuntime, alloc: Global) -> Result<()> {
     let mut image = every_record(alloc)?;
-    println!(rt; "bits: {}", sweeps::all_bits(alloc, &mut image, 0, 24_576)?)?;
+    println!(rt;
+        "bits: {}",
+        sweeps::all_bits(rt, alloc, &mut image, 0, 24_576)?
+    )?;
     Ok(())
 }
 
 /// Does what the words behind the program's name ask for, and tells whether they ask for anything.
-fn answer(rt: &impl Print, alloc: Global, words: &[&str]) -> Result<bool> {
+fn answer(rt: &HostRuntime, alloc: Global, words: &[&str]) -> Result<bool> {
     match words {
         [] => gate::run(rt, alloc)?,
         ["bits"] => print_bits(rt, alloc)?,

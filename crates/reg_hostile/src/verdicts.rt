@@ -56,8 +56,8 @@ pub fn judge_bytes(alloc: Global, image: &[u8]) -> Result<Verdict> {
 }
 
 /// The verdict on an image, where the tool is asked for its dump, too.
-pub fn judge_by_tool(alloc: Global, image: &[u8]) -> Result<Verdict> {
-    if !is_told_by_tool(alloc, image)? {
+pub fn judge_by_tool(rt: &HostRuntime, alloc: Global, image: &[u8]) -> Result<Verdict> {
+    if !is_told_by_tool(rt, alloc, image)? {
         return Ok(Verdict::Astray);
     }
     judge_bytes(alloc, image)

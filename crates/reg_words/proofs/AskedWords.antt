@@ -1,15 +1,18 @@
 -- What a command line asks for, as `clap`'s matches tell it.
-use Rattle.std.proofs.Common.{◌≡◌, ◌∙◌, List, ℕ, Bool, true, false, codes, sym, refl, ap, subst, inl, inr, ◌⊎◌, bytes_eq}
-use Rattle.std.specs.Prelude.{Option, Some, None, Result, Ok, Err, option_map, unwrap_or}
+use Rattle.std.proofs.Common.{◌≡◌, ◌∙◌, ◌<◌, ◌≤◌, List, ℕ, Bool, true, false, codes, sym, refl, ap, arith, subst, inl, inr, ◌⊎◌, bytes_eq}
+use Rattle.std.specs.Prelude.{◌↔◌, Option, Some, None, Result, Ok, Err, find, option_and_then, option_map, slice_get, unwrap_or}
+use Rattle.std.specs.Str.Parse.{IsNumeral, digits_value, without_leading_plus}
 use Rattle.std.proofs.lemmas.Option.{same_Some}
 use Rattle.std.specs.Str.Parse.{ParsesUnsigned}
 use Rattle.clap.specs.Words.{Row, Text, TriesOne, all_of, first_of, first_value, matched_of, one_of, one_text, raw_values, rows_of}
+use Rattle.clap.specs.Values.{read_as}
+use Rattle.clap.specs.Walk.{row_text}
 use Rattle.clap.specs.declared.parser.matches.Found.{Found}
 use Rattle.clap.proofs.WalkLemmas.{first_value-rows, one_text-rows, raw_values-rows}
-use Rattle.reg_words.specs.StreamLines.{IsNumber}
+use Rattle.reg_words.specs.StreamLines.{AreBothGiven, IsGiven, IsHiveCount, IsNumber}
 use Rattle.reg_words.specs.CommandLines.{IsMoment, IsSet, Asks, AsksToBegin, AsksToEdit, AsksForForm, AsksForPlaces, places_asked}
 use Rattle.reg_words.specs.Internal.Commands.{IsFound}
-use Rattle.reg_words.proofs.StreamWords.{apart, stream_word, stream_named, stream_apart, other_stream, no_running}
+use Rattle.reg_words.proofs.StreamWords.{apart, stream_word, stream_named, stream_apart, other_stream, no_running, no_stream_of_both, no_working}
 use Rattle.reg_words.specs.declared.request.Request.{Request}
 use Rattle.reg_words.specs.declared.request.Request.TheVariants.{Stream, Dump, Check, Listing, Get, Find, Diff, Export, New, Edit, Import}
 use Rattle.reg_words.specs.declared.request.EditRequest.{EditRequest}
@@ -32,6 +35,12 @@ pub unset_when : (name : Text) (rows : List Row) → first_of name rows ≡ None
 unset_when name rows e = (λ bad. cc, λ h. cc)
 
 -- ---- a number that an option gives
+
+-- a text writes this number of 8 bits in decimal digits
+pub record IsByte (text : List ℕ) (number : ℕ) : Type 0 where
+  pub numeral : IsNumeral 10 (without_leading_plus text)
+  pub small : digits_value 10 (without_leading_plus text) < 256
+  pub value : number ≡ digits_value 10 (without_leading_plus text)
 
 -- what a text reads as: a number that it writes, or an error where it writes none
 abbrev pub Reads : (Is : Text → ℕ → Type 0) (E : Type 0) → Text → Result ℕ E → Type 0
@@ -171,6 +180,12 @@ module _ (rows : List Row) where
   no_run text some never (Stream request) h = no_running rows text some never request h
   no_run text some never request h = other (codes "run") rows request refl refl h
 
+  -- `run` with a number of hives that is none
+  pub no_workers : (text : Text) → one_of (codes "workers") rows ≡ Some text → ((number : ℕ) → IsHiveCount text number → ⊥) → (request : Request) →
+      Asks (codes "run", rows) request → ⊥
+  no_workers text some never (Stream request) h = no_working rows text some never request h
+  no_workers text some never request h = other (codes "run") rows request refl refl h
+
   pub no_new : first_of (codes "file") rows ≡ None → (request : Request) → Asks (codes "new", rows) request → ⊥
   no_new e (New file name) h = none_there _ file.now e h.1
   no_new e (Stream request) h = other_stream (codes "new", rows) (codes "new") request refl refl refl refl refl h
@@ -220,6 +235,15 @@ module _ (rows : List Row) where
   no_import never (Stream request) h = other_stream (codes "import", rows) (codes "import") request refl refl refl refl refl h
   no_import never request h = other (codes "import") rows request refl refl h
 
+-- `run` with both its options
+not_run : (found : Text × List Row) (request : Request) → bytes_eq (codes "run") (word_of request) ≡ false → AreBothGiven found →
+    Asks found request → ⊥
+not_run found request differ both h = apart (codes "run") (word_of request) differ refl (sym both.0 ∙ named found request h)
+
+pub none_of_both : (found : Text × List Row) → AreBothGiven found → (request : Request) → Asks found request → ⊥
+none_of_both found both (Stream request) h = no_stream_of_both found both request h
+none_of_both found both request h = not_run found request refl both h
+
 -- no file is saved
 pub no_saving : (rows : List Row) → ((first_of (codes "file") rows ≡ None) ⊎ ((begin : Begin) → AsksToBegin rows begin → ⊥)) →
     (edit : EditRequest) → AsksToEdit rows edit → ⊥
@@ -268,3 +292,56 @@ given_or {N = N} f word instead got now given other e is o =
 -- the values, as the rows have them
 pub all_is : (f : Found) (name : Text) (got : Option (List Text)) → got ≡ option_map raw_values (matched_of f name) → all_of name (rows_of f) ≡ got
 all_is f name got e = sym (raw_values-rows f name) ∙ sym e
+
+-- ---- options that were given
+
+given_row : (o : Option Row) (text : Text) → option_and_then (λ (r : Row). slice_get r.values 0) o ≡ Some text →
+    (read : Text) × (option_and_then row_text o ≡ Some read)
+given_row None text e = cc
+given_row (Some r) text e = (read_as r.reading text, ap (option_map (read_as r.reading)) e)
+
+lacking_row : (o : Option Row) → option_and_then (λ (r : Row). slice_get r.values 0) o ≡ None → option_and_then row_text o ≡ None
+lacking_row None e = refl
+lacking_row (Some r) e = ap (option_map (read_as r.reading)) e
+
+pub given_where : (name : Text) (rows : List Row) (text : Text) → first_of name rows ≡ Some text → (true ≡ true) ↔ IsGiven name rows
+given_where name rows text e = (λ set. given_row (find (λ r. bytes_eq r.id name) rows) text e, λ given. refl)
+
+pub lacking_where : (name : Text) (rows : List Row) → first_of name rows ≡ None → (false ≡ true) ↔ IsGiven name rows
+lacking_where name rows e = (
+  λ bad. cc,
+  λ given. let bad : None ≡ Some given.0 = sym (lacking_row (find (λ r. bytes_eq r.id name) rows) e) ∙ given.1 in cc,
+)
+
+-- what a test of an option tells
+pub not_given : (name : Text) (rows : List Row) (test : Bool) → test ≡ false → (test ≡ true) ↔ IsGiven name rows → one_of name rows ≡ None
+not_given name rows test off is = go (one_of name rows) refl
+  where
+    go : (o : Option Text) → one_of name rows ≡ o → one_of name rows ≡ None
+    go None e = e
+    go (Some text) e = let bad : true ≡ false = sym (is.1 (text, e)) ∙ off in cc
+
+-- ---- a number of hives that an option gives
+
+pub count_read : (E : Type 0) (text : Text) (r : Result ℕ E) → ParsesUnsigned 8 10 text r → Reads IsByte E text r
+count_read E text (Ok number) p = record { numeral = p.0.0; small = p.0.1; value = p.1 }
+count_read E text (Err e) p = λ number is. p (is.numeral, is.small)
+
+pub none_given : (name : Text) (rows : List Row) → IsGiven name rows → one_of name rows ≡ None → ⊥
+none_given name rows given none = let bad : None ≡ Some given.0 = sym none ∙ given.1 in cc
+
+-- a number that is none from 1 to 16
+pub outside : (text : Text) (number : ℕ) → IsByte text number → (1 ≤ number → number ≤ 16 → ⊥) → (other : ℕ) → IsHiveCount text other → ⊥
+outside text number byte out other is =
+    out (rw (byte.value, ← is.value) is.some) (rw (byte.value, ← is.value) is.few)
+
+pub inside : (text : Text) (number count : ℕ) → IsByte text number → count ≡ number → 1 ≤ count → count ≤ 16 → IsHiveCount text count
+inside text number count byte same some few = record { numeral = byte.numeral; value = same ∙ byte.value; some = some; few = few }
+
+-- a text that is no byte
+pub no_byte : (text : Text) → ((number : ℕ) → IsByte text number → ⊥) → (number : ℕ) → IsHiveCount text number → ⊥
+no_byte text never number is = never number (record {
+  numeral = is.numeral;
+  small = let few = is.few in let value = is.value in omega (arith, few, value);
+  value = is.value;
+})

@@ -1,14 +1,51 @@
 -- Words that are command lines, with what they ask for, and words that are none.
-use Rattle.std.proofs.Common.{◌≡◌, [], ◌∷◌, codes, refl, false}
+use Rattle.std.proofs.Common.{◌≡◌, [], ◌∷◌, arith, codes, refl, false}
 use Rattle.clap.proofs.OnLiterals.{clap_on_literals}
-use Rattle.reg_words.specs.CommandLines.{regtool, faults_in, found_in, IsCommandLine}
-use Rattle.reg_words.specs.declared.request.StreamRequest.TheVariants.{Run, Dump, Check}
+use Rattle.reg_words.specs.CommandLines.{regtool, faults_in, found_in, HasBothOptions, IsCommandLine}
+use Rattle.reg_words.specs.declared.request.HiveCount.{HiveCount}
+use Rattle.reg_words.specs.declared.request.StreamRequest.TheVariants.{Run, Workers, Dump, Check}
 use Rattle.reg_words.specs.declared.request.Request.TheVariants.{Stream}
 use Rattle.reg_words.proofs.CommandShapes.{is_none, named}
 
 run_asks : IsCommandLine (codes "regtool" ∷ codes "run" ∷ []) (Stream Run)
 unfolding faults_in found_in regtool clap_on_literals
-run_asks = record { named = named (codes "regtool" ∷ codes "run" ∷ []) refl; taken = refl; asks = (refl, refl) }
+run_asks = record { named = named (codes "regtool" ∷ codes "run" ∷ []) refl; taken = refl; asks = (refl, refl, refl) }
+
+abbrev sixteen : HiveCount
+sixteen = record { number = 16; some = omega arith; few = omega arith }
+
+workers_ask : IsCommandLine (codes "regtool" ∷ codes "run" ∷ codes "--workers" ∷ codes "16" ∷ []) (Stream (Workers sixteen))
+unfolding faults_in found_in regtool clap_on_literals
+workers_ask = record {
+  named = named (codes "regtool" ∷ codes "run" ∷ codes "--workers" ∷ codes "16" ∷ []) refl;
+  taken = refl;
+  asks = (
+    refl,
+    refl,
+    (
+      codes "16",
+      refl,
+      record {
+        numeral = (omega arith, (omega arith, (omega arith, tt)));
+        value = refl;
+        some = omega arith;
+        few = omega arith;
+      },
+    ),
+  );
+}
+
+both_options : HasBothOptions (codes "regtool" ∷ codes "run" ∷ codes "--image" ∷ codes "1" ∷ codes "--workers" ∷ codes "2" ∷ [])
+unfolding faults_in found_in regtool clap_on_literals
+both_options = record { taken = refl; both = (refl, (codes "1", refl), (codes "2", refl)) }
+
+no_hives_are_none : is_none (faults_in (codes "regtool" ∷ codes "run" ∷ codes "--workers" ∷ codes "0" ∷ [])) ≡ false
+unfolding faults_in regtool clap_on_literals
+no_hives_are_none = refl
+
+seventeen_hives_are_none : is_none (faults_in (codes "regtool" ∷ codes "run" ∷ codes "--workers" ∷ codes "17" ∷ [])) ≡ false
+unfolding faults_in regtool clap_on_literals
+seventeen_hives_are_none = refl
 
 dump_asks : IsCommandLine (codes "regtool" ∷ codes "dump" ∷ []) (Stream Dump)
 unfolding faults_in found_in regtool clap_on_literals

@@ -1,20 +1,29 @@
 -- `clap`'s command is put together of its arguments and subcommands, and what it takes is the definition's.
 use Rattle.std.proofs.Common.{◌≡◌, ◌∙◌, ◌||◌, List, [], ◌∷◌, ℕ, Bool, ap, ap₂, codes, subst, sym, refl, true, false, inl, inr}
-use Rattle.std.specs.Prelude.{Option, Some, None, Result, Ok, Err, IfErr, IfOk, ◌≢◌}
+use Rattle.std.specs.Prelude.{◌↔◌, Option, Some, None, Result, Ok, Err, IfErr, IfOk}
 use Rattle.std.specs.Result.{IsErrAnd}
 use Rattle.std.specs.declared.alloc.AllocError.{AllocError}
 use Rattle.clap.specs.Values.{kind_of}
-use Rattle.clap.specs.declared.error.kind.ErrorKind.TheVariants.{OutOfMemory}
-use Rattle.clap.specs.Words.{AddsArg, AddsSubcommand, App, FailsBy, HasKind, HasMatchesOf, IsAmong, Kinds, Row, Rule, Text}
+use Rattle.clap.specs.Words.{AddsArg, AddsSubcommand, App, HasKind, HasMatchesOf, IsAmong, Kinds, Row, Rule, Text}
 use Rattle.clap.specs.Words.{fault_of, is_simple, is_simple_and_free, subcommand_of, subcommand_rows_of, with_rule, with_subcommand}
 use Rattle.clap.specs.declared.builder.arg.Arg.{Arg}
 use Rattle.clap.specs.declared.builder.command.Command.{Command}
 use Rattle.clap.specs.declared.error.Error.{Error}
 use Rattle.clap.specs.declared.parser.matches.ArgMatches.{ArgMatches}
 use Rattle.clap.proofs.OnLiterals.{clap_on_literals}
-use Rattle.reg_words.specs.CommandLines.{regtool, faults_in, found_in, AsksIn, AsksNothing, IsCommandLine, IsNamed}
+use Rattle.reg_words.specs.StreamLines.{GivesBoth}
+use Rattle.reg_words.specs.CommandLines.{regtool, faults_in, found_in, AsksIn, AsksNothing, HasBothOptions, IsCommandLine, IsNamed}
+use Rattle.reg_words.specs.WordsFaults.{WantsMemory, TellsOptions}
+use Rattle.reg_words.specs.declared.fault.WordsFault.{WordsFault}
+use Rattle.reg_words.specs.declared.fault.WordsFault.TheVariants.{Unread}
+use Rattle.reg_words.proofs.AskedWords.{none_of_both}
 use Rattle.reg_words.specs.Internal.Commands.{IsRule, IsCommand, IsFound}
 use Rattle.reg_words.specs.declared.request.Request.{Request}
+
+-- the exit of a `?`
+if_err : {T E : Type 0} (P : E → Type 0) (r : Result T E) (e : E) → IsErrAnd r (λ y. y ≡ e) → P e → IfErr r P
+if_err P (Ok x) e h q = record {}
+if_err P (Err y) e h q = subst P (sym h) q
 
 pub with_arg : (old new : Command) (a : Arg) (app : App) (rule : Rule) → IsCommand app old → IsRule rule a → AddsArg old a new →
     IsCommand (with_rule app rule) new
@@ -60,20 +69,43 @@ pub found : (app : App) (words : List (List ℕ)) (m : ArgMatches) → app ≡ r
 unfolding found_in
 found app words m is has = (has (ap is_simple is ∙ plain)).1 ∙ ap (λ (a : App). subcommand_of a words) is
 
--- an error that isn't want of memory tells that the words ask for nothing
-abbrev pub IsUnread : List (List ℕ) → Error → Type 0
-IsUnread words error = kind_of error ≢ OutOfMemory → AsksNothing words
+-- a fault that isn't want of memory tells that the words ask for nothing
+abbrev pub IsUnread : List (List ℕ) → WordsFault → Type 0
+IsUnread words fault = (WantsMemory fault → ⊥) → AsksNothing words
 
-pub unread : {T : Type 0} (words : List (List ℕ)) (r : Result T Error) → FailsBy (faults_in words) r → IfErr r (λ e. IsUnread words e)
-unread words (Ok v) h = record {}
-unread words (Err e) (inl memory) = λ other request is. other memory
-unread words (Err e) (inr among) = λ other request is. subst (IsAmong (kind_of e)) is.taken among
+refuses_by : (words : List (List ℕ)) (e : Error) → HasKind (faults_in words) e → IsUnread words (Unread e)
+refuses_by words e (inl memory) = λ other request is. other memory
+refuses_by words e (inr among) = λ other request is. subst (IsAmong (kind_of e)) is.taken among
 
--- want of memory on the way
-pub memory_unread : {T : Type 0} (words : List (List ℕ)) (r : Result T Error) → IsErrAnd r (λ e. kind_of e ≡ OutOfMemory)
-    → IfErr r (λ e. IsUnread words e)
-memory_unread words (Ok v) h = record {}
-memory_unread words (Err e) h = λ other request is. other h
+options_by : (words : List (List ℕ)) (e : Error) → HasKind (faults_in words) e → TellsOptions (Unread e) words
+options_by words e (inl memory) = λ both. memory
+options_by words e (inr among) = λ both. absurd (subst (IsAmong (kind_of e)) both.taken among)
+
+-- what `clap` refused
+module _ {T : Type 0} (words : List (List ℕ)) (r : Result T WordsFault) (e : Error) (kinds : HasKind (faults_in words) e)
+    (told : IsErrAnd r (λ fault. fault ≡ Unread e)) where
+  pub refuses_unread : IfErr r (IsUnread words)
+  refuses_unread = if_err (IsUnread words) r (Unread e) told (refuses_by words e kinds)
+
+  pub options_unread : IfErr r (λ fault. TellsOptions fault words)
+  options_unread = if_err (λ fault. TellsOptions fault words) r (Unread e) told (options_by words e kinds)
+
+-- ---- both options of `run`
+
+module _ (words : List (List ℕ)) (found : Option (Text × List Row)) (taken : faults_in words ≡ []) (is : found ≡ found_in words) where
+  pub both_so : GivesBoth found → HasBothOptions words
+  both_so both = record { taken = taken; both = subst GivesBoth is both }
+
+  pub not_both : (test : Bool) → test ≡ false → (test ≡ true) ↔ GivesBoth found → HasBothOptions words → ⊥
+  not_both test off tells both = let bad : true ≡ false = sym (tells.1 (subst GivesBoth (sym is) both.both)) ∙ off in cc
+
+both_ask_nothing : (found : Option (Text × List Row)) (request : Request) → GivesBoth found → AsksIn found request → ⊥
+both_ask_nothing None request both asks = asks
+both_ask_nothing (Some found) request both asks = none_of_both found both request asks
+
+-- they ask for nothing
+pub nothing_of_both : (words : List (List ℕ)) → HasBothOptions words → AsksNothing words
+nothing_of_both words both request is = both_ask_nothing (found_in words) request both.both is.asks
 
 -- ---- words that `clap` never takes
 

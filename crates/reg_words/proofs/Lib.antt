@@ -4,3 +4,4 @@ pub mod CommandShapes
 pub mod PlaceLemmas
 pub mod StreamRequests
 pub mod StreamWords
+pub mod ToldOptions

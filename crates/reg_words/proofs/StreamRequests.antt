@@ -3,11 +3,12 @@ use Rattle.std.proofs.Common.{◌≡◌, List, ℕ, codes, refl, subst, map}
 use Rattle.std.specs.Prelude.{Option, Some, None}
 use Rattle.clap.specs.Words.{Row, Text}
 use Rattle.reg_words.specs.StreamLines.{AsksOfStream}
-use Rattle.reg_words.specs.CommandLines.{found_in, Asks, AsksIn, AsksNoStream, IsCommandLine}
+use Rattle.reg_words.specs.CommandLines.{found_in, Asks, AsksIn, AsksNoStream, HasBothOptions, IsCommandLine}
 use Rattle.reg_words.specs.Internal.Commands.{stream_of}
 use Rattle.reg_words.specs.declared.request.StreamRequest.{StreamRequest}
 use Rattle.reg_words.specs.declared.request.Request.{Request}
 use Rattle.reg_words.specs.declared.request.Request.TheVariants.{Stream, Dump, Check, Listing, Get, Find, Diff, Export, New, Edit, Import}
+use Rattle.reg_words.proofs.CommandShapes.{nothing_of_both}
 use Rattle.reg_words.proofs.StreamWords.{other_stream, dump_of_file, check_of_files}
 
 pub of_files : (found : Text × List Row) (request : Request) (stream : StreamRequest) → stream_of request ≡ None → Asks found request →
@@ -34,6 +35,10 @@ pub no_stream : (words : List (List ℕ)) (request : Request) (result : Option S
     IsCommandLine words request → AsksNoStream words
 no_stream words request result is none line stream other =
     found_of_files (found_in words) request stream (subst (λ (o : Option StreamRequest). o ≡ None) is none) line.asks other.asks
+
+-- words that ask for something don't have both options of `run`
+pub asks_not_both : {T : Type 0} (words : List (List ℕ)) (request : Request) → IsCommandLine words request → HasBothOptions words → T
+asks_not_both words request line both = absurd (nothing_of_both words both request line)
 
 -- those of one of the streams' ask for that
 stream_is : (request : Request) (stream : StreamRequest) → stream_of request ≡ Some stream → request ≡ Stream stream

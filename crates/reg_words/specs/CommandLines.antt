@@ -6,7 +6,7 @@ use Rattle.clap.specs.Lexer.{usize_max}
 use Rattle.clap.specs.declared.builder.action.ArgAction.TheVariants as action
 use Rattle.clap.specs.declared.builder.value_parser.ValueParser.TheVariants as parser
 use Rattle.reg_words.specs.PlaceLists.{places_in}
-use Rattle.reg_words.specs.StreamLines.{AsksOfStream}
+use Rattle.reg_words.specs.StreamLines.{AsksOfStream, GivesBoth}
 use Rattle.reg_words.specs.declared.request.EditRequest.{EditRequest}
 use Rattle.reg_words.specs.declared.request.Form.{Form}
 use Rattle.reg_words.specs.declared.request.Form.TheVariants.{Reg, Json, Csv}
@@ -61,9 +61,13 @@ at_rule = record (option_rule (codes "at")) { parser = Some (parser.Unsigned 0 1
 abbrev pub image_rule : Rule
 image_rule = record (option_rule (codes "image")) { parser = Some (parser.Signed (pos 0) (pos 4294967295)) }
 
--- `run`, which may be asked for an image
+-- the option `--workers`: a number of hives, from 1 to 16
+abbrev pub workers_rule : Rule
+workers_rule = record (option_rule (codes "workers")) { parser = Some (parser.Signed (pos 1) (pos 16)) }
+
+-- `run`, which may be asked for an image, or for workers on several hives
 abbrev pub run_command : App
-run_command = with_rule (new_app (codes "run")) image_rule
+run_command = with_rule (with_rule (new_app (codes "run")) image_rule) workers_rule
 
 -- `dump`, of a file or of the standard input
 abbrev pub dump_command : App
@@ -132,8 +136,8 @@ query_commands =
     diff_command.top)
     export_command.top
 
--- `clap`'s command `regtool`, one of whose subcommands must be there: `run` with the option `--image` of a number of 32 bits, which may be
--- left out; `dump`, which may have a file, and `check`, which may have files; `ls` with a file, a path that may be left out, and the flag
+-- `clap`'s command `regtool`, one of whose subcommands must be there: `run` with the options `--image` of a number of 32 bits and
+-- `--workers` of one from 1 to 16, which may be left out; `dump`, which may have a file, and `check`, which may have files; `ls` with a file, a path that may be left out, and the flag
 -- `--tree`; `get` with a file, a path, a value's name that may be left out, and the flag `--raw`; `find` with a file, a pattern and the
 -- option `--in`; `diff` with two files; `export` with a file, a path that may be left out, the option `--as`, which must be given, and the
 -- flag `--utf8`; `new` with a file and the option `--name`; and `edit` and `import`, each with a file, the options `--output` and `--at`,
@@ -232,6 +236,11 @@ pub record IsCommandLine (words : List (List ℕ)) (request : Request) : Type 0 
   pub named : IsNamed words
   pub taken : faults_in words ≡ []
   pub asks : AsksIn (found_in words) request
+
+-- `clap` takes these words, and `run` has both its options, for which there is no answer
+pub record HasBothOptions (words : List (List ℕ)) : Type 0 where
+  pub taken : faults_in words ≡ []
+  pub both : GivesBoth (found_in words)
 
 -- these words are no command line of the tool: whatever is asked, they don't ask for it
 abbrev pub AsksNothing : List (List ℕ) → Type 0

@@ -1,4 +1,5 @@
 pub mod StreamLines
 pub mod CommandLines
+pub mod WordsFaults
 pub mod PlaceLists
 pub mod Internal

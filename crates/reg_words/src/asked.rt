@@ -1,19 +1,83 @@
 //! What the matches of a command line ask for.
 
-ghost use Rattle.std.specs.Prelude.{◌≡◌, ◌↔◌, true, codes, Some, IfOk};
+ghost use Rattle.std.specs.Prelude.{◌≡◌, ◌≤◌, ◌↔◌, true, codes, Some, IfOk, MatchOption};
 ghost use Rattle.clap.specs.Words.{first_of, found_of, rows_of, subcommand_rows_of};
+ghost use Rattle.reg_words.specs.StreamLines.{IsGiven, AreBothGiven, GivesBoth};
 ghost use Rattle.reg_words.specs.CommandLines.{IsSet, AsksToBegin, AsksToEdit, AsksForForm, AsksForPlaces, Asks, AsksIn};
 ghost use Rattle.reg_words.specs.Internal.Commands.{IsFound};
 
 use crate::places::read_places;
-use crate::{Begin, EditRequest, Form, Places, Request, StreamRequest};
+use crate::{Begin, EditRequest, Form, HiveCount, Places, Request, StreamRequest};
 use clap::ArgMatches;
 use std::alloc::{AllocError, Global};
 
-/// What `run` is asked for; `None` where its number is none of 32 bits, which `clap` doesn't let through.
+/// Whether an option was given.
+fn is_given(matches: &ArgMatches<'_>, name: &str) -> bool
+    ensures { (result ≡ true) ↔ IsGiven name.now (rows_of (found_of matches.now)) }
+{
+    match matches.get_str(name) {
+        Some(_) => true,
+        None => false,
+    }
+}
+
+/// Whether `run` was given both its options.
+pub fn has_both_options(matches: &ArgMatches<'_>) -> bool
+    ensures { (result ≡ true) ↔ GivesBoth (subcommand_rows_of matches.now) }
+{
+    match matches.subcommand() {
+        Some((name, found)) => are_both_given(name, found),
+        None => false,
+    }
+}
+
+/// Whether a subcommand is `run`, and was given both its options.
+fn are_both_given(name: &str, matches: &ArgMatches<'_>) -> bool
+    ensures { (result ≡ true) ↔ AreBothGiven (name.now, rows_of (found_of matches.now)) }
+{
+    name == "run" && is_given(matches, "image") && is_given(matches, "workers")
+}
+
+/// A number of hives; `None` where it is none from 1 to 16.
+fn hive_count(number: u8) -> Option<HiveCount>
+    ensures { MatchOption result (1 ≤ number → number ≤ 16 → ⊥) (λ count. count.number ≡ number) }
+{
+    if number < 1 {
+        return None;
+    }
+    if number > 16 {
+        return None;
+    }
+    Some(HiveCount { number })
+}
+
+/// What `run` is asked for that was given `--workers`; `None` where it was given `--image` too, or where the number is none from 1 to 16,
+/// which `clap` doesn't let through.
+fn workers_asked<'a>(matches: &ArgMatches<'a>) -> Option<Request<'a>>
+    requires { IsGiven (codes "workers") (rows_of (found_of matches.now)) }
+    ensures { IsFound (Asks (codes "run", rows_of (found_of matches.now))) result }
+{
+    if is_given(matches, "image") {
+        return None;
+    }
+    match matches.try_get_one::<u8>("workers") {
+        Ok(Some(number)) => match hive_count(number) {
+            Some(count) => Some(Request::Stream(StreamRequest::Workers(count))),
+            None => None,
+        },
+        Ok(None) => None,
+        Err(_) => None,
+    }
+}
+
+/// What `run` is asked for; `None` where [`workers_asked`] says so, or where its number is none of 32 bits, which `clap` doesn't let
+/// through.
 fn run_asked<'a>(matches: &ArgMatches<'a>) -> Option<Request<'a>>
     ensures { IsFound (Asks (codes "run", rows_of (found_of matches.now))) result }
 {
+    if is_given(matches, "workers") {
+        return workers_asked(matches);
+    }
     match matches.try_get_one::<u32>("image") {
         Ok(None) => Some(Request::Stream(StreamRequest::Run)),
         Ok(Some(sequence)) => Some(Request::Stream(StreamRequest::Image(sequence))),

@@ -3,7 +3,7 @@
 ghost use Rattle.std.specs.Prelude.{◌≡◌, IfOk, Ok, codes, true, false};
 ghost use Rattle.clap.specs.Words.{AddsSubcommand, new_app, with_rule};
 ghost use Rattle.clap.specs.declared.builder.command.Command.{Command as AnyCommand};
-ghost use Rattle.reg_words.specs.CommandLines.{option_rule, required_rule, flag_rule, place_rule, file_rule, files_rule, at_rule, image_rule};
+ghost use Rattle.reg_words.specs.CommandLines.{option_rule, required_rule, flag_rule, place_rule, file_rule, files_rule, at_rule, image_rule, workers_rule};
 ghost use Rattle.reg_words.specs.CommandLines.{run_command as run_shape, edit_command as edit_shape};
 ghost use Rattle.reg_words.specs.CommandLines.{dump_command as dump_shape, check_command as check_shape, list_command as list_shape};
 ghost use Rattle.reg_words.specs.CommandLines.{get_command as get_shape, find_command as find_shape, diff_command as diff_shape};
@@ -100,6 +100,18 @@ fn image_arg<'a>(alloc: Global) -> Arg<'a>
     .value_parser(clap::value_parser!(u32))
 }
 
+fn workers_arg<'a>(alloc: Global) -> Arg<'a>
+    ensures { IsRule workers_rule result }
+{
+    option_arg(
+        alloc,
+        "workers",
+        "N",
+        "Run each session on a thread of its own, on N fresh hives",
+    )
+    .value_parser(clap::value_parser!(u8).range(1..=16))
+}
+
 fn at_arg<'a>(alloc: Global) -> Arg<'a>
     ensures { IsRule at_rule result }
 {
@@ -152,7 +164,8 @@ fn run_command<'a>(alloc: Global) -> Result<Command<'a>, AllocError>
         "run",
         "Runs a script of registry calls from standard input on a fresh hive",
     )
-    .arg(image_arg(alloc))
+    .arg(image_arg(alloc))?
+    .arg(workers_arg(alloc))
 }
 
 fn dump_command<'a>(alloc: Global) -> Result<Command<'a>, AllocError>

@@ -1,28 +1,30 @@
 //! The tool's command line.
 //!
 //! Its contract: [`read_words`] tells of words exactly what they ask for, as `specs/CommandLines.antt` says it by `clap`'s own
-//! words, or that they ask for nothing; [`read_stream_words`] does so for what is asked of the standard streams alone. It stands on
-//! `clap`. Its types are [`Request`] and what that holds: [`StreamRequest`], [`EditRequest`] with [`Begin`], [`Places`] and [`Form`].
+//! words, or that they ask for nothing, with the cause ([`WordsFault`]); [`read_stream_words`] does so for what is asked of the standard
+//! streams alone. It stands on `clap`. Its types are [`Request`] and what that holds: [`StreamRequest`] with [`HiveCount`],
+//! [`EditRequest`] with [`Begin`], [`Places`] and [`Form`].
 #![tactic(auto)]
 
 mod asked;
 mod command;
+mod fault;
 mod places;
 mod request;
 
-ghost use Rattle.std.specs.Prelude.{◌≡◌, ◌≢◌, IfOk, IfErr};
+ghost use Rattle.std.specs.Prelude.{◌≡◌, IfOk, IfErr};
 ghost use Rattle.clap.specs.Words.{app_of};
-ghost use Rattle.clap.specs.Values.{kind_of};
-ghost use Rattle.clap.specs.declared.error.kind.ErrorKind.TheVariants.{OutOfMemory};
 ghost use Rattle.reg_words.specs.CommandLines.{texts, AsksNothing, AsksNoStream, IsCommandLine, regtool};
+ghost use Rattle.reg_words.specs.WordsFaults.{WantsMemory, TellsOptions};
 ghost use Rattle.reg_words.specs.declared.request.Request.TheVariants.{Stream};
 ghost use Rattle.reg_words.specs.Internal.Commands.{stream_of as stream_asked};
 
-use crate::asked::asked;
+use crate::asked::{asked, has_both_options};
 use crate::command::whole_command;
 use clap::error::ErrorKind;
 use clap::{Command, Error};
-pub use request::{Begin, EditRequest, Form, Places, Request, StreamRequest};
+pub use fault::WordsFault;
+pub use request::{Begin, EditRequest, Form, HiveCount, Places, Request, StreamRequest};
 use std::alloc::Global;
 
 /// The error of words that `clap` takes though they ask for nothing that is served, told in its own manner.
@@ -38,25 +40,31 @@ fn read_by<'a>(
     alloc: Global,
     command: &mut Command<'a>,
     words: &'a [String],
-) -> Result<Request<'a>, Error>
+) -> Result<Request<'a>, WordsFault>
     requires { app_of command.old ≡ regtool }
     ensures asks { IfOk result (λ request. IsCommandLine (texts words.now) request) }
-    ensures refuses { IfErr result (λ error. kind_of error ≢ OutOfMemory → AsksNothing (texts words.now)) }
+    ensures refuses { IfErr result (λ fault. (WantsMemory fault → ⊥) → AsksNothing (texts words.now)) }
+    ensures options { IfErr result (λ fault. TellsOptions fault (texts words.now)) }
 {
     let matches = command.try_get_matches_from_mut(words)?;
+    if has_both_options(&matches) {
+        return Err(WordsFault::Options);
+    }
     match asked(alloc, &matches)? {
         Some(request) => Ok(request),
-        None => Err(refusal(
+        None => Err(WordsFault::Unread(refusal(
             command,
             "the words ask for two moments, or a form or place that there is none of",
-        )),
+        ))),
     }
 }
 
-/// Reads a command line: what it asks for, or `clap`'s error, which is want of memory or tells that the words ask for nothing.
-pub fn read_words<'a>(alloc: Global, words: &'a [String]) -> Result<Request<'a>, Error>
+/// Reads a command line: what it asks for, or why it asks for nothing. `Options` only where `clap` takes the words and `run` has both
+/// its options; else `clap`'s error, which is want of memory or tells what is wrong.
+pub fn read_words<'a>(alloc: Global, words: &'a [String]) -> Result<Request<'a>, WordsFault>
     ensures asks { IfOk result (λ request. IsCommandLine (texts words.now) request) }
-    ensures refuses { IfErr result (λ error. kind_of error ≢ OutOfMemory → AsksNothing (texts words.now)) }
+    ensures refuses { IfErr result (λ fault. (WantsMemory fault → ⊥) → AsksNothing (texts words.now)) }
+    ensures options { IfErr result (λ fault. TellsOptions fault (texts words.now)) }
 {
     let mut command = whole_command(alloc)?;
     read_by(alloc, &mut command, words)
@@ -72,19 +80,23 @@ fn stream_of(request: &Request<'_>) -> Option<StreamRequest>
     }
 }
 
-/// Reads a command line that asks for something of the standard streams alone. The error is want of memory or tells that the words
-/// don't ask for that.
-pub fn read_stream_words<'a>(alloc: Global, words: &'a [String]) -> Result<StreamRequest, Error>
+/// Reads a command line that asks for something of the standard streams alone. The fault is that of [`read_words`]; or it tells that the
+/// words name files.
+pub fn read_stream_words<'a>(
+    alloc: Global,
+    words: &'a [String],
+) -> Result<StreamRequest, WordsFault>
     ensures asks { IfOk result (λ request. IsCommandLine (texts words.now) (Stream request)) }
-    ensures refuses { IfErr result (λ error. kind_of error ≢ OutOfMemory → AsksNoStream (texts words.now)) }
+    ensures refuses { IfErr result (λ fault. (WantsMemory fault → ⊥) → AsksNoStream (texts words.now)) }
+    ensures options { IfErr result (λ fault. TellsOptions fault (texts words.now)) }
 {
     let mut command = whole_command(alloc)?;
     let request = read_by(alloc, &mut command, words)?;
     match stream_of(&request) {
         Some(stream) => Ok(stream),
-        None => Err(refusal(
+        None => Err(WordsFault::Unread(refusal(
             &mut command,
             "the words name files, and only standard input is read here",
-        )),
+        ))),
     }
 }

@@ -1,5 +1,16 @@
 //! What a command line asks for.
 
+ghost use Rattle.std.specs.Prelude.{◌≤◌};
+
+/// A number of hives.
+#[derive(Clone, Copy, Debug, PartialEq, Eq)]
+pub struct HiveCount {
+    /// From 1 to 16.
+    pub number: u8,
+    ghost some: { 1 ≤ number },
+    ghost few: { number ≤ 16 },
+}
+
 /// What is asked of standard input, and is answered on standard output.
 #[derive(Clone, Copy, Debug, PartialEq, Eq)]
 pub enum StreamRequest {
@@ -7,6 +18,8 @@ pub enum StreamRequest {
     Run,
     /// The image, with that sequence number, of the hive that a script leaves.
     Image(u32),
+    /// The replies to the sessions of a script, which work side by side on so many hives.
+    Workers(HiveCount),
     /// The text of an image's tree.
     Dump,
     /// How many keys and values an image has.

@@ -45,14 +45,15 @@ fn main(rt: HostRuntime) -> ExitCode {
     let mut output = Device::new(Counted::new(io::writer(&rt), &work));
     let mut errors = rt.stderr();
     if !errors.is_terminal() {
-        return ExitCode::from(file_tool(alloc, &rt, words, &mut input, &mut output, &mut errors));
+        let status = file_tool(&rt, alloc, &rt, words, &mut input, &mut output, &mut errors);
+        return ExitCode::from(status);
     }
     let is_mixed = rt.stdout().is_terminal();
     let (_, status) = thread::join(
         &rt,
         || tell_each_second(&work, &mut rt.stderr(), &rt, is_mixed),
         || {
-            let status = file_tool(alloc, &rt, words, &mut input, &mut output, &mut errors);
+            let status = file_tool(&rt, alloc, &rt, words, &mut input, &mut output, &mut errors);
             work.end();
             status
         },
