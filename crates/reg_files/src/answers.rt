@@ -16,9 +16,12 @@ use reg_words::{EditRequest, Form, Places, Request, StreamRequest};
 use std::alloc::Global;
 use std::io::Read;
 use std::rt::{Clock, Files};
+use std::sync::Wait;
+use std::thread::Threads;
 
 /// `run`, and `dump` and `check` without files.
-fn stream_asked<R: Read, W: Output, E: Sink>(
+fn stream_asked<Rt: Threads + Wait + Sync, R: Read, W: Output, E: Sink>(
+    rt: &Rt,
     alloc: Global,
     request: StreamRequest,
     input: &mut R,
@@ -29,7 +32,7 @@ fn stream_asked<R: Read, W: Output, E: Sink>(
         (W.contents output.old) (W.contents output.new)
         (E.contents errors.old) (E.contents errors.new) (E.failures errors.old) (E.failures errors.new) }
 {
-    serve_stream(alloc, request, input, output, errors)
+    serve_stream(rt, alloc, request, input, output, errors)
 }
 
 /// `dump FILE`.
@@ -205,7 +208,8 @@ where
 }
 
 /// Does what was asked for, and answers the status.
-pub fn answer<H: Files + Clock, R: Read, W: Output, E: Sink>(
+pub fn answer<Rt: Threads + Wait + Sync, H: Files + Clock, R: Read, W: Output, E: Sink>(
+    rt: &Rt,
     alloc: Global,
     host: &H,
     request: Request<'_>,
@@ -220,7 +224,7 @@ where
         (E.contents errors.old) (E.contents errors.new) (E.failures errors.old) (E.failures errors.new) }
 {
     match request {
-        Request::Stream(stream) => stream_asked(alloc, stream, input, output, errors),
+        Request::Stream(stream) => stream_asked(rt, alloc, stream, input, output, errors),
         Request::Dump(file) => dump_asked(alloc, host, file, output, errors),
         Request::Check(files) => check_asked(alloc, host, files, output, errors),
         Request::Listing {

@@ -2,7 +2,7 @@
 //!
 //! Its one contract is that of [`file_tool`]: the status is 0 only where the words are a command line and what it asks for was done; 1 where
 //! something was refused or faulty, which is reported, or where `diff` wrote a difference; 2 for any other words, and then nothing is
-//! touched. It stands on reg_words, which reads the words, on reg_command for the standard streams, on reg_queries and reg_edits, and on
+//! touched, and of both options of `run` that is told. It stands on reg_words, which reads the words, on reg_command for the standard streams, on reg_queries and reg_edits, and on
 //! reg_tree_image, by which it saves. What is to be saved has clauses (`specs/Saves.antt`); what files hold no clause can say.
 //!
 //! `answers` answers a request, by `streams`, `queries` and `commands`; `saved` is what is saved, `locks` and `saving` have the steps on files, `device`
@@ -21,8 +21,9 @@ mod saved;
 mod saving;
 mod streams;
 
-ghost use Rattle.std.specs.Prelude.{◌≡◌, ◌≤◌, ◌⊎◌};
-ghost use Rattle.reg_words.specs.CommandLines.{texts};
+ghost use Rattle.std.specs.Prelude.{◌≡◌, ◌≤◌, ◌⊎◌, codes};
+ghost use Rattle.reg_words.specs.CommandLines.{texts, HasBothOptions};
+ghost use Rattle.reg_command.specs.Failures.{IsSaid};
 ghost use Rattle.reg_files.specs.Serving.{IsServed, IsFailed, IsRefused, WantsMemory};
 
 use crate::answers::answer;
@@ -34,10 +35,12 @@ use reg_words::read_words;
 use std::alloc::Global;
 use std::io::Read;
 use std::rt::{Clock, Files};
+use std::sync::Wait;
+use std::thread::Threads;
 
 /// Runs the tool on a command line, whose first word is the program's name, and answers the exit status.
 ///
-/// `run`, and `dump` and `check` without files, do with the standard streams what [`reg_command::serve_stream`] says. `dump FILE` and
+/// `run`, whose sessions may work on threads, and `dump` and `check` without files, do with the standard streams what [`reg_command::serve_stream`] says. `dump FILE` and
 /// `check FILE..` do with files what these do with `input`; several are counted a line each, behind their names. `ls FILE [PATH]` lists a
 /// key's values and subkeys, `get FILE PATH [NAME]` writes a value's data, `find FILE PATTERN` the keys and values that a pattern matches,
 /// `diff OLD NEW` what differs between two hives, and `export FILE [PATH] --as reg` writes a key with all below it as a .reg text. `new
@@ -48,8 +51,9 @@ use std::rt::{Clock, Files};
 ///
 /// The status is 0 where that was done, 1 where something was refused or faulty, with a line on `errors` that says what and where (save
 /// that a write to `output` failed since nobody reads it any more), or where `diff` wrote a difference, and 2 for words that aren't
-/// understood.
-pub fn file_tool<H: Files + Clock, R: Read, W: Output, E: Sink>(
+/// understood, of which `error options` says that `run` has both its options.
+pub fn file_tool<Rt: Threads + Wait + Sync, H: Files + Clock, R: Read, W: Output, E: Sink>(
+    rt: &Rt,
     alloc: Global,
     host: &H,
     words: Vec<String>,
@@ -69,9 +73,11 @@ where
         (E.contents errors.old) (E.contents errors.new) (E.failures errors.old) (E.failures errors.new) }
     ensures refused { result ≡ 2 → IsRefused (texts words.items) (R.remaining input.old) (R.remaining input.new) (W.contents output.old)
         (W.contents output.new) }
+    ensures options { HasBothOptions (texts words.items) → result ≡ 2 → IsSaid (codes "error options\n") (E.contents errors.old)
+        (E.contents errors.new) (E.failures errors.old) (E.failures errors.new) }
 {
     match read_words(alloc, words.as_slice()) {
-        Ok(request) => answer(alloc, host, request, input, output, errors),
-        Err(error) => refuse_words(alloc, errors, &error),
+        Ok(request) => answer(rt, alloc, host, request, input, output, errors),
+        Err(fault) => refuse_words(alloc, errors, &fault),
     }
 }

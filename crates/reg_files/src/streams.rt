@@ -12,9 +12,8 @@ use crate::device::Output;
 use crate::fault::Fault;
 use crate::queries::open;
 use crate::reports::settle;
-use reg_command::{Stop, perform, report_stop};
+use reg_command::{Stop, check_image, dump_image, report_stop};
 use reg_text::{Sink, write_counted};
-use reg_words::StreamRequest;
 use std::alloc::Global;
 use std::io::{Read, Write};
 use std::rt::Files;
@@ -33,20 +32,42 @@ fn settle_stop<E: Sink>(alloc: Global, errors: &mut E, is_closed: bool, stop: St
     }
 }
 
-/// Answers a request of the standard streams with an open file in the place of standard input, and answers the status.
-fn answer_of<F: Read, W: Output, E: Sink>(
+/// Writes the text of the tree of an open file, and answers the status.
+fn dump_in<F: Read, W: Output, E: Sink>(
     alloc: Global,
-    request: StreamRequest,
-    file: &mut F,
+    image: &mut F,
     output: &mut W,
     errors: &mut E,
 ) -> u8
     ensures status { result ≤ 1 }
-    ensures answers { result ≡ 0 → Answers request (W.contents output.old) (W.contents output.new) (E.contents errors.old) (E.contents errors.new) }
-    ensures stops { result ≡ 1 → AnswerStops request (W.closed output.new) (W.contents output.old) (W.contents output.new)
+    ensures answers { result ≡ 0 → Answers StreamRequest.Dump (W.contents output.old) (W.contents output.new)
+        (E.contents errors.old) (E.contents errors.new) }
+    ensures stops { result ≡ 1 → AnswerStops StreamRequest.Dump (W.closed output.new) (W.contents output.old) (W.contents output.new)
         (E.contents errors.old) (E.contents errors.new) (E.failures errors.old) (E.failures errors.new) }
 {
-    match perform(alloc, request, file, output) {
+    match dump_image(alloc, image, output) {
+        Ok(()) => 0,
+        Err(stop) => {
+            settle_stop(alloc, errors, output.is_closed(), stop);
+            1
+        }
+    }
+}
+
+/// Writes how many keys and values an open file has, and answers the status.
+fn check_in<F: Read, W: Output, E: Sink>(
+    alloc: Global,
+    image: &mut F,
+    output: &mut W,
+    errors: &mut E,
+) -> u8
+    ensures status { result ≤ 1 }
+    ensures answers { result ≡ 0 → Answers StreamRequest.Check (W.contents output.old) (W.contents output.new)
+        (E.contents errors.old) (E.contents errors.new) }
+    ensures stops { result ≡ 1 → AnswerStops StreamRequest.Check (W.closed output.new) (W.contents output.old) (W.contents output.new)
+        (E.contents errors.old) (E.contents errors.new) (E.failures errors.old) (E.failures errors.new) }
+{
+    match check_image(alloc, image, output) {
         Ok(()) => 0,
         Err(stop) => {
             settle_stop(alloc, errors, output.is_closed(), stop);
@@ -70,7 +91,7 @@ pub fn dump_file<H: Files, W: Output, E: Sink>(
         (E.contents errors.old) (E.contents errors.new) (E.failures errors.old) (E.failures errors.new) }
 {
     match open(host, file) {
-        Ok(mut image) => answer_of(alloc, StreamRequest::Dump, &mut image, output, errors),
+        Ok(mut image) => dump_in(alloc, &mut image, output, errors),
         Err(fault) => settle(alloc, errors, file, false, Err(fault)),
     }
 }
@@ -125,7 +146,7 @@ fn count_in<F: Read, W: Output, E: Sink>(
         (E.contents errors.old) (E.contents errors.new) (E.failures errors.old) (E.failures errors.new) }
 {
     match write_name(alloc, file, is_named, output) {
-        Ok(()) => answer_of(alloc, StreamRequest::Check, image, output, errors),
+        Ok(()) => check_in(alloc, image, output, errors),
         Err(fault) => settle(alloc, errors, file, output.is_closed(), Err(fault)),
     }
 }

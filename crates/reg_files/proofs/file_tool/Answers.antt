@@ -1,5 +1,6 @@
-use Rattle.std.proofs.Common.{◌≡◌, ap, inl, inr, refl, subst, arith}
-use Rattle.reg_words.specs.CommandLines.{texts, AsksNothing, IsCommandLine}
+use Rattle.std.proofs.Common.{◌≡◌, ap, inl, inr, refl, subst, sym, arith}
+use Rattle.reg_words.specs.CommandLines.{texts, AsksNothing, HasBothOptions, IsCommandLine}
+use Rattle.reg_words.proofs.ToldOptions.{is_options}
 use Rattle.reg_files.proofs.Statuses.{small, served, failed_by}
 use Rattle.reg_files.proofs.file_tool.Goals as goal
 
@@ -28,3 +29,10 @@ returns-clause-refused g c =
           (c.in-Err.ensures.refuses (λ memory. let one : c.refuse_words.result ≡ 1 = c.refuse_words.ensures.memory memory in absurd (omega (arith, one, two))));
       untouched = (refl, refl);
     }
+
+-- what is told of both options
+pub returns-clause-options : goal.returns-clause-options
+returns-clause-options g c =
+    λ both two. (c.refuse_words.ensures.options (is_options c.in-Err.fault (texts c.as_slice.result.now) c.in-Err.ensures.options
+    (subst (λ ws. HasBothOptions (texts ws)) (sym c.as_slice.ensures.value) both)
+    (λ memory. let one : c.refuse_words.result ≡ 1 = c.refuse_words.ensures.memory memory in absurd (omega (arith, one, two))))).1

@@ -4,8 +4,8 @@ use Rattle.reg_files.proofs.streams.count_in.Goals as goal
 
 pub returns-in-Ok-clause-checks : goal.returns-in-Ok-clause-checks
 returns-in-Ok-clause-checks g c =
-    behind c.args.is_named c.args.file.now c.answer_of.result _ _ _ _ _ _ _ _ c.in-Ok.ensures.written c.answer_of.ensures.status
-    c.answer_of.ensures.answers c.answer_of.ensures.stops
+    behind c.args.is_named c.args.file.now c.check_in.result _ _ _ _ _ _ _ _ c.in-Ok.ensures.written c.check_in.ensures.status
+    c.check_in.ensures.answers c.check_in.ensures.stops
 
 pub returns-in-Err-clause-checks : goal.returns-in-Err-clause-checks
 returns-in-Err-clause-checks g c =

@@ -1,6 +1,6 @@
 use Rattle.std.proofs.Common.{refl}
 use Rattle.reg_files.proofs.StreamStops.{stop_reported_as}
-use Rattle.reg_files.proofs.streams.answer_of.Goals as goal
+use Rattle.reg_files.proofs.streams.dump_in.Goals as goal
 
 pub returns-in-Ok-clause-answers : goal.returns-in-Ok-clause-answers
 returns-in-Ok-clause-answers g c = λ _. (_, _, c.in-Ok.ensures.ok, refl)
