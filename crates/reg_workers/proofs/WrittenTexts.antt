@@ -19,10 +19,10 @@ use Rattle.reg_sessions.specs.Gathering.{IsMismatch, IsAudited, journal_at}
 use Rattle.reg_workers.specs.declared.part.Reply.{Reply}
 use Rattle.reg_workers.specs.Tasks.{first_settings, Task, bad_line, works, tasks_of, works_of, sessions_of}
 use Rattle.reg_workers.specs.Texts.{reply_text, replies_text, session_text, sessions_text, entries_text, end_text}
-use Rattle.reg_workers.specs.Workers.{accepted_at, IsEnd, fresh_session, no_answers, WritesWorkers}
+use Rattle.reg_workers.specs.Workers.{accepted_at, entries_of, AreAdmitted, IsEnd, fresh_session, no_answers, WritesWorkers}
 use Rattle.reg_workers.specs.Internal.Parts.{PartState, no_part, reply_of, part_of, part_at}
-use Rattle.reg_workers.specs.Internal.Working.{AreWorked, IsWorked, HaveReplies, works_among, replies_by, session_by, work_at, done_at, sessions_by, IsWritable, entries_of, IsGatheredSo, IsTold, IsToldOf}
-use Rattle.reg_workers.proofs.WrittenReplies.{work_at_is, done_at_is, entries_at, entries_long}
+use Rattle.reg_workers.specs.Internal.Working.{AreWorked, IsWorked, HaveReplies, works_among, replies_by, session_by, work_at, done_at, sessions_by, IsWritable, IsGatheredSo, IsTold, IsToldOf}
+use Rattle.reg_workers.proofs.WrittenReplies.{work_at_is, done_at_is}
 use Rattle.reg_workers.proofs.WorkedJobs.{job_there}
 
 -- ---- tasks and what was kept of them
@@ -174,17 +174,16 @@ module _ (hives : ℕ) (lines : List (List ℕ)) (parts kept : List PartState) (
   number_of_sessions : length sessions ≡ sessions_of hives lines
   number_of_sessions = length-map jobs (λ (j : Job). j.session) ∙ number_of_jobs
 
-  ends_so : (gathered : Bool) (booked : List Booked) → length booked ≡ hives → IsGatheredSo gathered booked sessions →
-      IsEnd gathered hives tasks done (sessions_of hives lines) (entries_of booked)
-  ends_so true booked long h = λ n below.
-      h n (omega (arith, below, long))
-      ∙ ap (λ (xs : List SessionState). sum_by (λ s. length (receipts_at n s)) xs) (sym (take_whole sessions (sessions_of hives lines) number_of_sessions))
-      ∙ sum_same n (sessions_of hives lines) (omega (arith, number_of_sessions))
-  ends_so false booked long h = record {
+  ends_so : (gathered : Bool) (booked : List Booked) → IsGatheredSo gathered booked sessions → IsEnd gathered booked tasks done (sessions_of hives lines)
+  ends_so true booked h = λ n below. record {
+    entries = λ s. (h n below).gathered s ∙ receipts_are s n;
+    total = (h n below).total
+        ∙ ap (λ (xs : List SessionState). sum_by (λ s. length (receipts_at n s)) xs) (sym (take_whole sessions (sessions_of hives lines) number_of_sessions))
+        ∙ sum_same n (sessions_of hives lines) (omega (arith, number_of_sessions));
+  }
+  ends_so false booked h = record {
     hive = h.0;
-    is_hive = omega (arith, h.3.within, long);
-    journal = journal_at booked h.0;
-    long = sym (entries_at booked h.0 0 h.3.within);
+    is_hive = h.3.within;
     session = h.1;
     place = h.2;
     differ = subst (λ (rs : List Receipt). slice_get (receipts_of h.1 (journal_at booked h.0)) h.2 ≢ slice_get rs h.2) (receipts_are h.1 h.0) h.3.differ;
@@ -197,10 +196,11 @@ module _ (hives : ℕ) (lines : List (List ℕ)) (parts kept : List PartState) (
       done = done;
       kinds = λ s below. kinds_there s (omega (arith, below, number_of_jobs));
       lawful = λ s below. lawful_there s (omega (arith, below, number_of_jobs));
-      entries = entries_of h.told.booked;
-      each = entries_long h.told.booked ∙ h.told.count;
+      audit = h.told.booked;
+      count = h.told.count;
+      admitted = h.told.admitted;
       gathered = h.told.gathered;
-      ends = ends_so h.told.gathered h.told.booked h.told.count h.told.ends;
+      ends = ends_so h.told.gathered h.told.booked h.told.ends;
       text_is = refl;
     },
     (h.told.text
@@ -211,22 +211,24 @@ module _ (hives : ℕ) (lines : List (List ℕ)) (parts kept : List PartState) (
 
 -- ---- what gathering answers
 
-pub told_gathered : (hives : ℕ) (all : List SessionState) (audit : List Booked) (old new : List ℕ) → length audit ≡ hives →
+pub told_gathered : (hives : ℕ) (all : List SessionState) (audit : List Booked) (old new : List ℕ) → length audit ≡ hives → AreAdmitted audit →
     ((h : ℕ) → h < length audit → IsAudited audit all h) → new ≡ old ++ (entries_text (entries_of audit) ++ end_text true) →
     IsTold hives all old new
-told_gathered hives all audit old new long audited text = record {
+told_gathered hives all audit old new long admitted audited text = record {
   booked = audit;
   count = long;
+  admitted = admitted;
   gathered = true;
-  ends = λ h below. entries_at audit h 0 below ∙ (audited h below).total;
+  ends = audited;
   text = text;
 }
 
-pub told_differs : (hives h s place : ℕ) (all : List SessionState) (audit : List Booked) (old new : List ℕ) → length audit ≡ hives →
+pub told_differs : (hives h s place : ℕ) (all : List SessionState) (audit : List Booked) (old new : List ℕ) → length audit ≡ hives → AreAdmitted audit →
     IsMismatch audit all h s place → new ≡ old ++ (entries_text (entries_of audit) ++ end_text false) → IsTold hives all old new
-told_differs hives h s place all audit old new long differ text = record {
+told_differs hives h s place all audit old new long admitted differ text = record {
   booked = audit;
   count = long;
+  admitted = admitted;
   gathered = false;
   ends = (h, s, place, differ);
   text = text;

@@ -1,12 +1,14 @@
 -- Scripts whose sessions work side by side on several hives (this project's own rules of the script).
-use Rattle.std.specs.Prelude.{◌≡◌, ◌≢◌, ℕ, zero, suc, ◌+◌, ◌<◌, Bool, true, false, List, [], ◌++◌, length, get_or, slice_get, Option}
+use Rattle.std.specs.Prelude.{◌≡◌, ◌≢◌, ℕ, zero, suc, ◌+◌, ◌<◌, Bool, true, false, List, [], ◌++◌, length, map, slice_get, Option, Some}
 use Rattle.std.specs.Io.KnownBytes.{Appends, Consumes, IsAtEnd}
 use Rattle.reg_callbacks.specs.Asking.{Answers}
 use Rattle.reg_callbacks.specs.declared.callback.NoCallback.{NoCallback}
 use Rattle.reg_model.specs.Histories.{receipts_of}
-use Rattle.reg_model.specs.declared.reply.Entry.{Entry}
+use Rattle.reg_calls.specs.Views.{Booked}
 use Rattle.reg_sessions.specs.declared.job.Done.{Done}
 use Rattle.reg_sessions.specs.Jobs.{are_of_kinds, receipts_by, AreLawful}
+use Rattle.reg_sessions.specs.Gathering.{journal_at}
+use Rattle.reg_sessions.specs.Locked.{IsAdmitted}
 use Rattle.reg_sessions.specs.Sessions.{SessionState}
 use Rattle.reg_script.specs.declared.engine.ScriptFault.{ScriptFault}
 use Rattle.reg_script.specs.declared.engine.ScriptFault.TheVariants.{Read, Write, TooLong, Memory}
@@ -20,20 +22,31 @@ abbrev pub accepted_at : ℕ → (ℕ → List Task) → (ℕ → List Done) →
 accepted_at h tasks done zero = 0
 accepted_at h tasks done (suc n) = accepted_at h tasks done n + length (receipts_by h (works_of (tasks n)) (done n))
 
--- a hive has a journal of as many entries as are told, and at some place of a session it differs from what the session was told
-pub record Differs (hives : ℕ) (tasks : ℕ → List Task) (done : ℕ → List Done) (entries : List ℕ) : Type 0 where
+-- how many entries each hive has
+abbrev pub entries_of : List Booked → List ℕ
+entries_of hives = map (λ (b : Booked). length b.view.journal) hives
+
+-- each is a hive that a lock's type admits
+abbrev pub AreAdmitted : List Booked → Type 0
+AreAdmitted hives = (h : ℕ) (b : Booked) → slice_get hives h ≡ Some b → IsAdmitted b
+
+-- of each session the hive's journal has just the entries of its accepted changes, in order, and there are no others
+pub record HoldsAll (hives : List Booked) (tasks : ℕ → List Task) (done : ℕ → List Done) (n h : ℕ) : Type 0 where
+  pub entries : (s : ℕ) → receipts_of s (journal_at hives h) ≡ receipts_by h (works_of (tasks s)) (done s)
+  pub total : length (journal_at hives h) ≡ accepted_at h tasks done n
+
+-- at some place of a session a hive's journal differs from what the session was told
+pub record Differs (hives : List Booked) (tasks : ℕ → List Task) (done : ℕ → List Done) : Type 0 where
   pub hive : ℕ
-  pub is_hive : hive < hives
-  pub journal : List Entry
-  pub long : length journal ≡ get_or entries hive 0
+  pub is_hive : hive < length hives
   pub session : ℕ
   pub place : ℕ
-  pub differ : slice_get (receipts_of session journal) place ≢ slice_get (receipts_by hive (works_of (tasks session)) (done session)) place
+  pub differ : slice_get (receipts_of session (journal_at hives hive)) place ≢ slice_get (receipts_by hive (works_of (tasks session)) (done session)) place
 
--- what is told at the end is so: each hive has just as many entries as changes were accepted there, or one differs
-abbrev pub IsEnd : Bool → ℕ → (ℕ → List Task) → (ℕ → List Done) → ℕ → List ℕ → Type 0
-IsEnd true hives tasks done n entries = (h : ℕ) → h < hives → get_or entries h 0 ≡ accepted_at h tasks done n
-IsEnd false hives tasks done n entries = Differs hives tasks done entries
+-- what is told at the end is so: each journal holds just the accepted changes, or one differs
+abbrev pub IsEnd : Bool → List Booked → (ℕ → List Task) → (ℕ → List Done) → ℕ → Type 0
+IsEnd true hives tasks done n = (h : ℕ) → h < length hives → HoldsAll hives tasks done n h
+IsEnd false hives tasks done n = Differs hives tasks done
 
 -- a session before its first line: without receipts, and with marks of 0
 abbrev pub fresh_session : ℕ → SessionState
@@ -44,17 +57,20 @@ abbrev pub no_answers : NoCallback → Answers
 no_answers callback session moment path seen = 0
 
 -- the sessions of these lines may write this text together: each work has an outcome of its kind, which is lawful by those before it, and
--- the text has the replies of each session, then a number for each hive, and then how it ended
+-- the text has the replies of each session, then how many entries each of as many hives has, and then whether these are what the sessions
+-- were told
 pub record WritesWorkers (hives : ℕ) (lines : List (List ℕ)) (text : List ℕ) : Type 0 where
   pub done : ℕ → List Done
   pub kinds : (s : ℕ) → s < sessions_of hives lines → are_of_kinds (works_of (tasks_of hives s lines first_settings)) (done s) ≡ true
   pub lawful : (s : ℕ) → s < sessions_of hives lines →
       AreLawful no_answers (fresh_session s) (works_of (tasks_of hives s lines first_settings)) (done s)
-  pub entries : List ℕ
-  pub each : length entries ≡ hives
+  pub audit : List Booked
+  pub count : length audit ≡ hives
+  pub admitted : AreAdmitted audit
   pub gathered : Bool
-  pub ends : IsEnd gathered hives (λ s. tasks_of hives s lines first_settings) done (sessions_of hives lines) entries
-  pub text_is : text ≡ sessions_text (λ s. tasks_of hives s lines first_settings) done (sessions_of hives lines) ++ (entries_text entries ++ end_text gathered)
+  pub ends : IsEnd gathered audit (λ s. tasks_of hives s lines first_settings) done (sessions_of hives lines)
+  pub text_is : text ≡ sessions_text (λ s. tasks_of hives s lines first_settings) done (sessions_of hives lines)
+      ++ (entries_text (entries_of audit) ++ end_text gathered)
 
 -- the input was read to its end, and what was written is a text that the sessions of its lines may write together
 pub record RunsWorkers (hives : ℕ) (unread left before after : Option (List ℕ)) : Type 0 where

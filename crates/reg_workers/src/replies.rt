@@ -5,7 +5,8 @@ ghost use Rattle.reg_sessions.specs.Jobs.{is_of_kind, are_of_kinds};
 ghost use Rattle.reg_sessions.specs.Sessions.{AreInOrder};
 ghost use Rattle.reg_workers.specs.Texts.{reply_text, entries_text, end_text};
 ghost use Rattle.reg_workers.specs.Internal.Parts.{part_at};
-ghost use Rattle.reg_workers.specs.Internal.Working.{works_among, replies_by, session_by, sessions_by, IsWritable, IsWritten, entries_of, IsTold, IsToldOf};
+ghost use Rattle.reg_workers.specs.Internal.Working.{works_among, replies_by, session_by, sessions_by, IsWritable, IsWritten, IsTold, IsToldOf};
+ghost use Rattle.reg_workers.specs.Workers.{entries_of, AreAdmitted};
 
 use crate::part::{Part, Reply};
 use reg_callbacks::Callback;
@@ -171,14 +172,18 @@ fn write_number(text: &mut String, number: u64) -> Result<(), AllocError>
 
 /// How many entries each hive has.
 fn write_entries<C: Callback>(text: &mut String, audit: &Audit<C>) -> Result<(), AllocError>
-    ensures { OnOk result (string_bytes text.new ≡ string_bytes text.old ++ entries_text (entries_of audit.now)) }
+    ensures text { OnOk result (string_bytes text.new ≡ string_bytes text.old ++ entries_text (entries_of audit.now)) }
+    ensures admitted { OnOk result (AreAdmitted audit.now) }
 {
     text.push_str("entries")?;
     for hive in 0..audit.hives() {
+        // Only for its clause: the hive is one that a lock's type admits.
+        let _ = audit.hive(hive as u8);
         let entries = audit.entries(hive as u8);
         write_number(text, entries)?;
     }
-    writeln!(text)
+    writeln!(text)?;
+    Ok(())
 }
 
 /// How many entries each hive has, and whether all agrees.
@@ -187,14 +192,16 @@ fn write_end<C: Callback>(
     audit: &Audit<C>,
     is_gathered: bool,
 ) -> Result<(), AllocError>
-    ensures { OnOk result (string_bytes text.new ≡ string_bytes text.old ++ (entries_text (entries_of audit.now) ++ end_text is_gathered)) }
+    ensures text { OnOk result (string_bytes text.new ≡ string_bytes text.old ++ (entries_text (entries_of audit.now) ++ end_text is_gathered)) }
+    ensures admitted { OnOk result (AreAdmitted audit.now) }
 {
     write_entries(text, audit)?;
-    if is_gathered {
-        text.push_str("gathered\n")
+    text.push_str(if is_gathered {
+        "gathered\n"
     } else {
-        text.push_str("mismatch\n")
-    }
+        "mismatch\n"
+    })?;
+    Ok(())
 }
 
 /// Gathers all sessions, and writes what that answers.

@@ -1,5 +1,5 @@
 -- Jobs that were made of parts, and what is written of them.
-use Rattle.std.specs.Prelude.{◌≡◌, ℕ, zero, suc, ◌+◌, ◌<◌, Bool, true, false, List, [], ◌∷◌, ◌++◌, codes, length, map, get_or, slice_index_or, sum_by}
+use Rattle.std.specs.Prelude.{◌≡◌, ℕ, zero, suc, ◌+◌, ◌<◌, Bool, true, false, List, [], ◌∷◌, ◌++◌, codes, length, map, slice_index_or}
 use Rattle.std.specs.Fmt.{decimal}
 use Rattle.reg_text.specs.Texts.{line_feed}
 use Rattle.reg_callbacks.specs.Asking.{Answers}
@@ -9,11 +9,11 @@ use Rattle.reg_sessions.specs.declared.job.Done.{Done}
 use Rattle.reg_sessions.specs.declared.job.Job.{Job}
 use Rattle.reg_sessions.specs.Sessions.{SessionState, session_of, receipts_at}
 use Rattle.reg_sessions.specs.Jobs.{are_of_kinds, receipts_by, AreLawful}
-use Rattle.reg_sessions.specs.Gathering.{IsMismatch}
+use Rattle.reg_sessions.specs.Gathering.{IsAudited, IsMismatch}
 use Rattle.reg_workers.specs.declared.part.Reply.{Reply}
 use Rattle.reg_workers.specs.declared.part.Reply.TheVariants.{Bad, Worked}
 use Rattle.reg_workers.specs.Texts.{reply_text, entries_text, end_text}
-use Rattle.reg_workers.specs.Workers.{fresh_session}
+use Rattle.reg_workers.specs.Workers.{fresh_session, entries_of, AreAdmitted}
 use Rattle.reg_workers.specs.Internal.Parts.{PartState, part_at}
 
 -- ---- jobs
@@ -87,19 +87,16 @@ pub record IsWritten (reply : Reply) (work : List Work) (done : List Done) (old 
 
 -- ---- what is written of hives
 
--- how many entries each hive has
-abbrev pub entries_of : List Booked → List ℕ
-entries_of hives = map (λ (b : Booked). length b.view.journal) hives
-
 -- what is told at the end is what gathering answers
 abbrev pub IsGatheredSo : Bool → List Booked → List SessionState → Type 0
-IsGatheredSo true hives sessions = (h : ℕ) → h < length hives → get_or (entries_of hives) h 0 ≡ sum_by (λ s. length (receipts_at h s)) sessions
+IsGatheredSo true hives sessions = (h : ℕ) → h < length hives → IsAudited hives sessions h
 IsGatheredSo false hives sessions = (h : ℕ) × (s : ℕ) × (place : ℕ) × IsMismatch hives sessions h s place
 
 -- the end was written
 pub record IsTold (hives : ℕ) (sessions : List SessionState) (old new : List ℕ) : Type 0 where
   pub booked : List Booked
   pub count : length booked ≡ hives
+  pub admitted : AreAdmitted booked
   pub gathered : Bool
   pub ends : IsGatheredSo gathered booked sessions
   pub text : new ≡ old ++ (entries_text (entries_of booked) ++ end_text gathered)
