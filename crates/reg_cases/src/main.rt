@@ -32,9 +32,9 @@ use anyhow::{Result, bail};
 const PAGES: [&str; 3] = ["README.md", "TOOL.md", "HIVES.md"];
 
 fn main(rt: HostRuntime) -> Result<()> {
-    let mut wrong = run_themes(&rt)?;
+    let mut wrong = run_themes(&rt, &rt)?;
     for page in PAGES {
-        let (examples, others) = run_page(&rt, page)?;
+        let (examples, others) = run_page(&rt, &rt, page)?;
         println!(rt; "{page}: {examples} examples, {others} not as shown")?;
         wrong = wrong.saturating_add(others);
         if examples == 0 {

@@ -10,6 +10,8 @@ use std::cell::Cell;
 use std::fs;
 use std::fs::File;
 use std::rc::Rc;
+use std::sync::Wait;
+use std::thread::Threads;
 
 /// What a command gave.
 #[derive(Drop)]
@@ -39,8 +41,13 @@ fn opened(rt: &HostRuntime, path: &str) -> Result<File> {
     )
 }
 
-/// Runs the tool by a command line, with the file that it names as standard input, or else what is given.
-pub fn tool(rt: &HostRuntime, command: &CommandLine, given: &Given) -> Result<Outcome> {
+/// Runs the tool by a command line, with the file that it names as standard input, or else what is given. Its threads are the crew's.
+pub fn tool<T: Threads + Wait + Sync>(
+    rt: &HostRuntime,
+    crew: &T,
+    command: &CommandLine,
+    given: &Given,
+) -> Result<Outcome> {
     let alloc = rt.alloc();
     let conditions = given.conditions;
     let bytes = match &command.input {
@@ -79,7 +86,7 @@ pub fn tool(rt: &HostRuntime, command: &CommandLine, given: &Given) -> Result<Ou
     let mut device = Device::new(&mut output);
     let words = command.words.clone()?;
     let status = file_tool(
-        rt,
+        crew,
         alloc,
         &host,
         words,

@@ -9,6 +9,8 @@ use crate::outcome::{Outcome, tool};
 use crate::shown::are_as_shown;
 use anyhow::{Context, Result};
 use std::fs;
+use std::sync::Wait;
+use std::thread::Threads;
 
 /// Whether an example is as its page shows it: its status, and what it printed.
 fn is_example_as_shown(example: &Example<'_>, status: u8, lines: &[&str]) -> bool {
@@ -20,20 +22,29 @@ fn is_example_as_shown(example: &Example<'_>, status: u8, lines: &[&str]) -> boo
 }
 
 /// What an example's command gives.
-fn outcome_of(rt: &HostRuntime, example: &Example<'_>) -> Result<Outcome> {
+fn outcome_of<T: Threads + Wait + Sync>(
+    rt: &HostRuntime,
+    crew: &T,
+    example: &Example<'_>,
+) -> Result<Outcome> {
     let alloc = rt.alloc();
     let line = format!(in alloc; "regtool {}", example.line)?;
     tool(
         rt,
+        crew,
         &read_line(alloc, line.as_str())?,
         &Given::nothing(alloc),
     )
 }
 
 /// Runs an example, and answers what is wrong with it.
-fn fault_of(rt: &HostRuntime, example: &Example<'_>) -> Result<Option<String>> {
+fn fault_of<T: Threads + Wait + Sync>(
+    rt: &HostRuntime,
+    crew: &T,
+    example: &Example<'_>,
+) -> Result<Option<String>> {
     let alloc = rt.alloc();
-    let outcome = outcome_of(rt, example)?;
+    let outcome = outcome_of(rt, crew, example)?;
     let mut printed = outcome.output;
     printed.extend_from_slice(&outcome.errors)?;
     let text = String::from_utf8_lossy(alloc, &printed)?;
@@ -45,7 +56,11 @@ fn fault_of(rt: &HostRuntime, example: &Example<'_>) -> Result<Option<String>> {
 }
 
 /// Runs the examples of a page, tells those that aren't as shown, and answers how many there were, and how many of these.
-pub fn run_page(rt: &HostRuntime, page: &str) -> Result<(u32, u32)> {
+pub fn run_page<T: Threads + Wait + Sync>(
+    rt: &HostRuntime,
+    crew: &T,
+    page: &str,
+) -> Result<(u32, u32)> {
     let alloc = rt.alloc();
     let text = fs::read_to_string(rt, page).context(format_args!("reading {page}"))?;
     let lines: Vec<&str> = text.as_str().lines().collect(alloc)?;
@@ -55,7 +70,7 @@ pub fn run_page(rt: &HostRuntime, page: &str) -> Result<(u32, u32)> {
             continue;
         };
         examples = examples.saturating_add(1);
-        if let Some(fault) = fault_of(rt, &example)? {
+        if let Some(fault) = fault_of(rt, crew, &example)? {
             println!(rt; "{page}: {}: {}", example.line, fault.as_str())?;
             wrong = wrong.saturating_add(1);
         }

@@ -11,6 +11,8 @@ use anyhow::Result;
 use std::alloc::Global;
 use std::fs::{File, Permissions};
 use std::os::unix::fs::PermissionsExt;
+use std::sync::Wait;
+use std::thread::Threads;
 use std::{env, fs};
 
 /// The folder of the case that runs.
@@ -20,12 +22,18 @@ const FOLDER: &str = "case";
 const BETWEEN: &str = " | ";
 
 /// What a command line gives.
-fn outcome_of(rt: &HostRuntime, line: &str, given: &Given, scene: &mut Scene) -> Result<Outcome> {
+fn outcome_of<T: Threads + Wait + Sync>(
+    rt: &HostRuntime,
+    crew: &T,
+    line: &str,
+    given: &Given,
+    scene: &mut Scene,
+) -> Result<Outcome> {
     let command = read_line(rt.alloc(), line)?;
     if let [name, ..] = command.words.as_slice()
         && name.as_str() == "regtool"
     {
-        let outcome = tool(rt, &command, given)?;
+        let outcome = tool(rt, crew, &command, given)?;
         scene.note(&outcome);
         return Ok(outcome);
     }
@@ -64,15 +72,21 @@ fn fault_in(rt: &HostRuntime, given: &Given, outcome: &Outcome) -> Result<Option
 }
 
 /// What is wrong with a call of the tool; `None` where all is as wanted.
-pub fn fault_of_call(rt: &HostRuntime, line: &str, given: &Given) -> Result<Option<String>> {
+pub fn fault_of_call<T: Threads + Wait + Sync>(
+    rt: &HostRuntime,
+    crew: &T,
+    line: &str,
+    given: &Given,
+) -> Result<Option<String>> {
     let command = read_line(rt.alloc(), line)?;
-    let outcome = tool(rt, &command, given)?;
+    let outcome = tool(rt, crew, &command, given)?;
     fault_in(rt, given, &outcome)
 }
 
 /// What is wrong with a step; `None` where all is as wanted.
-fn fault_of_step(
+fn fault_of_step<T: Threads + Wait + Sync>(
     rt: &HostRuntime,
+    crew: &T,
     step: &Step<'_>,
     parts: &[&str],
     scene: &mut Scene,
@@ -80,7 +94,7 @@ fn fault_of_step(
     let alloc = rt.alloc();
     let given = given_by(alloc, &step.body, parts)?;
     let line = written_out(alloc, filled(alloc, step.line, parts)?.as_str())?;
-    let outcome = outcome_of(rt, line.as_str(), &given, scene)?;
+    let outcome = outcome_of(rt, crew, line.as_str(), &given, scene)?;
     fault_in(rt, &given, &outcome)
 }
 
@@ -102,12 +116,17 @@ pub fn parts_of<'a>(alloc: Global, row: &'a str) -> Result<Vec<&'a str>> {
 }
 
 /// Runs the steps of a case up to the first at which something is wrong, and tells that.
-fn fault_of_steps(rt: &HostRuntime, case: &Case<'_>, row: &str) -> Result<Option<String>> {
+fn fault_of_steps<T: Threads + Wait + Sync>(
+    rt: &HostRuntime,
+    crew: &T,
+    case: &Case<'_>,
+    row: &str,
+) -> Result<Option<String>> {
     let alloc = rt.alloc();
     let mut scene = Scene::new(alloc);
     let parts = parts_of(alloc, row)?;
     for step in &case.steps {
-        match fault_of_step(rt, step, &parts, &mut scene) {
+        match fault_of_step(rt, crew, step, &parts, &mut scene) {
             Ok(None) => {}
             Ok(Some(fault)) => return Ok(Some(told(rt, step, row, fault.as_str())?)),
             Err(error) => {
@@ -120,10 +139,15 @@ fn fault_of_steps(rt: &HostRuntime, case: &Case<'_>, row: &str) -> Result<Option
 }
 
 /// Runs a case for a row in a new folder, which is taken away then, and tells what is wrong, if anything is.
-fn fault_of_row(rt: &HostRuntime, case: &Case<'_>, row: &str) -> Result<Option<String>> {
+fn fault_of_row<T: Threads + Wait + Sync>(
+    rt: &HostRuntime,
+    crew: &T,
+    case: &Case<'_>,
+    row: &str,
+) -> Result<Option<String>> {
     fs::create_dir(rt, FOLDER)?;
     env::set_current_dir(rt, FOLDER)?;
-    let fault = fault_of_steps(rt, case, row);
+    let fault = fault_of_steps(rt, crew, case, row);
     env::set_current_dir(rt, "..")?;
     fs::set_permissions(rt, FOLDER, Permissions::from_mode(0o755))?;
     fs::remove_dir_all(rt, FOLDER)?;
@@ -141,8 +165,9 @@ fn are_rights_asked(rt: &HostRuntime) -> Result<bool> {
 }
 
 /// Runs a case once for each row, unless it isn't to be run: what was wrong, and how many rows there are.
-fn run_rows(
+fn run_rows<T: Threads + Wait + Sync>(
     rt: &HostRuntime,
+    crew: &T,
     case: &Case<'_>,
     rows: &[&str],
     is_run: bool,
@@ -154,7 +179,7 @@ fn run_rows(
         if !is_run {
             continue;
         }
-        if let Some(fault) = fault_of_row(rt, case, row)? {
+        if let Some(fault) = fault_of_row(rt, crew, case, row)? {
             faults.push(fault)?;
         }
     }
@@ -163,14 +188,18 @@ fn run_rows(
 
 /// Runs a case, once for each of its rows, or once where it has none: what was wrong, and how often it ran. A case that isn't for whoever
 /// runs it counts, too.
-pub fn run_case(rt: &HostRuntime, case: &Case<'_>) -> Result<(Vec<String>, u32)> {
+pub fn run_case<T: Threads + Wait + Sync>(
+    rt: &HostRuntime,
+    crew: &T,
+    case: &Case<'_>,
+) -> Result<(Vec<String>, u32)> {
     let is_run = match case.user {
         User::Anyone => true,
         User::Root => !are_rights_asked(rt)?,
         User::Plain => are_rights_asked(rt)?,
     };
     if case.rows.is_empty() {
-        return run_rows(rt, case, &[""], is_run);
+        return run_rows(rt, crew, case, &[""], is_run);
     }
-    run_rows(rt, case, &case.rows, is_run)
+    run_rows(rt, crew, case, &case.rows, is_run)
 }

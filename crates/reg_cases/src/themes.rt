@@ -5,6 +5,8 @@ use crate::steps::run_case;
 use crate::workers::run_again;
 use anyhow::{Context, Result};
 use std::fs;
+use std::sync::Wait;
+use std::thread::Threads;
 
 /// The folder of the themes.
 const THEMES: &str = "cases";
@@ -67,17 +69,17 @@ fn paths_in(rt: &HostRuntime, folder: &str) -> Result<Vec<String>> {
 }
 
 /// Runs the cases of a file, and tells what is wrong, a line each.
-fn run_file(rt: &HostRuntime, path: &str) -> Result<Counts> {
+fn run_file<T: Threads + Wait + Sync>(rt: &HostRuntime, crew: &T, path: &str) -> Result<Counts> {
     let alloc = rt.alloc();
     let text = fs::read_to_string(rt, path).context(format_args!("reading {path}"))?;
     let cases = cases_in(alloc, text.as_str()).context(format_args!("reading {path}"))?;
     let mut counts = Counts::NONE;
     for case in &cases {
-        let (faults, runs) = run_case(rt, case).context(format_args!(
+        let (faults, runs) = run_case(rt, crew, case).context(format_args!(
             "{path}, the case of line {}",
             case.number
         ))?;
-        let (others, scripts) = run_again(rt, case).context(format_args!(
+        let (others, scripts) = run_again(rt, crew, case).context(format_args!(
             "{path}, the case of line {} by one worker",
             case.number
         ))?;
@@ -92,24 +94,24 @@ fn run_file(rt: &HostRuntime, path: &str) -> Result<Counts> {
 }
 
 /// Runs the cases of a theme.
-fn run_theme(rt: &HostRuntime, folder: &str) -> Result<Counts> {
+fn run_theme<T: Threads + Wait + Sync>(rt: &HostRuntime, crew: &T, folder: &str) -> Result<Counts> {
     let mut counts = Counts::NONE;
     for path in &paths_in(rt, folder)? {
         if path.as_str().ends_with(ENDING) {
-            counts.add(run_file(rt, path.as_str())?);
+            counts.add(run_file(rt, crew, path.as_str())?);
         }
     }
     Ok(counts)
 }
 
 /// Runs the cases of all themes, tells how many each has and how many scripts ran once more, and answers how many weren't as wanted.
-pub fn run_themes(rt: &HostRuntime) -> Result<u32> {
+pub fn run_themes<T: Threads + Wait + Sync>(rt: &HostRuntime, crew: &T) -> Result<u32> {
     let mut all = Counts::NONE;
     for path in &paths_in(rt, THEMES)? {
         if path.as_str().ends_with(".md") {
             continue;
         }
-        let counts = run_theme(rt, path.as_str())?;
+        let counts = run_theme(rt, crew, path.as_str())?;
         println!(rt;
             "{}: {} cases, {} not as wanted",
             path.as_str(),

@@ -5,6 +5,8 @@ use crate::given::{Given, given_by};
 use crate::steps::{fault_of_call, parts_of, told};
 use anyhow::Result;
 use std::alloc::{AllocError, Global};
+use std::sync::Wait;
+use std::thread::Threads;
 
 /// The command line of a script.
 const ALONE: &str = "regtool run";
@@ -60,7 +62,12 @@ fn told_again(alloc: Global, replies: &str) -> Result<String, AllocError> {
 }
 
 /// Runs the plain scripts of a case once more for a row: what was wrong, and how many there are.
-fn run_row(rt: &HostRuntime, case: &Case<'_>, row: &str) -> Result<(Vec<String>, u32)> {
+fn run_row<T: Threads + Wait + Sync>(
+    rt: &HostRuntime,
+    crew: &T,
+    case: &Case<'_>,
+    row: &str,
+) -> Result<(Vec<String>, u32)> {
     let alloc = rt.alloc();
     let parts = parts_of(alloc, row)?;
     let mut faults = Vec::new(alloc);
@@ -72,7 +79,7 @@ fn run_row(rt: &HostRuntime, case: &Case<'_>, row: &str) -> Result<(Vec<String>,
         }
         given.output = told_again(alloc, given.output.as_str())?;
         scripts = scripts.saturating_add(1);
-        if let Some(fault) = fault_of_call(rt, AGAIN, &given)? {
+        if let Some(fault) = fault_of_call(rt, crew, AGAIN, &given)? {
             faults.push(told(rt, step, row, fault.as_str())?)?;
         }
     }
@@ -80,14 +87,18 @@ fn run_row(rt: &HostRuntime, case: &Case<'_>, row: &str) -> Result<(Vec<String>,
 }
 
 /// Runs the plain scripts of a case once more, for each of its rows: what was wrong, and how many there are.
-pub fn run_again(rt: &HostRuntime, case: &Case<'_>) -> Result<(Vec<String>, u32)> {
+pub fn run_again<T: Threads + Wait + Sync>(
+    rt: &HostRuntime,
+    crew: &T,
+    case: &Case<'_>,
+) -> Result<(Vec<String>, u32)> {
     if case.rows.is_empty() {
-        return run_row(rt, case, "");
+        return run_row(rt, crew, case, "");
     }
     let mut faults = Vec::new(rt.alloc());
     let mut scripts = 0u32;
     for row in &case.rows {
-        let (wrong, count) = run_row(rt, case, row)?;
+        let (wrong, count) = run_row(rt, crew, case, row)?;
         scripts = scripts.saturating_add(count);
         for fault in wrong {
             faults.push(fault)?;

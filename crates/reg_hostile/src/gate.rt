@@ -10,6 +10,8 @@ use crate::trips::{make_refusals, make_trips};
 use anyhow::Result;
 use reg_fixtures::PlainHive;
 use std::alloc::Global;
+use std::sync::Wait;
+use std::thread::Threads;
 
 /// How many bits of the image with every record are turned over beside those of its records.
 const BITS: usize = 10_000;
@@ -21,7 +23,7 @@ const STRIDE: usize = 37;
 const SEEDS: u64 = 20_000;
 
 /// Fronts and bits of the image of a fresh hive.
-fn sweep_fresh(rt: &HostRuntime, alloc: Global) -> Result<()> {
+fn sweep_fresh<Rt: Print + Threads + Wait + Sync>(rt: &Rt, alloc: Global) -> Result<()> {
     let mut image = scripted::<PlainHive>(alloc, b"")?;
     let len = image.len();
     println!(rt; "fresh hive, fronts: {}", fronts(rt, alloc, &image)?)?;
@@ -37,7 +39,7 @@ fn sweep_fresh(rt: &HostRuntime, alloc: Global) -> Result<()> {
 }
 
 /// Fronts and bits of the image with every record.
-fn sweep_records(rt: &HostRuntime, alloc: Global) -> Result<()> {
+fn sweep_records<Rt: Print + Threads + Wait + Sync>(rt: &Rt, alloc: Global) -> Result<()> {
     let mut image = every_record(alloc)?;
     println!(rt; "every record, fronts: {}", fronts(rt, alloc, &image)?)?;
     println!(rt;
@@ -83,7 +85,7 @@ fn fail_all_readers(rt: &impl Print, alloc: Global) -> Result<()> {
 }
 
 /// Images by the tool.
-fn tool_images(rt: &HostRuntime, alloc: Global) -> Result<()> {
+fn tool_images<Rt: Print + Threads + Wait + Sync>(rt: &Rt, alloc: Global) -> Result<()> {
     let mut told: u32 = 0;
     let images = images::<PlainHive>(alloc)?;
     for image in &images {
@@ -96,7 +98,7 @@ fn tool_images(rt: &HostRuntime, alloc: Global) -> Result<()> {
 }
 
 /// Runs all that the gate runs.
-pub fn run(rt: &HostRuntime, alloc: Global) -> Result<()> {
+pub fn run<Rt: Print + Threads + Wait + Sync>(rt: &Rt, alloc: Global) -> Result<()> {
     sweep_fresh(rt, alloc)?;
     sweep_records(rt, alloc)?;
     fail_all_readers(rt, alloc)?;

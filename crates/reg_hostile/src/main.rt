@@ -26,6 +26,8 @@ use reg_fixtures::PlainHive;
 use std::alloc::Global;
 use std::env;
 use std::process::ExitCode;
+use std::sync::Wait;
+use std::thread::Threads;
 
 /// What is told where the words ask for nothing.
 const USAGE: &str = "usage: reg_hostile [fuzz SEED COUNT | bits | rows]";
@@ -39,7 +41,7 @@ fn print_fuzz(rt: &impl Print, alloc: Global, first: u64, count: u64) -> Result<
 }
 
 /// Prints the verdicts on each bit of the image with every record.
-fn print_bits(rt: &HostRuntime, alloc: Global) -> Result<()> {
+fn print_bits<Rt: Print + Threads + Wait + Sync>(rt: &Rt, alloc: Global) -> Result<()> {
     let mut image = every_record(alloc)?;
     println!(rt;
         "bits: {}",
@@ -49,7 +51,11 @@ fn print_bits(rt: &HostRuntime, alloc: Global) -> Result<()> {
 }
 
 /// Does what the words behind the program's name ask for, and tells whether they ask for anything.
-fn answer(rt: &HostRuntime, alloc: Global, words: &[&str]) -> Result<bool> {
+fn answer<Rt: Print + Threads + Wait + Sync>(
+    rt: &Rt,
+    alloc: Global,
+    words: &[&str],
+) -> Result<bool> {
     match words {
         [] => gate::run(rt, alloc)?,
         ["bits"] => print_bits(rt, alloc)?,

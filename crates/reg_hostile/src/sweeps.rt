@@ -7,6 +7,8 @@ use reg_fixtures::FakeReader;
 use reg_tree_image::checksum;
 use reg_workload::Chance;
 use std::alloc::Global;
+use std::sync::Wait;
+use std::thread::Threads;
 
 /// Writes bytes over those at an offset; what would stand behind the end is left out.
 pub fn put(image: &mut [u8], at: usize, new: &[u8])
@@ -36,7 +38,7 @@ pub fn turn(image: &mut [u8], bit: usize)
 }
 
 /// The verdicts on all fronts of an image, the whole one among them.
-pub fn fronts(rt: &HostRuntime, alloc: Global, image: &[u8]) -> Result<Tally> {
+pub fn fronts<Rt: Threads + Wait + Sync>(rt: &Rt, alloc: Global, image: &[u8]) -> Result<Tally> {
     let mut tally = Tally::NONE;
     for len in 0..image.len() {
         tally.add(judge_by_tool(rt, alloc, &image[..len])?);
@@ -67,8 +69,8 @@ pub fn readers(
 }
 
 /// Counts the verdict on an image with one bit turned over. The image is as before.
-fn try_bit(
-    rt: &HostRuntime,
+fn try_bit<Rt: Threads + Wait + Sync>(
+    rt: &Rt,
     alloc: Global,
     image: &mut [u8],
     bit: usize,
@@ -81,8 +83,8 @@ fn try_bit(
 }
 
 /// Counts the verdict on an image with one bit turned over and the checksum made anew.
-fn try_sealed(
-    rt: &HostRuntime,
+fn try_sealed<Rt: Threads + Wait + Sync>(
+    rt: &Rt,
     alloc: Global,
     image: &mut [u8],
     bit: usize,
@@ -97,8 +99,8 @@ fn try_sealed(
 }
 
 /// The verdicts on an image with each bit of its bytes from one offset to another turned over once.
-pub fn all_bits(
-    rt: &HostRuntime,
+pub fn all_bits<Rt: Threads + Wait + Sync>(
+    rt: &Rt,
     alloc: Global,
     image: &mut [u8],
     from: usize,
@@ -112,7 +114,11 @@ pub fn all_bits(
 }
 
 /// Turns over the bits of the base block that its checksum is made of, one after another, and makes the checksum anew.
-pub fn sealed_bits(rt: &HostRuntime, alloc: Global, image: &mut [u8]) -> Result<Tally> {
+pub fn sealed_bits<Rt: Threads + Wait + Sync>(
+    rt: &Rt,
+    alloc: Global,
+    image: &mut [u8],
+) -> Result<Tally> {
     let mut tally = Tally::NONE;
     for bit in 0..508 * 8 {
         try_sealed(rt, alloc, image, bit, &mut tally)?;
@@ -121,7 +127,12 @@ pub fn sealed_bits(rt: &HostRuntime, alloc: Global, image: &mut [u8]) -> Result<
 }
 
 /// The verdicts on an image with each of so many bits turned over once, which are taken at random.
-pub fn some_bits(rt: &HostRuntime, alloc: Global, image: &mut [u8], count: usize) -> Result<Tally> {
+pub fn some_bits<Rt: Threads + Wait + Sync>(
+    rt: &Rt,
+    alloc: Global,
+    image: &mut [u8],
+    count: usize,
+) -> Result<Tally> {
     let mut tally = Tally::NONE;
     let mut chance = Chance::new(1);
     for _turn in 0..count {

@@ -7,6 +7,8 @@ use reg_tree_image::LoadFault;
 use std::alloc::Global;
 use std::fmt;
 use std::io::Read;
+use std::sync::Wait;
+use std::thread::Threads;
 
 /// What became of an image.
 #[derive(Clone, Copy, Debug, PartialEq, Eq)]
@@ -56,7 +58,11 @@ pub fn judge_bytes(alloc: Global, image: &[u8]) -> Result<Verdict> {
 }
 
 /// The verdict on an image, where the tool is asked for its dump, too.
-pub fn judge_by_tool(rt: &HostRuntime, alloc: Global, image: &[u8]) -> Result<Verdict> {
+pub fn judge_by_tool<Rt: Threads + Wait + Sync>(
+    rt: &Rt,
+    alloc: Global,
+    image: &[u8],
+) -> Result<Verdict> {
     if !is_told_by_tool(rt, alloc, image)? {
         return Ok(Verdict::Astray);
     }
