@@ -5,12 +5,13 @@ use Rattle.std.proofs.Math.Seq.{take-append_seam}
 use Rattle.std.proofs.lemmas.Bool.{cases_eq}
 use Rattle.reg_callbacks.specs.Asking.{Answers}
 use Rattle.reg_journal.specs.Kept.{seat}
+use Rattle.reg_model.specs.declared.notice.Notice.{Notice}
 use Rattle.reg_model.specs.declared.reply.Receipt.{Receipt}
-use Rattle.reg_sessions.specs.Sessions.{SessionState, receipts_at, mark_at, seat_at}
+use Rattle.reg_sessions.specs.Sessions.{SessionState, receipts_at, mark_at, seat_at, taken_at}
 use Rattle.reg_sessions.specs.declared.job.Work.{Work}
 use Rattle.reg_sessions.specs.declared.job.Done.{Done}
 use Rattle.reg_sessions.specs.declared.job.Job.{Job}
-use Rattle.reg_sessions.specs.Jobs.{AreDone, AreLawful, AreWithin, IsLawfulDone, is_of_kind, are_of_kinds, receipts_by, receipts_of_one, mark_by, mark_by_one, IsSameJob, HasRoom, IsReady, IsDone}
+use Rattle.reg_sessions.specs.Jobs.{AreDone, AreLawful, AreWithin, IsLawfulDone, is_of_kind, are_of_kinds, receipts_by, receipts_of_one, notices_by, notices_of_one, mark_by, mark_by_one, IsSameJob, HasRoom, IsReady, IsDone}
 
 and_right : (a b : Bool) → (a && b) ≡ true → b ≡ true
 and_right true b h = h
@@ -27,6 +28,18 @@ receipts_more h [] w (e ∷ ds) d same = absurd cc
 receipts_more h (v ∷ ws) w [] d same = absurd cc
 receipts_more h (v ∷ ws) w (e ∷ ds) d same =
     ap (λ (l : List Receipt). given h v e ++ l) (receipts_more h ws w ds d (and_right _ _ same)) ∙ sym (append_assoc (given h v e) (receipts_by h ws ds) (given h w d))
+
+-- the notices that one work and its outcome give at hive h
+fetched : ℕ → Work → Done → List Notice
+fetched h w d = if h == w.hive then notices_of_one w.ask d else []
+
+notices_more : (h : ℕ) (ws : List Work) (w : Work) (ds : List Done) (d : Done) → are_of_kinds ws ds ≡ true → notices_by h (ws ++ w ∷ []) (ds ++ d ∷ []) ≡ notices_by h ws ds ++ fetched h w d
+unfolding fetched
+notices_more h [] w [] d same = append-nil (fetched h w d)
+notices_more h [] w (e ∷ ds) d same = absurd cc
+notices_more h (v ∷ ws) w [] d same = absurd cc
+notices_more h (v ∷ ws) w (e ∷ ds) d same =
+    ap (λ (l : List Notice). fetched h v e ++ l) (notices_more h ws w ds d (and_right _ _ same)) ∙ sym (append_assoc (fetched h v e) (notices_by h ws ds) (fetched h w d))
 
 both_true : (a b c : Bool) → (a && b) ≡ true → (b ≡ true → c ≡ true) → (a && c) ≡ true
 both_true true b c h f = f h
@@ -118,6 +131,7 @@ done_none answers s b = record {
   lawful = λ i w d is told. absurd (none_there w i is);
   receipts = λ h. sym (append-nil (receipts_at h s));
   marks = λ h. refl;
+  taken = λ h. sym (append-nil (taken_at h s));
   number = refl;
   hives = refl;
 }
@@ -126,10 +140,11 @@ done_more : {C : Type 0} (answers : C → Answers) (old : SessionState) (ws : Li
     → is_of_kind w.ask d ≡ true → IsLawfulDone answers (seat_at w.hive mid) (mark_at w.hive mid) w.moment w.ask d
     → ((h : ℕ) → receipts_at h new ≡ receipts_at h mid ++ (if h == w.hive then receipts_of_one w.moment w.ask d else []))
     → ((h : ℕ) → mark_at h new ≡ (if h == w.hive then mark_by_one (mark_at h mid) w.ask d else mark_at h mid))
+    → ((h : ℕ) → taken_at h new ≡ taken_at h mid ++ (if h == w.hive then notices_of_one w.ask d else []))
     → new.number ≡ mid.number → length new.places ≡ length mid.places
     → AreDone answers old (ws ++ w ∷ []) b new (a ++ d ∷ [])
-unfolding given moved
-done_more answers old ws w b a mid new d p kind lawful receipt mark number hives = record {
+unfolding given fetched moved
+done_more answers old ws w b a mid new d p kind lawful receipt mark taken number hives = record {
   done = p.done ++ d ∷ [];
   outcomes = ap (λ (l : List Done). l ++ d ∷ []) p.outcomes ∙ append_assoc b p.done (d ∷ []);
   kinds = kinds_more ws w p.done d p.kinds kind;
@@ -140,6 +155,11 @@ done_more answers old ws w b a mid new d p kind lawful receipt mark number hives
       ∙ ap (λ (l : List Receipt). l ++ given h w d) (p.receipts h)
       ∙ append_assoc (receipts_at h old) (receipts_by h ws p.done) (given h w d)
       ∙ ap (λ (l : List Receipt). receipts_at h old ++ l) (sym (receipts_more h ws w p.done d p.kinds)));
+  taken = λ h. (
+      taken h
+      ∙ ap (λ (l : List Notice). l ++ fetched h w d) (p.taken h)
+      ∙ append_assoc (taken_at h old) (notices_by h ws p.done) (fetched h w d)
+      ∙ ap (λ (l : List Notice). taken_at h old ++ l) (sym (notices_more h ws w p.done d p.kinds)));
   number = number ∙ p.number;
   hives = hives ∙ p.hives;
 }
@@ -150,12 +170,13 @@ pub done_next : {C : Type 0} (answers : C → Answers) (old : SessionState) (ws 
     → IsLawfulDone answers (seat_at w.hive mid) (mark_at w.hive mid) w.moment w.ask d
     → ((h : ℕ) → receipts_at h new ≡ receipts_at h mid ++ (if h == w.hive then receipts_of_one w.moment w.ask d else []))
     → ((h : ℕ) → mark_at h new ≡ (if h == w.hive then mark_by_one (mark_at h mid) w.ask d else mark_at h mid))
+    → ((h : ℕ) → taken_at h new ≡ taken_at h mid ++ (if h == w.hive then notices_of_one w.ask d else []))
     → new.number ≡ mid.number → length new.places ≡ length mid.places
     → AreDone answers old (take (i + 1) ws) b new (a ++ d ∷ [])
-done_next answers old ws i w b a mid new d below is p kind lawful receipt mark number hives =
+done_next answers old ws i w b a mid new d below is p kind lawful receipt mark taken number hives =
     let Q : List Work → Type 0 = λ l. AreDone answers old l b new (a ++ d ∷ []) in
     subst Q (sym (take_more ws i w below ∙ ap (λ x. take i ws ++ x ∷ []) (sym is)))
-    (done_more answers old (take i ws) w b a mid new d p kind lawful receipt mark number hives)
+    (done_more answers old (take i ws) w b a mid new d p kind lawful receipt mark taken number hives)
 
 -- ---- jobs
 

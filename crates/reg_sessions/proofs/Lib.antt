@@ -7,3 +7,4 @@ pub mod Compared
 pub mod Totals
 pub mod Crossings
 pub mod RowsOfLimits
+pub mod Rings

@@ -1,16 +1,17 @@
 -- A journal that holds just the receipts of all sessions is as long as these together.
-use Rattle.std.proofs.Common.{◌≡◌, ◌+◌, ◌==◌, ◌≤◌, ◌<◌, ℕ, zero, suc, List, [], ◌∷◌, length, get_or, sum_by, refl, sym, ap, ◌∙◌, inl, inr, arith, if◌then◌else◌}
+use Rattle.std.proofs.Common.{◌≡◌, ◌+◌, ◌==◌, ◌≤◌, ◌<◌, ℕ, zero, suc, List, [], ◌∷◌, length, get_or, take, sum_by, refl, sym, ap, ◌∙◌, inl, inr, arith, if◌then◌else◌}
 use Rattle.std.proofs.lemmas.List.{length-map}
 use Rattle.std.proofs.lemmas.Bool.{cases_eq, cases_lt}
 use Rattle.std.proofs.lemmas.List.Sums.{sum_by-cons}
 use Rattle.std.proofs.Math.ListN.{get_or-eq_default}
 use Rattle.std.proofs.lemmas.Bool.Decides.{nat_tests}
 use Rattle.reg_model.specs.declared.reply.Entry.{Entry}
+use Rattle.reg_model.specs.declared.notice.Notice.{Notice}
 use Rattle.reg_model.specs.declared.reply.Receipt.{Receipt}
 use Rattle.reg_model.specs.Histories.{entries_of, count_of, receipt_of}
 use Rattle.reg_calls.specs.Views.{Booked}
-use Rattle.reg_sessions.specs.Sessions.{SessionState, receipts_at, no_session}
-use Rattle.reg_sessions.specs.Gathering.{IsAudited, IsGathered, journal_at, receipts_by}
+use Rattle.reg_sessions.specs.Sessions.{SessionState, receipts_at, taken_at, no_session}
+use Rattle.reg_sessions.specs.Gathering.{IsAudited, IsGathered, journal_at, receipts_by, taken_by, told_at}
 
 -- f of each number below n, added up
 upto : (ℕ → ℕ) → ℕ → ℕ
@@ -88,5 +89,23 @@ totals journal h ss all =
     ∙ upto_same (λ s. count_of s journal) (λ s. length (receipts_by ss h s)) (counts_are journal h ss all) (length ss)
     ∙ sym (added (λ s. length (receipts_at h s)) ss)
 
-pub audited : (hives : List Booked) (ss : List SessionState) (h : ℕ) → IsGathered (journal_at hives h) h ss → IsAudited hives ss h
-audited hives ss h all = record { gathered = all; total = totals (journal_at hives h) h ss all }
+-- a session that isn't there took nothing
+none_taken : (hives : List Booked) (ss : List SessionState) (h s : ℕ) → length ss ≤ s → take (length (taken_by ss h s)) (told_at hives h s) ≡ taken_by ss h s
+none_taken hives ss h s past =
+    let none : taken_by ss h s ≡ [] = ap (λ (x : SessionState). taken_at h x) (get_or-eq_default ss no_session past) in
+    ap (λ (l : List Notice). take (length l) (told_at hives h s)) none ∙ nothing (told_at hives h s) ∙ sym none
+  where
+    nothing : (l : List Notice) → take 0 l ≡ []
+    nothing [] = refl
+    nothing (x ∷ l) = refl
+
+pub audited : (hives : List Booked) (ss : List SessionState) (h : ℕ) → IsGathered (journal_at hives h) h ss →
+    ((s : ℕ) → s < length ss → take (length (taken_by ss h s)) (told_at hives h s) ≡ taken_by ss h s) → IsAudited hives ss h
+audited hives ss h all told = record {
+  gathered = all;
+  total = totals (journal_at hives h) h ss all;
+  delivered = λ s. (elim (cases_lt s (length ss)) [
+    | inl b ↦ told s b
+    | inr past ↦ none_taken hives ss h s past
+  ]);
+}

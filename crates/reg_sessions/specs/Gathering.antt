@@ -1,10 +1,13 @@
 -- What is known once the sessions are gathered.
-use Rattle.std.specs.Prelude.{◌≡◌, ◌≢◌, ◌<◌, ℕ, List, [], Option, Some, None, length, sum_by, slice_get}
+use Rattle.std.specs.Prelude.{◌≡◌, ◌≢◌, ◌<◌, ℕ, List, [], Option, Some, None, length, take, sum_by, slice_get}
 use Rattle.reg_model.specs.Histories.{receipts_of}
 use Rattle.reg_model.specs.declared.reply.Entry.{Entry}
 use Rattle.reg_model.specs.declared.reply.Receipt.{Receipt}
-use Rattle.reg_calls.specs.Views.{Booked}
-use Rattle.reg_sessions.specs.Sessions.{SessionState, Shape, AreInOrder, receipts_at, session_of}
+use Rattle.reg_model.specs.declared.notice.Notice.{Notice as Told}
+use Rattle.reg_calls.specs.Views.{Booked, told_in}
+use Rattle.reg_sessions.specs.Sessions.{SessionState, Shape, AreInOrder, receipts_at, taken_at, session_of}
+use Rattle.reg_sessions.specs.declared.gathering.Kept.{Kept}
+use Rattle.reg_sessions.specs.declared.gathering.Kept.TheVariants.{Receipt as OfReceipt, Notice as OfNotice}
 use Rattle.reg_sessions.specs.declared.gathering.GatherFault.{GatherFault}
 use Rattle.reg_sessions.specs.declared.gathering.GatherFault.TheVariants.{Mismatch, Sessions}
 
@@ -28,19 +31,42 @@ journal_of (Some b) = b.view.journal
 abbrev pub journal_at : List Booked → ℕ → List Entry
 journal_at hives h = journal_of (slice_get hives h)
 
+-- the notices that session s took of hive h; none where there is no such session
+abbrev pub taken_by : List SessionState → ℕ → ℕ → List Told
+taken_by sessions h s = taken_at h (session_of sessions s)
+
+-- all notices that a hive told a session
+abbrev pub told_of : Option Booked → ℕ → List Told
+told_of None s = []
+told_of (Some b) s = told_in b.view s
+
+abbrev pub told_at : List Booked → ℕ → ℕ → List Told
+told_at hives h s = told_of (slice_get hives h) s
+
 -- what is known of hive h: each accepted change of each session is one entry of its journal, in order, and there are no others; so it has as
--- many entries as all sessions have receipts there
+-- many entries as all sessions have receipts there. Each session took the first of the notices that it was told there, in order, each once
 pub record IsAudited (hives : List Booked) (sessions : List SessionState) (h : ℕ) : Type 0 where
   pub gathered : IsGathered (journal_at hives h) h sessions
   pub total : length (journal_at hives h) ≡ sum_by (λ s. length (receipts_at h s)) sessions
+  pub delivered : (s : ℕ) → take (length (taken_by sessions h s)) (told_at hives h s) ≡ taken_by sessions h s
+
+-- the notice that session s took of hive h at a place isn't the one that it was told there, or it was told fewer
+pub record IsStray (taken told : List Told) (place : ℕ) : Type 0 where
+  pub was_taken : place < length taken
+  pub differ : slice_get told place ≢ slice_get taken place
+
+-- what was kept at a place differs
+abbrev pub KeptDiffer : Kept → List Booked → List SessionState → (h s place : ℕ) → Type 0
+KeptDiffer OfReceipt hives sessions h s place = Differ (journal_at hives h) h sessions s place
+KeptDiffer OfNotice hives sessions h s place = IsStray (taken_by sessions h s) (told_at hives h s) place
 
 -- a difference at a hive that is there
-pub record IsMismatch (hives : List Booked) (sessions : List SessionState) (h s place : ℕ) : Type 0 where
+pub record IsMismatch (hives : List Booked) (sessions : List SessionState) (h s place : ℕ) (kept : Kept) : Type 0 where
   pub within : h < length hives
-  pub differ : Differ (journal_at hives h) h sessions s place
+  pub differ : KeptDiffer kept hives sessions h s place
 
--- when each fault is due: a mismatch where the sessions are those that were started, in order, and there is that difference; the sessions
+-- when each fault is due: a mismatch, of a receipt or of a notice, where the sessions are those that were started, in order, and there is that difference; the sessions
 -- where they aren't, and they come back with the registry
 abbrev pub IsDue : {C : Type 0} → Shape → List SessionState → GatherFault C → Type 0
-IsDue shape given (Mismatch h s place audit) = AreInOrder shape.sessions given × (length audit ≡ shape.hives) × IsMismatch audit given h s place
+IsDue shape given (Mismatch h s place kept audit) = AreInOrder shape.sessions given × (length audit ≡ shape.hives) × IsMismatch audit given h s place kept
 IsDue shape given (Sessions registry sessions) = (registry ≡ shape) × (sessions.items ≡ given) × (AreInOrder shape.sessions given → ⊥)

@@ -1,2 +1,3 @@
 -- Words of private contracts.
 pub mod Answered
+pub mod Moved

@@ -5,6 +5,7 @@ use Rattle.reg_journal.specs.Kept.{Seat, seat}
 use Rattle.reg_model.specs.declared.answer.AnswerBody.TheVariants.{Refused}
 use Rattle.reg_model.specs.declared.statuses.TheConstants.{BAD_DATABASE, NOT_ENOUGH_MEMORY}
 use Rattle.reg_model.specs.declared.call.Call.TheVariants.{Change, Query}
+use Rattle.reg_model.specs.declared.notice.Notice.{Notice as Told}
 use Rattle.reg_model.specs.declared.reply.Receipt.{Receipt}
 use Rattle.reg_model.specs.declared.step.Outcome.TheVariants.{Changed, Answered}
 use Rattle.reg_sessions.specs.declared.job.Work.{Work}
@@ -13,8 +14,8 @@ use Rattle.reg_sessions.specs.declared.job.Ask.TheVariants.{Call, TakeNotice}
 use Rattle.reg_sessions.specs.declared.job.Done.{Done}
 use Rattle.reg_sessions.specs.declared.job.Done.TheVariants.{Outcome, Notice}
 use Rattle.reg_sessions.specs.declared.job.Job.{Job}
-use Rattle.reg_sessions.specs.Locked.{IsLawfulReply, IsLawfulAnswer, IsLawfulNotice}
-use Rattle.reg_sessions.specs.Sessions.{SessionState, receipts_at, mark_at, receipt_of, mark_after, mark_told}
+use Rattle.reg_sessions.specs.Locked.{IsLawfulReply, IsLawfulAnswer}
+use Rattle.reg_sessions.specs.Sessions.{SessionState, receipts_at, mark_at, taken_at, notice_of, receipt_of, mark_after, mark_told}
 
 -- an outcome is of the kind that was asked for: a reply to a change, an answer to a question, a notice or none to who takes one
 abbrev pub is_of_kind : Ask → Done → Bool
@@ -47,6 +48,18 @@ receipts_by h [] ds = []
 receipts_by h (w ∷ ws) [] = []
 receipts_by h (w ∷ ws) (d ∷ ds) = (if h == w.hive then receipts_of_one w.moment w.ask d else []) ++ receipts_by h ws ds
 
+-- the notices that an outcome gives
+abbrev pub notices_of_one : Ask → Done → List Told
+notices_of_one (Call call) done = []
+notices_of_one TakeNotice (Outcome outcome) = []
+notices_of_one TakeNotice (Notice notice) = notice_of notice
+
+-- the notices that works and their outcomes give at a hive, in order
+abbrev pub notices_by : ℕ → List Work → List Done → List Told
+notices_by h [] ds = []
+notices_by h (w ∷ ws) [] = []
+notices_by h (w ∷ ws) (d ∷ ds) = (if h == w.hive then notices_of_one w.ask d else []) ++ notices_by h ws ds
+
 -- the mark after one outcome
 abbrev pub mark_by_one : ℕ → Ask → Done → ℕ
 mark_by_one mark (Call (Change change)) (Outcome (Changed reply)) = mark_after mark reply
@@ -62,13 +75,13 @@ mark_by h mark [] ds = mark
 mark_by h mark (w ∷ ws) [] = mark
 mark_by h mark (w ∷ ws) (d ∷ ds) = mark_by h (if h == w.hive then mark_by_one mark w.ask d else mark) ws ds
 
--- what a session with this seat and mark at a hive may be told there, 1009 and 8 aside
+-- what a session with this seat and mark at a hive may be told there, 1009 and 8 aside; a notice that it takes is compared when all are gathered
 abbrev pub IsLawfulDone : {C : Type 0} → (C → Answers) → Seat → (mark moment : ℕ) → Ask → Done → Type 0
 IsLawfulDone answers share mark moment (Call (Change change)) (Outcome (Changed reply)) =
     reply.status ≢ BAD_DATABASE → reply.status ≢ NOT_ENOUGH_MEMORY → IsLawfulReply answers share mark moment change reply
 IsLawfulDone answers share mark moment (Call (Query query)) (Outcome (Answered answer)) =
     answer.body ≢ Refused BAD_DATABASE → IsLawfulAnswer answers share mark query answer
-IsLawfulDone answers share mark moment TakeNotice (Notice notice) = IsLawfulNotice share.session notice
+IsLawfulDone answers share mark moment TakeNotice (Notice notice) = Unit {0}
 IsLawfulDone answers share mark moment ask done = ⊥
 
 -- of works and their outcomes each is lawful by the seat and the mark that the session has by those before it
@@ -79,7 +92,8 @@ AreLawful answers s work done =
     (mark_by w.hive (mark_at w.hive s) (take i work) (take i done)) w.moment w.ask d
 
 -- the outcomes grew by one for each work, of its kind, lawful, and in order; at each hive the session's receipts grew by just those of its
--- accepted changes with these replies, in order, and its mark is that after them
+-- accepted changes with these replies, in order, and its mark is that after them; and the notices that it took by just those among the
+-- outcomes, in order
 pub record AreDone {C : Type 0} (answers : C → Answers) (old : SessionState) (work : List Work) (before : List Done) (new : SessionState) (after : List Done) : Type 0 where
   pub done : List Done
   pub outcomes : after ≡ before ++ done
@@ -87,6 +101,7 @@ pub record AreDone {C : Type 0} (answers : C → Answers) (old : SessionState) (
   pub lawful : AreLawful answers old work done
   pub receipts : (h : ℕ) → receipts_at h new ≡ receipts_at h old ++ receipts_by h work done
   pub marks : (h : ℕ) → mark_at h new ≡ mark_by h (mark_at h old) work done
+  pub taken : (h : ℕ) → taken_at h new ≡ taken_at h old ++ notices_by h work done
   pub number : new.number ≡ old.number
   pub hives : length new.places ≡ length old.places
 

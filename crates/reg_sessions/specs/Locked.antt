@@ -1,16 +1,17 @@
 -- What stands behind a hive's lock, and what sessions may be told there.
-use Rattle.std.specs.Prelude.{◌≡◌, ◌<◌, ◌≤◌, ℕ, List, [], Option, length, slice_index_or}
+use Rattle.std.specs.Prelude.{◌≡◌, ◌<◌, ◌≤◌, ℕ, List, [], length, slice_index_or}
 use Rattle.reg_model.specs.Histories.{count_of}
 use Rattle.reg_model.specs.declared.answer.Answer.{Answer}
 use Rattle.reg_model.specs.declared.call.Change.{Change}
 use Rattle.reg_model.specs.declared.call.Query.{Query}
-use Rattle.reg_model.specs.declared.notice.Notice.{Notice}
+use Rattle.reg_model.specs.declared.limits.TheConstants.{SESSIONS_LIMIT}
 use Rattle.reg_model.specs.declared.reply.ChangeReply.{ChangeReply}
 use Rattle.reg_journal.specs.Kept.{Seat, IsCurrent, row_of}
 use Rattle.reg_callbacks.specs.Asking.{Answers}
 use Rattle.reg_calls.specs.declared.hive.Hive.{Hive}
 use Rattle.reg_calls.specs.HiveView.{view_of, noted_of, asks_of}
-use Rattle.reg_calls.specs.Views.{View, Booked, next_of, state, IsApplied, IsHive, IsNoticeTaken, IsRead}
+use Rattle.reg_calls.specs.Views.{View, Booked, next_of, state, IsApplied, IsHive, IsRead}
+use Rattle.reg_outbox.specs.Rings.{RingState, IsAhead}
 
 -- a hive with its book, without its callbacks
 abbrev pub booked_of : {C : Type 0} → Hive C → Booked
@@ -24,6 +25,12 @@ pub record IsAdmitted (b : Booked) : Type 0 where
   pub before : b.view.before ≡ []
   pub rows : (s : ℕ) → row_of b.noted b.view.journal s ≡ count_of s b.view.journal
   pub seated : (s : ℕ) → length b.noted ≤ s → count_of s b.view.journal ≡ 0
+
+-- what is true of the rings that stand with a hive behind its lock, one for each session: what a session's ring was sent, followed by what
+-- the hive keeps back for the session, is all that it was told
+pub record AreAhead (rings : List RingState) (hive : View) : Type 0 where
+  pub few : length rings ≤ SESSIONS_LIMIT
+  pub each : (s : ℕ) (d : RingState) → s < length rings → IsAhead (slice_index_or rings s d).sent s hive
 
 -- a hive that a lock's type admits, at which a share is current, and which has had as many entries as a mark
 pub record IsInSight {C : Type 0} (share : Seat) (mark : ℕ) (h : Hive C) : Type 0 where
@@ -44,13 +51,6 @@ pub record IsLawfulAnswer {C : Type 0} (answers : C → Answers) (share : Seat) 
   pub sight : IsInSight share mark hive
   pub at : answer.at ≡ next_of (view_of hive)
   pub body : IsRead (asks_of answers hive) (state (view_of hive)) share.session query answer.body
-
--- some hive that a lock's type admits may hand out this notice
-pub record IsLawfulNotice (session : ℕ) (notice : Option Notice) : Type 0 where
-  pub hive : Booked
-  pub new : View
-  pub admitted : IsAdmitted hive
-  pub taken : IsNoticeTaken hive.view new session notice
 
 -- a hive that has had no entry, and at which no session has a seat
 abbrev pub IsUnused : {C : Type 0} → Hive C → Type 0

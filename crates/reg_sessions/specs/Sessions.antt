@@ -1,10 +1,11 @@
 -- Sessions, as their callers see them.
-use Rattle.std.specs.Prelude.{◌≡◌, ◌+◌, ◌<◌, ◌==◌, ℕ, Bool, true, false, List, [], ◌∷◌, length, nat_lt, slice_index_or, unwrap_or, if◌then◌else◌}
+use Rattle.std.specs.Prelude.{◌≡◌, ◌+◌, ◌<◌, ◌==◌, ℕ, Bool, true, false, List, [], ◌∷◌, Option, Some, None, length, nat_lt, slice_index_or, unwrap_or, if◌then◌else◌}
 use Rattle.reg_model.specs.declared.answer.Answer.{Answer}
 use Rattle.reg_model.specs.declared.answer.AnswerBody.{AnswerBody}
 use Rattle.reg_model.specs.declared.answer.AnswerBody.TheVariants.{Refused, Short, Value, Key, Member, Info, Security}
 use Rattle.reg_model.specs.declared.call.Change.{Change}
 use Rattle.reg_model.specs.declared.call.Change.TheVariants.{OpenRoot, OpenKey, CreateKey, SetValue, DeleteValue, DeleteKey, DeleteTree, SetSecurity, Notify, Close}
+use Rattle.reg_model.specs.declared.notice.Notice.{Notice}
 use Rattle.reg_model.specs.declared.reply.ChangeReply.{ChangeReply}
 use Rattle.reg_model.specs.declared.reply.Receipt.{Receipt}
 use Rattle.reg_journal.specs.Kept.{Seat, seat}
@@ -14,14 +15,16 @@ pub record Shape : Type 0 where
   pub hives : ℕ
   pub sessions : ℕ
 
--- what a session has at a hive: its seat, its receipts, and its mark
+-- what a session has at a hive: its seat, its receipts, and its mark; the notices that it took, and all that came out of its ring
 pub record PlaceState : Type 0 where
   pub seat : Seat
   pub receipts : List Receipt
   pub mark : ℕ
+  pub taken : List Notice
+  pub popped : List Notice
 
 abbrev pub no_place : PlaceState
-no_place = record { seat = seat 0 0; receipts = []; mark = 0 }
+no_place = record { seat = seat 0 0; receipts = []; mark = 0; taken = []; popped = [] }
 
 -- the seat, whose share counts the receipts
 abbrev pub seat_of : PlaceState → Seat
@@ -47,6 +50,18 @@ seat_at hive s = seat s.number (length (receipts_at hive s))
 
 abbrev pub mark_at : ℕ → SessionState → ℕ
 mark_at hive s = (place_of s.places hive).mark
+
+-- the notices of a hive that a session took, and all that came out of its ring there
+abbrev pub taken_at : ℕ → SessionState → List Notice
+taken_at hive s = (place_of s.places hive).taken
+
+abbrev pub popped_at : ℕ → SessionState → List Notice
+popped_at hive s = (place_of s.places hive).popped
+
+-- what is taken: one notice, or none
+abbrev pub notice_of : Option Notice → List Notice
+notice_of None = []
+notice_of (Some notice) = notice ∷ []
 
 -- the receipt of a change, where it was accepted
 abbrev pub receipt_of : ℕ → Change → ChangeReply → List Receipt
@@ -93,12 +108,14 @@ session_of sessions s = slice_index_or sessions s no_session
 abbrev pub AreInOrder : ℕ → List SessionState → Type 0
 AreInOrder n sessions = (length sessions ≡ n) × ((s : ℕ) → s < n → (session_of sessions s).number ≡ s)
 
--- a session that was just started: it has a seat at each of so many hives, no receipt, and marks of 0
+-- a session that was just started: it has a seat at each of so many hives, no receipt, marks of 0, and took no notice
 pub record IsFresh (number hives : ℕ) (s : SessionState) : Type 0 where
   pub is_number : s.number ≡ number
   pub seats : length s.places ≡ hives
   pub receipts : (h : ℕ) → receipts_at h s ≡ []
   pub marks : (h : ℕ) → mark_at h s ≡ 0
+  pub taken : (h : ℕ) → taken_at h s ≡ []
+  pub popped : (h : ℕ) → popped_at h s ≡ []
 
 -- all sessions are so; the first of them have seats at one hive more
 abbrev pub AreFresh : ℕ → ℕ → List SessionState → Type 0

@@ -1,15 +1,16 @@
-//! A hive's journal beside the receipts of all sessions.
-ghost use Rattle.std.specs.Prelude.{◌≡◌, ◌<◌, ◌≤◌, ◌↔◌, length, IfNone, IfSome, IsTrue, Some, slice_get};
+//! A hive's journal beside the receipts of all sessions, and what it told them beside the notices that they took.
+ghost use Rattle.std.specs.Prelude.{◌≡◌, ◌<◌, ◌≤◌, ◌↔◌, ℕ, length, take, IfNone, IfSome, IsTrue, Some, slice_get};
 ghost use Rattle.reg_model.specs.Histories.{receipt_of};
 ghost use Rattle.reg_model.specs.declared.limits.TheConstants.{SESSIONS_LIMIT};
 ghost use Rattle.reg_calls.specs.HiveView.{view_of};
-ghost use Rattle.reg_sessions.specs.Gathering.{IsGathered, Differ};
+ghost use Rattle.reg_calls.specs.Views.{told_in};
+ghost use Rattle.reg_sessions.specs.Gathering.{IsGathered, IsStray, Differ, taken_by};
 
 use crate::session::Session;
 use reg_callbacks::Callback;
 use reg_calls::Hive;
 use reg_model::limits::SESSIONS_LIMIT;
-use reg_model::{Entry, Receipt};
+use reg_model::{Entry, Notice, Receipt};
 
 /// Where a session's receipts and its entries differ first.
 #[derive(Clone, Copy, Debug, PartialEq, Eq)]
@@ -72,6 +73,35 @@ pub fn first_gap<C: Callback>(hive: &Hive<C>, number: u8, sessions: &[Session]) 
                 session: s as u8,
                 place: places[s],
             });
+        }
+    }
+    None
+}
+
+/// The first place at which the notices that a session took aren't those that it was told.
+fn stray_in(taken: &[Notice], told: &[Notice]) -> Option<usize>
+    ensures some { IfSome result (λ place. IsStray taken.now told.now place) }
+    ensures none { IfNone result (take (length taken.now) told.now ≡ taken.now) }
+{
+    for place in 0..taken.len() {
+        if told.get(place) != taken.get(place) {
+            return Some(place);
+        }
+    }
+    None
+}
+
+/// Compares the notices that the sessions took of a hive with those that it told them.
+pub fn first_stray<C: Callback>(hive: &Hive<C>, number: u8, sessions: &[Session]) -> Option<Gap>
+    requires { length sessions.now ≤ SESSIONS_LIMIT }
+    ensures some { IfSome result (λ g. IsStray (taken_by sessions.now number g.session) (told_in (view_of hive.now) g.session) g.place) }
+    ensures none { IfNone result ((s : ℕ) → s < length sessions.now →
+        take (length (taken_by sessions.now number s)) (told_in (view_of hive.now) s) ≡ taken_by sessions.now number s) }
+{
+    for s in 0..sessions.len() {
+        let session = s as u8;
+        if let Some(place) = stray_in(sessions[s].taken(number), hive.fired(session)) {
+            return Some(Gap { session, place });
         }
     }
     None

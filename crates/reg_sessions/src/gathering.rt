@@ -5,7 +5,7 @@ ghost use Rattle.reg_sessions.specs.Locked.{booked_of, IsAdmitted};
 ghost use Rattle.reg_sessions.specs.Sessions.{AreInOrder};
 ghost use Rattle.reg_sessions.specs.Gathering.{IsAudited, IsDue, IsMismatch, journal_at};
 
-use crate::compare::first_gap;
+use crate::compare::{Gap, first_gap, first_stray};
 use crate::locked::Locked;
 use crate::registry::Registry;
 use crate::session::Session;
@@ -34,15 +34,26 @@ impl<C> Model for Audit<C> {
     ghost invariant = { λ a. vec_len a.hives ≤ HIVES_LIMIT };
 }
 
+/// What a session keeps of a hive.
+#[derive(Clone, Copy, Debug, PartialEq, Eq)]
+pub enum Kept {
+    /// The receipt of an accepted change.
+    Receipt,
+    /// A notice that it took.
+    Notice,
+}
+
 /// Why the sessions weren't gathered; the first that holds, `Sessions` before the other.
 #[derive(Drop)]
 pub enum GatherFault<C = Box<dyn Callback + Send>> {
     /// A session's receipt at this place (from 0 on) and the entry at the same place among the session's entries in the hive's journal
-    /// differ, or one of them is missing.
+    /// differ, or one of them is missing. Or the notice that it took at this place isn't the one that the hive told it there, or the hive
+    /// told it fewer.
     Mismatch {
         hive: u8,
         session: u8,
         place: u64,
+        kept: Kept,
         audit: Audit<C>,
     },
     /// The list isn't that of all sessions that were started, in order. Nothing was gathered.
@@ -58,6 +69,7 @@ struct Spot {
     hive: u8,
     session: u8,
     place: u64,
+    kept: Kept,
 }
 
 impl<C: Callback> Audit<C> {
@@ -121,27 +133,38 @@ fn opened<C: Callback>(registry: Registry<C>) -> Audit<C>
     Audit { hives }
 }
 
+/// A difference at a hive.
+fn spot_of(hive: u8, gap: Gap, kept: Kept) -> Spot
+    ensures { result ≡ record { hive = hive; session = gap.session; place = gap.place; kept = kept } }
+{
+    Spot {
+        hive,
+        session: gap.session,
+        place: gap.place as u64,
+        kept,
+    }
+}
+
 /// The first difference at a hive.
 #[tactic(auto, using(crate::proofs::Totals::audited))]
 fn first_at<C: Callback>(audit: &Audit<C>, hive: u8, sessions: &[Session]) -> Option<Spot>
     requires few { length sessions.now ≤ SESSIONS_LIMIT }
     requires hive { hive < length audit.now }
-    ensures some { IfSome result (λ spot. IsMismatch audit.now sessions.now spot.hive spot.session spot.place) }
+    ensures some { IfSome result (λ spot. IsMismatch audit.now sessions.now spot.hive spot.session spot.place spot.kept) }
     ensures none { IfNone result (IsAudited audit.now sessions.now hive) }
 {
-    let gap = first_gap(audit.hive(hive), hive, sessions)?;
-    Some(Spot {
-        hive,
-        session: gap.session,
-        place: gap.place as u64,
-    })
+    if let Some(gap) = first_gap(audit.hive(hive), hive, sessions) {
+        return Some(spot_of(hive, gap, Kept::Receipt));
+    }
+    let gap = first_stray(audit.hive(hive), hive, sessions)?;
+    Some(spot_of(hive, gap, Kept::Notice))
 }
 
 /// The first difference.
 fn first_spot<C: Callback>(audit: &Audit<C>, sessions: &[Session]) -> Option<Spot>
     requires sessions { length sessions.now ≤ SESSIONS_LIMIT }
     requires hives { length audit.now ≤ HIVES_LIMIT }
-    ensures some { IfSome result (λ spot. IsMismatch audit.now sessions.now spot.hive spot.session spot.place) }
+    ensures some { IfSome result (λ spot. IsMismatch audit.now sessions.now spot.hive spot.session spot.place spot.kept) }
     ensures none { IfNone result ((h : ℕ) → h < length audit.now → IsAudited audit.now sessions.now h) }
 {
     for h in 0..audit.hives() {
@@ -155,7 +178,8 @@ fn first_spot<C: Callback>(audit: &Audit<C>, sessions: &[Session]) -> Option<Spo
 /// Takes the hives out of their locks, and compares each journal with the receipts of all sessions. Where it is Ok, each journal holds of
 /// each session just the accepted changes that the session has receipts of, in order, and no others. `Sessions` exactly where the list
 /// isn't that of the sessions that were started, in order; it hands all back. Else `Mismatch` where a receipt and its entry differ, or one
-/// is missing. Takes no memory.
+/// is missing, or where a notice that was taken isn't the one that was told. Where it is Ok, each session took the first of the notices
+/// that each hive told it, in order. Takes no memory.
 pub fn gather<C: Callback>(
     registry: Registry<C>,
     sessions: Vec<Session>,
@@ -174,6 +198,7 @@ pub fn gather<C: Callback>(
             hive: spot.hive,
             session: spot.session,
             place: spot.place,
+            kept: spot.kept,
             audit,
         }),
     }

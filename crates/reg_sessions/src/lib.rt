@@ -19,6 +19,7 @@ mod driving;
 mod gate;
 mod gathering;
 mod job;
+mod lines;
 mod locked;
 mod place;
 mod registry;
@@ -27,7 +28,7 @@ mod starting;
 
 pub use driving::{DriveFault, drive};
 pub use gate::{HiveGate, OpenGate};
-pub use gathering::{Audit, GatherFault, gather};
+pub use gathering::{Audit, GatherFault, Kept, gather};
 pub use job::{Ask, Done, Job, Work, are_ready};
 pub use locked::Locked;
 pub use registry::{HIVES_LIMIT, Registry};

@@ -5,26 +5,31 @@ ghost use Rattle.reg_model.specs.declared.statuses.TheConstants.{BAD_DATABASE, N
 ghost use Rattle.reg_model.specs.Replies.{refusal};
 ghost use Rattle.reg_model.specs.declared.limits.TheConstants.{JOURNAL_LIMIT};
 ghost use Rattle.reg_calls.specs.HiveView.{asks_of};
-ghost use Rattle.reg_calls.specs.Views.{next_of, IsAccepted, IsNoticeTaken};
-ghost use Rattle.reg_sessions.specs.Locked.{booked_of, IsAdmitted, IsLawfulReply, IsLawfulAnswer, IsLawfulNotice};
+ghost use Rattle.reg_calls.specs.Views.{View, next_of, IsAccepted};
+ghost use Rattle.reg_sessions.specs.Locked.{booked_of, IsAdmitted, IsLawfulReply, IsLawfulAnswer};
 ghost use Rattle.reg_sessions.specs.Internal.Answered.{IsAnswered, IsCauseOf, IsAsked};
+ghost use Rattle.reg_sessions.specs.Internal.Moved.{AreMoved};
 
+use crate::lines::{Line, push_told, refill_of};
 use reg_callbacks::{Callback, CallbackFault, Cookie};
 use reg_calls::Hive;
 use reg_journal::Share;
 use reg_model::statuses::{BAD_DATABASE, NOT_ENOUGH_MEMORY};
-use reg_model::{Answer, AnswerBody, Change, ChangeReply, Notice, Query};
+use reg_model::{Answer, AnswerBody, Change, ChangeReply, Query};
 use std::marker::Model;
 
-/// What stands behind a hive's lock: the hive. What is true of each value of this type (`IsAdmitted`) is true whenever the lock is free.
+/// What stands behind a hive's lock: the hive, and an end of each session's ring. What is true of each value of this type (`IsAdmitted`,
+/// `AreAhead`) is true whenever the lock is free.
 #[derive(Drop)]
 pub struct Locked<C = Box<dyn Callback + Send>> {
     pub(crate) hive: Hive<C>,
+    pub(crate) lines: Vec<Line>,
 }
 
 impl<C> Model for Locked<C> {
     ghost use Rattle.reg_calls.specs.Views.{Booked, coded_booked};
-    ghost use Rattle.reg_sessions.specs.Locked.{booked_of, IsAdmitted};
+    ghost use Rattle.reg_calls.specs.HiveView.{view_of};
+    ghost use Rattle.reg_sessions.specs.Locked.{booked_of, AreAhead, IsAdmitted};
 
     ghost Value = { Booked };
 
@@ -32,7 +37,7 @@ impl<C> Model for Locked<C> {
 
     ghost view = { λ l. booked_of l.hive };
 
-    ghost invariant = { λ l. IsAdmitted (booked_of l.hive) };
+    ghost invariant = { λ l. IsAdmitted (booked_of l.hive) × AreAhead l.lines.items (view_of l.hive) };
 }
 
 /// A reply that refuses.
@@ -89,6 +94,14 @@ impl<C: Callback> Locked<C> {
         &self.hive
     }
 
+    /// Moves on what is kept back for a session, as far as its ring has room.
+    pub(crate) fn refill(&mut self, session: u8)
+        ensures moved { AreMoved self.old.view self.new.view }
+        ensures noted { self.new.noted ≡ self.old.noted }
+    {
+        refill_of(&mut self.hive, &mut self.lines, session);
+    }
+
     /// Whether the hive has had fewer entries than a mark.
     fn is_behind(&self, mark: u64) -> bool
         ensures behind { IsTrue result ↔ (next_of self.now.view < mark) }
@@ -107,7 +120,8 @@ impl<C: Callback> Locked<C> {
     ) -> ChangeReply
         ensures noted { self.new.noted ≡ self.old.noted }
         ensures session { share.new.session ≡ share.old.session }
-        ensures accepted { result.status ≡ 0 → IsAccepted self.old.view self.new.view share.old.session moment change result }
+        ensures accepted { result.status ≡ 0 →
+            (mid : View) × IsAccepted self.old.view mid share.old.session moment change result × AreMoved mid self.new.view }
         ensures number { result.status ≡ 0 → result.number ≡ Some (next_of self.old.view) }
         ensures later { result.status ≡ 0 → (share.old.count ≤ next_of self.old.view) × (mark ≤ next_of self.old.view) }
         ensures few { next_of self.old.view ≤ JOURNAL_LIMIT }
@@ -118,7 +132,10 @@ impl<C: Callback> Locked<C> {
         if self.is_behind(mark) {
             return refused(BAD_DATABASE);
         }
-        apply(&mut self.hive, share, moment, change)
+        let pending = self.hive.pending();
+        let reply = apply(&mut self.hive, share, moment, change);
+        push_told(&mut self.hive, &mut self.lines, pending);
+        reply
     }
 
     /// Answers a change for whose receipt there is no memory: 1009 as of `change`, else its first cause, or else 8. Takes no memory.
@@ -146,15 +163,6 @@ impl<C: Callback> Locked<C> {
             };
         }
         read(&self.hive, share, query)
-    }
-
-    /// Hands a session its next notice.
-    pub(crate) fn take_notice(&mut self, session: u8) -> Option<Notice>
-        ensures notice { IsNoticeTaken self.old.view self.new.view session result }
-        ensures lawful { IsLawfulNotice session result }
-        ensures noted { self.new.noted ≡ self.old.noted }
-    {
-        self.hive.take_notice(session)
     }
 
     /// Registers a callback on the hive.

@@ -3,19 +3,21 @@ ghost use Rattle.std.specs.Prelude.{◌≡◌, ◌≢◌, ◌+◌, ◌-◌, ◌^
 ghost use Rattle.reg_model.specs.declared.answer.AnswerBody.TheVariants.{Refused};
 ghost use Rattle.reg_model.specs.declared.statuses.TheConstants.{BAD_DATABASE, NOT_ENOUGH_MEMORY};
 ghost use Rattle.reg_sessions.specs.Locked.{IsLawfulReply, IsLawfulAnswer};
-ghost use Rattle.reg_sessions.specs.Sessions.{PlaceState, receipt_of, mark_after, mark_told, seat_of, status_told, closes as closes_of};
+ghost use Rattle.reg_sessions.specs.Sessions.{PlaceState, notice_of, receipt_of, mark_after, mark_told, seat_of, status_told, closes as closes_of};
 
 use crate::gate::HiveGate;
 use crate::locked::Locked;
 use reg_callbacks::Callback;
 use reg_journal::Share;
-use reg_model::{Answer, AnswerBody, Change, ChangeReply, Query, Receipt};
+use reg_model::{Answer, AnswerBody, Change, ChangeReply, Notice, Query, Receipt};
+use reg_outbox::Inbox;
 use std::alloc::{AllocError, Global};
 use std::marker::Model;
 use std::sync::{Mutex, Wait};
 
-/// What a session has at one hive: its seat, a receipt of each of its accepted changes there, and its mark. For the closing of each handle
-/// that it has open there is room for the receipt, so that a Close takes no memory.
+/// What a session has at one hive: its seat, a receipt of each of its accepted changes there, and its mark; its end of the ring by which
+/// the hive's notices come, and those that it took. For the closing of each handle that it has open there is room for the receipt, so that
+/// a Close takes no memory; for the notice of each accepted Notify there is room, so that to take it takes none.
 #[derive(Drop)]
 pub struct Place {
     share: Share,
@@ -23,6 +25,10 @@ pub struct Place {
     mark: u64,
     // How many handles of the session are open there.
     handles: usize,
+    inbox: Inbox,
+    taken: Vec<Notice>,
+    // How many Notify calls of the session were accepted there.
+    notifies: usize,
 }
 
 impl Model for Place {
@@ -31,7 +37,13 @@ impl Model for Place {
 
     ghost Value = { PlaceState };
 
-    ghost view = { λ p. record { seat = p.share; receipts = p.receipts.items; mark = p.mark } };
+    ghost view = { λ p. record {
+      seat = p.share;
+      receipts = p.receipts.items;
+      mark = p.mark;
+      taken = p.taken.items;
+      popped = p.inbox;
+    } };
 
     ghost invariant = { λ p. (length p.receipts.items ≡ p.share.count) × (vec_len p.receipts + p.handles ≤ vec_capacity p.receipts) };
 }
@@ -86,21 +98,48 @@ fn two_copies(alloc: Global, change: &Change) -> Result<(Change, Change), AllocE
     Ok((entered, kept))
 }
 
+/// Makes room for the notice of a Notify, beside those of the accepted ones, so many.
+fn make_notice_room(
+    taken: &mut Vec<Notice>,
+    notifies: usize,
+    change: &Change,
+) -> Result<(), AllocError>
+    ensures { taken.new.items ≡ taken.old.items }
+{
+    if !matches!(change, Change::Notify { .. }) {
+        return Ok(());
+    }
+    taken.reserve(notifies.saturating_sub(taken.len()).saturating_add(1))
+}
+
+/// How many Notify calls were accepted after an accepted change.
+fn notifies_after(notifies: usize, change: &Change) -> usize {
+    if matches!(change, Change::Notify { .. }) {
+        notifies.saturating_add(1)
+    } else {
+        notifies
+    }
+}
+
 /// All that a change takes of memory here: room and copies.
 fn prepared(
     alloc: Global,
     receipts: &mut Vec<Receipt>,
     handles: usize,
+    taken: &mut Vec<Notice>,
+    notifies: usize,
     change: &Change,
 ) -> Result<(Change, Change), AllocError>
     requires { vec_len receipts.old + handles ≤ vec_capacity receipts.old }
     ensures receipts { receipts.new.items ≡ receipts.old.items }
+    ensures taken { taken.new.items ≡ taken.old.items }
     ensures kept { vec_len receipts.new + handles ≤ vec_capacity receipts.new }
     ensures room { OnOk result (vec_len receipts.new < vec_capacity receipts.new) }
     ensures more { OnOk result (closes_of change.now ≡ false → vec_len receipts.new + handles + 2 ≤ vec_capacity receipts.new) }
     ensures copies { IfOk result (λ both. (both.0 ≡ change.now) × (both.1 ≡ change.now)) }
 {
     make_room(receipts, handles, closes(change))?;
+    make_notice_room(taken, notifies, change)?;
     two_copies(alloc, change)
 }
 
@@ -121,15 +160,19 @@ fn status_of(body: &AnswerBody) -> u32
 
 impl Place {
     /// A seat at a hive at which nothing was called yet.
-    pub fn new(alloc: Global, share: Share) -> Place
-        requires { share.count ≡ 0 }
-        ensures { result ≡ record { seat = share; receipts = []; mark = 0 } }
+    pub fn new(alloc: Global, share: Share, inbox: Inbox) -> Place
+        requires count { share.count ≡ 0 }
+        requires empty { inbox ≡ [] }
+        ensures { result ≡ record { seat = share; receipts = []; mark = 0; taken = []; popped = [] } }
     {
         Place {
             share,
             receipts: Vec::new(alloc),
             mark: 0,
             handles: 0,
+            inbox,
+            taken: Vec::new(alloc),
+            notifies: 0,
         }
     }
 
@@ -139,6 +182,27 @@ impl Place {
         ensures counted { length self.now.receipts ≡ self.now.seat.count }
     {
         self.receipts.as_slice()
+    }
+
+    /// The notices that were taken, in order.
+    pub fn taken(&self) -> &[Notice]
+        ensures { result.now ≡ self.now.taken }
+    {
+        self.taken.as_slice()
+    }
+
+    /// Takes the next notice out of the ring. None, too, where there is no room for it. Takes no memory and no lock.
+    pub fn take_notice(&mut self) -> Option<Notice>
+        ensures taken { self.new.taken ≡ self.old.taken ++ notice_of result }
+        ensures popped { self.new.popped ≡ self.old.popped ++ notice_of result }
+        ensures kept { (self.new.seat ≡ self.old.seat) × (self.new.receipts ≡ self.old.receipts) × (self.new.mark ≡ self.old.mark) }
+    {
+        if self.taken.len() >= self.taken.capacity() {
+            return None;
+        }
+        let notice = self.inbox.pop()?;
+        self.taken.push_reserved(notice);
+        Some(notice)
     }
 
     /// Makes a change at the hive behind a lock. What takes memory comes first; where that is refused, the first cause is told, or 8.
@@ -155,16 +219,25 @@ impl Place {
         ensures receipts { self.new.receipts ≡ self.old.receipts ++ receipt_of moment change.now result }
         ensures mark { self.new.mark ≡ mark_after self.old.mark result }
         ensures session { self.new.seat.session ≡ self.old.seat.session }
+        ensures notices { (self.new.taken ≡ self.old.taken) × (self.new.popped ≡ self.old.popped) }
         ensures accepted { result.status ≡ 0 → (n : ℕ) × (result.number ≡ Some n) × (length self.old.receipts ≤ n) × (self.old.mark ≤ n) }
         ensures refused { result.status ≢ 0 → self.new ≡ self.old }
         ensures lawful { result.status ≢ BAD_DATABASE → result.status ≢ NOT_ENOUGH_MEMORY →
             IsLawfulReply C.answers (seat_of self.old) self.old.mark moment change.now result }
     {
-        let copies = prepared(alloc, &mut self.receipts, self.handles, change);
+        let copies = prepared(
+            alloc,
+            &mut self.receipts,
+            self.handles,
+            &mut self.taken,
+            self.notifies,
+            change,
+        );
         let is_close = closes(change);
         let session = self.share.session();
         let mut guard = lock.lock(rt);
         gate.inside(session, hive);
+        guard.refill(session);
         let Ok((entered, kept)) = copies else {
             let reply = guard.lack(&self.share, self.mark, moment, change);
             drop(guard);
@@ -179,6 +252,7 @@ impl Place {
                 unreachable!();
             };
             self.handles = handles_after(self.handles, is_close, &reply);
+            self.notifies = notifies_after(self.notifies, change);
             self.receipts.push_reserved(Receipt {
                 number,
                 moment,
@@ -200,14 +274,16 @@ impl Place {
         query: &Query,
     ) -> Answer
         ensures kept { (self.new.receipts ≡ self.old.receipts) × (self.new.seat ≡ self.old.seat) }
+        ensures notices { (self.new.taken ≡ self.old.taken) × (self.new.popped ≡ self.old.popped) }
         ensures mark { self.new.mark ≡ mark_told self.old.mark result }
         ensures refused { status_told result.body ≢ 0 → self.new ≡ self.old }
         ensures later { result.body ≢ Refused BAD_DATABASE → (length self.old.receipts ≤ result.at) × (self.old.mark ≤ result.at) }
         ensures lawful { result.body ≢ Refused BAD_DATABASE → IsLawfulAnswer C.answers (seat_of self.old) self.old.mark query.now result }
     {
         let session = self.share.session();
-        let guard = lock.lock(rt);
+        let mut guard = lock.lock(rt);
         gate.inside(session, hive);
+        guard.refill(session);
         let answer = guard.ask(&self.share, self.mark, query);
         drop(guard);
         gate.answered(session, hive);

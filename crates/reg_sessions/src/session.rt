@@ -1,8 +1,8 @@
 ghost use Rattle.std.specs.Prelude.{◌≡◌, ◌≢◌, ◌<◌, ◌≤◌, ◌==◌, ℕ, [], ◌∷◌, ◌++◌, length, Some, OnErr, OnOk, if◌then◌else◌};
 ghost use Rattle.reg_model.specs.declared.answer.AnswerBody.TheVariants.{Refused};
 ghost use Rattle.reg_model.specs.declared.statuses.TheConstants.{BAD_DATABASE, NOT_ENOUGH_MEMORY};
-ghost use Rattle.reg_sessions.specs.Locked.{IsLawfulReply, IsLawfulAnswer, IsLawfulNotice};
-ghost use Rattle.reg_sessions.specs.Sessions.{SessionState, receipts_at, count_at, mark_at, seat_at, receipt_of, mark_after, mark_told, status_told};
+ghost use Rattle.reg_sessions.specs.Locked.{IsLawfulReply, IsLawfulAnswer};
+ghost use Rattle.reg_sessions.specs.Sessions.{SessionState, receipts_at, count_at, mark_at, seat_at, taken_at, popped_at, notice_of, receipt_of, mark_after, mark_told, status_told};
 
 use crate::gate::HiveGate;
 use crate::place::Place;
@@ -82,6 +82,16 @@ impl Session {
         }
     }
 
+    /// The notices of a hive that the session took, in order. None at a hive that isn't there.
+    pub fn taken(&self, hive: u8) -> &[Notice]
+        ensures { result.now ≡ taken_at hive self.now }
+    {
+        match self.places.get(hive as usize) {
+            Some(place) => place.taken(),
+            None => &[],
+        }
+    }
+
     /// Makes a change at a hive, at a moment (100 ns units since 1601): it waits for the hive's lock, and is answered as by
     /// `Hive::apply` of reg_calls. Where it is accepted, and only then, the session has one receipt more, of this moment, change and
     /// reply. 1009 also where the hive has had fewer entries than the session's mark there, which is never so at the hive that gave the seat. Want of
@@ -100,6 +110,7 @@ impl Session {
         requires seat { hive < length self.old.places }
         ensures receipts { (h : ℕ) → receipts_at h self.new ≡ receipts_at h self.old ++ (if h == hive then receipt_of moment change.now result else []) }
         ensures marks { (h : ℕ) → mark_at h self.new ≡ (if h == hive then mark_after (mark_at h self.old) result else mark_at h self.old) }
+        ensures notices { (h : ℕ) → (taken_at h self.new ≡ taken_at h self.old) × (popped_at h self.new ≡ popped_at h self.old) }
         ensures kept { (self.new.number ≡ self.old.number) × (length self.new.places ≡ length self.old.places) }
         ensures refused { result.status ≢ 0 → self.new ≡ self.old }
         ensures later { result.status ≡ 0 → (n : ℕ) × (result.number ≡ Some n) × (length (receipts_at hive self.old) ≤ n) × (mark_at hive self.old ≤ n) }
@@ -126,6 +137,7 @@ impl Session {
         requires seat { hive < length self.old.places }
         ensures receipts { (h : ℕ) → receipts_at h self.new ≡ receipts_at h self.old }
         ensures marks { (h : ℕ) → mark_at h self.new ≡ (if h == hive then mark_told (mark_at h self.old) result else mark_at h self.old) }
+        ensures notices { (h : ℕ) → (taken_at h self.new ≡ taken_at h self.old) × (popped_at h self.new ≡ popped_at h self.old) }
         ensures kept { (self.new.number ≡ self.old.number) × (length self.new.places ≡ length self.old.places) }
         ensures refused { status_told result.body ≢ 0 → self.new ≡ self.old }
         ensures later { result.body ≢ Refused BAD_DATABASE → (length (receipts_at hive self.old) ≤ result.at) × (mark_at hive self.old ≤ result.at) }
@@ -135,20 +147,18 @@ impl Session {
         self.places[hive as usize].ask(rt, lock, gate, hive, query)
     }
 
-    /// Takes the session's next notice of a hive, if there is one: it waits for the hive's lock. Takes no memory, and changes nothing in the
-    /// session.
-    pub fn take_notice<Rt: Wait, C: Callback>(
-        &mut self,
-        rt: &Rt,
-        registry: &Registry<C>,
-        hive: u8,
-    ) -> Option<Notice>
-        requires hive { hive < registry.now.hives }
-        ensures same { self.new ≡ self.old }
-        ensures lawful { IsLawfulNotice self.old.number result }
+    /// Takes the session's next notice of a hive, if one has come: it takes no lock and no memory. What the hive keeps back comes by the
+    /// session's next change or question there, as far as the ring of 64 has room then. A notice that was taken is kept, and compared when all are
+    /// gathered.
+    #[tactic(auto, using(crate::proofs::SessionPlaces::place_set))]
+    pub fn take_notice<C: Callback>(&mut self, _registry: &Registry<C>, hive: u8) -> Option<Notice>
+        requires seat { hive < length self.old.places }
+        ensures taken { (h : ℕ) → taken_at h self.new ≡ taken_at h self.old ++ (if h == hive then notice_of result else []) }
+        ensures popped { (h : ℕ) → popped_at h self.new ≡ popped_at h self.old ++ (if h == hive then notice_of result else []) }
+        ensures receipts { (h : ℕ) → receipts_at h self.new ≡ receipts_at h self.old }
+        ensures marks { (h : ℕ) → mark_at h self.new ≡ mark_at h self.old }
+        ensures kept { (self.new.number ≡ self.old.number) × (length self.new.places ≡ length self.old.places) }
     {
-        let lock = registry.lock(hive);
-        let mut guard = lock.lock(rt);
-        guard.take_notice(self.number)
+        self.places[hive as usize].take_notice()
     }
 }

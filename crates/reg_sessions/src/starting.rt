@@ -1,11 +1,14 @@
-ghost use Rattle.std.specs.Prelude.{◌≡◌, ◌+◌, ◌<◌, ◌≤◌, ◌↔◌, ◌⊎◌, ℕ, map, IfOk, IsErrOf, IsTrue, OnOk, vec_len};
+ghost use Rattle.std.specs.Prelude.{◌≡◌, ◌+◌, ◌<◌, ◌≤◌, ◌↔◌, ◌⊎◌, ℕ, [], map, IfOk, IsErrOf, IsTrue, OnOk, vec_len};
 ghost use Rattle.reg_model.specs.declared.limits.TheConstants.{SESSIONS_LIMIT};
 ghost use Rattle.reg_sessions.specs.declared.registry.TheConstants.{HIVES_LIMIT};
 ghost use Rattle.std.specs.List.{range_with_len};
 ghost use Rattle.reg_journal.specs.Kept.{seat};
+ghost use Rattle.reg_calls.specs.HiveView.{view_of};
+ghost use Rattle.reg_calls.specs.Views.{told_in};
 ghost use Rattle.reg_sessions.specs.Locked.{booked_of, IsAdmitted, IsUnused, AreUnused};
 ghost use Rattle.reg_sessions.specs.Sessions.{IsFresh, AreFresh, AreInOrder, session_of};
 
+use crate::lines::Line;
 use crate::locked::Locked;
 use crate::place::Place;
 use crate::registry::{HIVES_LIMIT, Registry, Room};
@@ -15,6 +18,7 @@ use reg_callbacks::Callback;
 use reg_calls::Hive;
 use reg_journal::Share;
 use reg_model::limits::SESSIONS_LIMIT;
+use reg_outbox::{Inbox, OutboxFault, outbox};
 use std::alloc::{AllocError, Global};
 use std::sync::Mutex;
 use thiserror::Error;
@@ -58,11 +62,12 @@ fn fresh_sessions(alloc: Global, n: u8) -> Result<Vec<Session>, AllocError>
     Ok(all)
 }
 
-/// Gives the sessions below `n` seats at a hive.
-#[tactic(auto, using(crate::proofs::Admitted::admitted_new))]
+/// Gives the sessions below `n` seats at a hive, which has told nobody anything.
+#[tactic(auto, using(crate::proofs::Admitted::admitted_new, crate::proofs::Rings::nothing_told))]
 fn seats<C: Callback>(hive: &mut Hive<C>, n: u8) -> Result<Vec<Share>, AllocError>
     ensures shares { IfOk result (λ shares. shares.items ≡ map (λ s. seat s 0) (range_with_len 0 n)) }
     ensures admitted { OnOk result (IsAdmitted (booked_of hive.new)) }
+    ensures silent { OnOk result ((s : ℕ) → told_in (view_of hive.new) s ≡ []) }
 {
     // Only for its clauses: what is true of every hive.
     let _ = hive.len();
@@ -72,7 +77,18 @@ fn seats<C: Callback>(hive: &mut Hive<C>, n: u8) -> Result<Vec<Share>, AllocErro
     }
 }
 
-/// Seats all sessions at a hive, which gets this number.
+/// A ring, with its two ends.
+fn ring(alloc: Global) -> Result<(Line, Inbox), AllocError>
+    ensures line { IfOk result (λ ends. ends.0.sent ≡ []) }
+    ensures inbox { IfOk result (λ ends. ends.1 ≡ []) }
+{
+    match outbox(alloc) {
+        Ok((outbox, inbox)) => Ok((Line::new(outbox), inbox)),
+        Err(OutboxFault::Memory) => Err(AllocError),
+    }
+}
+
+/// Seats all sessions at a hive, which gets this number, with a ring for each.
 fn seated<C: Callback>(
     alloc: Global,
     hive: Hive<C>,
@@ -87,12 +103,15 @@ fn seated<C: Callback>(
     let mut hive = hive;
     let n = sessions.len();
     let shares = seats(&mut hive, n as u8)?;
+    let mut lines = Vec::with_capacity(alloc, n)?;
     let mut at = 0;
     for share in shares {
-        sessions[at].add(Place::new(alloc, share))?;
+        let (line, inbox) = ring(alloc)?;
+        sessions[at].add(Place::new(alloc, share, inbox))?;
+        lines.push(line)?;
         at += 1;
     }
-    Ok(Locked { hive })
+    Ok(Locked { hive, lines })
 }
 
 /// Whether a hive has no entry, and has given no seats.
@@ -137,7 +156,7 @@ fn locked<C: Callback>(
     Ok(locks)
 }
 
-/// Puts hives behind locks, and starts the sessions below `n`, each with a seat at each hive, no receipt, and marks of 0. The hives get
+/// Puts hives behind locks, and starts the sessions below `n`, each with a seat and a ring at each hive, no receipt, and marks of 0. The hives get
 /// the numbers from 0 on, in order. `Hives` where there is none or more than 16, else `Sessions` where `n` is 0 or above 64, else `Used`
 /// where a hive gave seats before or has an entry, else `Memory`; the hives are dropped then.
 #[tactic(auto, using(crate::proofs::Starts::in_order, crate::proofs::Starts::each_fresh))]

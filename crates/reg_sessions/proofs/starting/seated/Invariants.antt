@@ -1,8 +1,9 @@
-use Rattle.std.proofs.Common.{◌≡◌, ◌+◌, ◌≤◌, drop, map, vec_len}
+use Rattle.std.proofs.Common.{◌≡◌, ◌+◌, ◌≤◌, drop, length, map, vec_len}
 use Rattle.std.specs.List.{range_with_len}
 use Rattle.std.specs.Vec.Iter.{into_iter_items, into_iter_len}
 use Rattle.reg_journal.specs.Kept.{seat}
 use Rattle.reg_sessions.specs.Sessions.{AreFresh}
+use Rattle.reg_sessions.proofs.Rings.{AreSilent}
 use Rattle.reg_sessions.proofs.starting.seated.Given as goal
 
 abbrev pub invariant-loop-share : goal.invariant-loop-share
@@ -14,3 +15,5 @@ invariant-loop-share g l =
     × (l.at ≤ l.n)
     × AreFresh l.number l.at l.sessions.items
     × (into_iter_len l.share-iterator + l.at ≡ l.n)
+    × (length l.lines.items ≡ l.at)
+    × AreSilent l.lines.items

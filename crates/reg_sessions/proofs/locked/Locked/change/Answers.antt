@@ -1,36 +1,55 @@
-use Rattle.std.proofs.Common.{◌≡◌, ◌≤◌, ◌∙◌, Some, subst, sym}
+use Rattle.std.proofs.Common.{◌≡◌, ◌≤◌, ◌∙◌, ℕ, Some, length, ap, subst, sym, arith}
 use Rattle.reg_calls.specs.HiveView.{view_of}
-use Rattle.reg_calls.specs.Views.{Booked, IsAccepted, next_of}
-use Rattle.reg_sessions.proofs.Admitted.{admitted-changed, accepted, number-told, count-within, counted-more, left, lawful, not-behind}
+use Rattle.reg_calls.specs.Views.{View, Booked, IsAccepted, next_of}
+use Rattle.reg_sessions.specs.Locked.{booked_of}
+use Rattle.reg_sessions.proofs.Admitted.{admitted-changed, accepted, number-told, count-within, counted-more, left, lawful, not-behind, same-booked}
+use Rattle.reg_sessions.proofs.Rings.{admitted_moved, ahead_changed}
 use Rattle.reg_sessions.proofs.locked.Locked.change.Goals as goal
 
+pub push_told-requires : goal.push_told-requires
+push_told-requires g c = ahead_changed c.self.inside.lines.items c.apply-reply.ensures c.self.invariant.0 c.self.invariant.1
+
 pub invariant_of-self : goal.invariant_of-self
-invariant_of-self g c = admitted-changed c.apply.ensures c.self.invariant
+invariant_of-self g c = (
+  admitted_moved (booked_of c.apply-reply.new.hive) (booked_of c.push_told.new.hive) (admitted-changed c.apply-reply.ensures c.self.invariant.0) c.push_told.ensures.moved
+      c.push_told.ensures.noted,
+  c.push_told.ensures.ahead,
+)
+
+pub returns-clause-noted : goal.returns-clause-noted
+returns-clause-noted g c = c.push_told.ensures.noted ∙ c.apply-reply.ensures.noted ∙ ap (λ (b : Booked). b.noted) c.self.view_is
 
 pub returns-clause-accepted : goal.returns-clause-accepted
-returns-clause-accepted g c = λ z.
-    subst (λ (b : Booked). IsAccepted b.view (view_of c.apply.new.hive) c.args.share.now.session c.args.moment c.args.change c.apply.result) c.self.view_is
-    (accepted c.apply.ensures z).1
+returns-clause-accepted g c = λ z. (
+  view_of c.apply-reply.new.hive,
+  subst (λ (b : Booked). IsAccepted b.view (view_of c.apply-reply.new.hive) c.args.share.now.session c.args.moment c.args.change c.apply-reply.result) c.self.view_is
+      (accepted c.apply-reply.ensures z).1,
+  c.push_told.ensures.moved,
+)
 
 pub returns-clause-number : goal.returns-clause-number
 returns-clause-number g c = λ z.
-    subst (λ (b : Booked). c.apply.result.number ≡ Some (next_of b.view)) c.self.view_is (number-told (accepted c.apply.ensures z).1)
+    subst (λ (b : Booked). c.apply-reply.result.number ≡ Some (next_of b.view)) c.self.view_is (number-told (accepted c.apply-reply.ensures z).1)
 
 pub returns-clause-later : goal.returns-clause-later
 returns-clause-later g c = λ z. (
-  subst (λ (b : Booked). c.args.share.now.count ≤ next_of b.view) c.self.view_is (count-within _ _ c.self.invariant (accepted c.apply.ensures z).0),
+  subst (λ (b : Booked). c.args.share.now.count ≤ next_of b.view) c.self.view_is (count-within _ _ c.self.invariant.0 (accepted c.apply-reply.ensures z).0),
   not-behind c.is_behind.result _ _ c.is_behind.ensures.behind.1 c.if-is_behind.false,
 )
 
 pub returns-clause-counted : goal.returns-clause-counted
-returns-clause-counted g c = λ z. counted-more c.apply.ensures z
+returns-clause-counted g c = λ z. counted-more c.apply-reply.ensures z
 
 pub returns-clause-refused : goal.returns-clause-refused
 returns-clause-refused g c = λ other.
-    let same = left c.apply.ensures other in
-    (same.0 ∙ c.self.view_is, same.1)
+    let same = left c.apply-reply.ensures other in
+    let view = ap (λ (b : Booked). b.view) same.0 in
+    let as_many = ap (λ (v : View). length v.watches.pending) view in
+    let before = c.pending-pending.ensures.number in
+    let still = c.push_told.ensures.still (omega (arith, as_many, before)) in
+    (same-booked (booked_of c.push_told.new.hive) (booked_of c.apply-reply.new.hive) still c.push_told.ensures.noted ∙ same.0 ∙ c.self.view_is, same.1)
 
 pub returns-clause-lawful : goal.returns-clause-lawful
 returns-clause-lawful g c =
-    lawful g.C.Callback.answers c.self.inside.hive _ _ _ c.args.mark _ _ _ c.apply.ensures c.self.invariant
+    lawful g.C.Callback.answers c.self.inside.hive _ _ _ c.args.mark _ _ _ c.apply-reply.ensures c.self.invariant.0
     (subst (λ (b : Booked). c.args.mark ≤ next_of b.view) (sym c.self.view_is) (not-behind c.is_behind.result _ _ c.is_behind.ensures.behind.1 c.if-is_behind.false))

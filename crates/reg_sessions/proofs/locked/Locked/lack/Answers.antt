@@ -8,6 +8,6 @@ returns-clause-refused g c = λ z. never-zero c.cause.result c.cause.ensures (sy
 
 pub returns-clause-lawful : goal.returns-clause-lawful
 returns-clause-lawful g c =
-    lacked g.C.Callback.answers c.self.inside.hive _ c.args.mark _ _ c.cause.result c.lacking.result c.cause.ensures c.self.invariant
+    lacked g.C.Callback.answers c.self.inside.hive _ c.args.mark _ _ c.cause.result c.lacking.result c.cause.ensures c.self.invariant.0
     (subst (λ (b : Booked). c.args.mark ≤ next_of b.view) (sym c.self.view_is) (not-behind c.is_behind.result _ _ c.is_behind.ensures.behind.1 c.if-is_behind.false))
     c.lacking.ensures
