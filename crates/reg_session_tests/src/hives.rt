@@ -58,12 +58,12 @@ fn notified<Rt: Wait>(
     };
     tell_change(rt, registry, all.get_mut(0), 1, &open(), &mut text)?;
     tell_change(rt, registry, all.get_mut(0), 1, &watch, &mut text)?;
-    tell_notice(rt, registry, all.get_mut(0), 1, &mut text)?;
+    tell_notice(registry, all.get_mut(0), 1, &mut text)?;
     tell_change(rt, registry, all.get_mut(0), 1, &set, &mut text)?;
-    tell_notice(rt, registry, all.get_mut(0), 0, &mut text)?;
-    tell_notice(rt, registry, all.get_mut(1), 1, &mut text)?;
-    tell_notice(rt, registry, all.get_mut(0), 1, &mut text)?;
-    tell_notice(rt, registry, all.get_mut(0), 1, &mut text)?;
+    tell_notice(registry, all.get_mut(0), 0, &mut text)?;
+    tell_notice(registry, all.get_mut(1), 1, &mut text)?;
+    tell_notice(registry, all.get_mut(0), 1, &mut text)?;
+    tell_notice(registry, all.get_mut(0), 1, &mut text)?;
     Ok(text)
 }
 

@@ -1,6 +1,6 @@
 //! What tests of jobs share: hives and their roots, works, and what comes of them.
 use reg_calls::Hive;
-use reg_model::{Call, Change, Outcome};
+use reg_model::{Call, Change, Notice, Outcome, Query};
 use reg_sessions::{Ask, Done, HiveGate, Job, OpenGate, Registry, Session, Work, are_ready, drive};
 use std::alloc::Global;
 use std::sync::Wait;
@@ -49,6 +49,15 @@ pub fn to_change(hive: u8, change: Change) -> Work {
     }
 }
 
+/// A question as a work.
+pub fn to_ask(hive: u8, query: Query) -> Work {
+    Work {
+        hive,
+        moment: 1,
+        ask: Ask::Call(Call::Query(query)),
+    }
+}
+
 /// Runs jobs at a gate, each on a thread of its own.
 pub fn run<Rt: Threads + Wait + Sync, G: HiveGate>(
     rt: &Rt,
@@ -63,12 +72,14 @@ pub fn run<Rt: Threads + Wait + Sync, G: HiveGate>(
     Ok(())
 }
 
-/// Writes the statuses of a job's outcomes, one after another.
+/// Writes a job's outcomes, one after another: the statuses of changes, that a question was answered, and notices.
 fn tell_outcomes(outcomes: &[Done], text: &mut String) -> Result<(), Fail> {
     for done in outcomes {
         match done {
             Done::Outcome(Outcome::Changed(reply)) => write!(text, "{} ", reply.status)?,
-            _ => write!(text, "another outcome ")?,
+            Done::Outcome(Outcome::Answered(_)) => write!(text, "answered ")?,
+            Done::Notice(Some(Notice { watch, by, .. })) => write!(text, "notice {watch} {by} ")?,
+            Done::Notice(None) => write!(text, "no notice ")?,
         }
     }
     write!(text, "\n")?;

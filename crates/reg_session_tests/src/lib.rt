@@ -16,6 +16,8 @@ mod jobs;
 #[cfg(test)]
 mod locks;
 #[cfg(test)]
+mod notices;
+#[cfg(test)]
 mod rows;
 #[cfg(test)]
 mod soak;

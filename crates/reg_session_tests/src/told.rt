@@ -96,8 +96,7 @@ pub fn tell_answer<Rt: Wait>(
 }
 
 /// Writes the next notice of a session at a hive.
-pub fn tell_notice<Rt: Wait>(
-    rt: &Rt,
+pub fn tell_notice(
     registry: &Registry,
     session: Option<&mut Session>,
     hive: u8,
@@ -107,7 +106,7 @@ pub fn tell_notice<Rt: Wait>(
         return Err("there is no such session".into());
     };
     assert_hive(registry, hive)?;
-    match session.take_notice(rt, registry, hive) {
+    match session.take_notice(registry, hive) {
         Some(Notice { watch, by, .. }) => write!(text, "notice {watch} {by}\n")?,
         None => write!(text, "no notice\n")?,
     }

@@ -6,6 +6,7 @@ use Rattle.std.proofs.lemmas.Bool.Decides.{nat_tests}
 use Rattle.std.proofs.Math.Seq.{get_or-append_seam}
 use Rattle.reg_callbacks.specs.Asking.{Answers}
 use Rattle.reg_journal.specs.Kept.{Seat, seat}
+use Rattle.reg_model.specs.declared.notice.Notice.{Notice}
 use Rattle.reg_model.specs.declared.reply.Receipt.{Receipt}
 use Rattle.reg_script.specs.LineMeanings.{Meaning, nothing, at_moment, as_session, on_hive, asks, takes_notice, bad, within, meaning_in}
 use Rattle.reg_script.specs.LineWords.{words_of}
@@ -13,8 +14,8 @@ use Rattle.reg_script.specs.LineMeanings.{reading, verb_of, by_verb}
 use Rattle.reg_sessions.specs.declared.job.Work.{Work}
 use Rattle.reg_sessions.specs.declared.job.Done.{Done}
 use Rattle.reg_sessions.specs.declared.job.Job.{Job}
-use Rattle.reg_sessions.specs.Sessions.{SessionState, IsFresh, no_session, session_of, receipts_at, mark_at}
-use Rattle.reg_sessions.specs.Jobs.{AreReady, AreWithin, IsDone, IsLawfulDone, AreLawful, are_of_kinds, receipts_by, mark_by}
+use Rattle.reg_sessions.specs.Sessions.{SessionState, IsFresh, no_session, session_of, receipts_at, mark_at, taken_at}
+use Rattle.reg_sessions.specs.Jobs.{AreReady, AreWithin, IsDone, IsLawfulDone, AreLawful, are_of_kinds, receipts_by, notices_by, mark_by}
 use Rattle.reg_workers.specs.Tasks.{Settings, first_settings, set_by, Task, bad_line, works, task_of, tasks_of, works_of}
 use Rattle.reg_workers.specs.Workers.{fresh_session}
 use Rattle.reg_workers.specs.Internal.Parts.{PartState, no_part, part_of, part_at}
@@ -196,6 +197,11 @@ worked_one answers s hives session part old new fresh job done =
           ∙ ap (λ (rs : List Receipt). rs ++ receipts_by h old.work.items done.done.done) (ap (λ (x : SessionState). receipts_at h x) job.is_session ∙ fresh.receipts h)
           ∙ ap (λ (ws : List Work). receipts_by h ws done.done.done) is_work
           ∙ ap (λ (ds : List Done). receipts_by h part.work ds) (sym all);
+      taken = λ h.
+          done.done.taken h
+          ∙ ap (λ (ns : List Notice). ns ++ notices_by h old.work.items done.done.done) (ap (λ (x : SessionState). taken_at h x) job.is_session ∙ fresh.taken h)
+          ∙ ap (λ (ws : List Work). notices_by h ws done.done.done) is_work
+          ∙ ap (λ (ds : List Done). notices_by h part.work ds) (sym all);
     }
 
 pub worked : {C : Type 0} (answers : C → Answers) (hives : ℕ) (sessions : List SessionState) (parts : List PartState) (old new : List Job) → AreJobs sessions parts old →

@@ -9,17 +9,20 @@ use Rattle.reg_text.specs.Texts.{line_feed}
 use Rattle.reg_callbacks.specs.Asking.{Answers}
 use Rattle.reg_calls.specs.Views.{Booked}
 use Rattle.reg_model.specs.Histories.{receipts_of}
+use Rattle.reg_model.specs.declared.notice.Notice.{Notice as Told}
 use Rattle.reg_model.specs.declared.reply.Receipt.{Receipt}
 use Rattle.reg_sessions.specs.declared.job.Work.{Work}
 use Rattle.reg_sessions.specs.declared.job.Done.{Done}
 use Rattle.reg_sessions.specs.declared.job.Job.{Job}
-use Rattle.reg_sessions.specs.Sessions.{SessionState, AreInOrder, no_session, session_of, receipts_at}
-use Rattle.reg_sessions.specs.Jobs.{are_of_kinds, receipts_by, AreLawful}
-use Rattle.reg_sessions.specs.Gathering.{IsMismatch, IsAudited, journal_at}
+use Rattle.reg_sessions.specs.declared.gathering.Kept.{Kept}
+use Rattle.reg_sessions.specs.declared.gathering.Kept.TheVariants.{Receipt as OfReceipt, Notice as OfNotice}
+use Rattle.reg_sessions.specs.Sessions.{SessionState, AreInOrder, no_session, session_of, receipts_at, taken_at}
+use Rattle.reg_sessions.specs.Jobs.{are_of_kinds, receipts_by, notices_by, AreLawful}
+use Rattle.reg_sessions.specs.Gathering.{IsMismatch, IsAudited, IsStray, KeptDiffer, journal_at, told_at}
 use Rattle.reg_workers.specs.declared.part.Reply.{Reply}
 use Rattle.reg_workers.specs.Tasks.{first_settings, Task, bad_line, works, tasks_of, works_of, sessions_of}
 use Rattle.reg_workers.specs.Texts.{reply_text, replies_text, session_text, sessions_text, entries_text, end_text}
-use Rattle.reg_workers.specs.Workers.{accepted_at, entries_of, AreAdmitted, IsEnd, fresh_session, no_answers, WritesWorkers}
+use Rattle.reg_workers.specs.Workers.{accepted_at, entries_of, AreAdmitted, IsEnd, DiffersIn, fresh_session, no_answers, WritesWorkers}
 use Rattle.reg_workers.specs.Internal.Parts.{PartState, no_part, reply_of, part_of, part_at}
 use Rattle.reg_workers.specs.Internal.Working.{AreWorked, IsWorked, HaveReplies, works_among, replies_by, session_by, work_at, done_at, sessions_by, IsWritable, IsGatheredSo, IsTold, IsToldOf}
 use Rattle.reg_workers.proofs.WrittenReplies.{work_at_is, done_at_is}
@@ -136,6 +139,28 @@ module _ (hives : ℕ) (lines : List (List ℕ)) (parts kept : List PartState) (
             ∙ ap (λ (ws : List Work). receipts_by h ws (done s)) (sym no_work))
       ]
 
+  -- so are the notices that it took
+  taken_are : (s h : ℕ) → taken_at h (session_of sessions s) ≡ notices_by h (works_of (tasks s)) (done s)
+  taken_are s h =
+      elim (cases_lt s (length jobs)) [
+        | inl below ↦ (let j = job_there jobs s below in
+            ap (λ (x : SessionState). taken_at h x) (session_there jobs s j.0 below j.1)
+            ∙ (there s below j.0 j.1).taken h
+            ∙ ap (λ (ws : List Work). notices_by h ws j.0.outcomes.items) (work_is s)
+            ∙ ap (λ (ds : List Done). notices_by h (works_of (tasks s)) ds) (sym (done_at_is jobs s j.0 below j.1)))
+        | inr past ↦ (let no_work : works_of (tasks s) ≡ [] =
+            sym (work_is s) ∙ ap (λ (p : PartState). p.work) (get_or-eq_default parts no_part (omega (arith, past, worked.count))) in
+            let long = length-map jobs (λ (j : Job). j.session) in
+            ap (λ (x : SessionState). taken_at h x) (get_or-eq_default sessions no_session (omega (arith, past, long)))
+            ∙ ap (λ (ws : List Work). notices_by h ws (done s)) (sym no_work))
+      ]
+
+  differ_so : (kept' : Kept) (booked : List Booked) (h s place : ℕ) → KeptDiffer kept' booked sessions h s place →
+      DiffersIn kept' booked h s (tasks s) (done s) place
+  differ_so OfReceipt booked h s place d =
+      subst (λ (rs : List Receipt). slice_get (receipts_of s (journal_at booked h)) place ≢ slice_get rs place) (receipts_are s h) d
+  differ_so OfNotice booked h s place d = subst (λ (ns : List Told). IsStray ns (told_at booked h s) place) (taken_are s h) d
+
   text_same : (n : ℕ) → n ≤ length jobs → sessions_by kept jobs n ≡ sessions_text tasks done n
   text_same zero few = refl
   text_same (suc n) few =
@@ -180,13 +205,15 @@ module _ (hives : ℕ) (lines : List (List ℕ)) (parts kept : List PartState) (
     total = (h n below).total
         ∙ ap (λ (xs : List SessionState). sum_by (λ s. length (receipts_at n s)) xs) (sym (take_whole sessions (sessions_of hives lines) number_of_sessions))
         ∙ sum_same n (sessions_of hives lines) (omega (arith, number_of_sessions));
+    delivered = λ s. subst (λ (ns : List Told). take (length ns) (told_at booked n s) ≡ ns) (taken_are s n) ((h n below).delivered s);
   }
   ends_so false booked h = record {
     hive = h.0;
     is_hive = h.3.within;
     session = h.1;
     place = h.2;
-    differ = subst (λ (rs : List Receipt). slice_get (receipts_of h.1 (journal_at booked h.0)) h.2 ≢ slice_get rs h.2) (receipts_are h.1 h.0) h.3.differ;
+    kept = h.3;
+    differ = differ_so h.3 booked h.0 h.1 h.2 h.4.differ;
   }
 
   pub written : (old new : List ℕ) → IsToldOf hives kept jobs old new → (told : List ℕ) × WritesWorkers hives lines told × (new ≡ old ++ told)
@@ -223,13 +250,13 @@ told_gathered hives all audit old new long admitted audited text = record {
   text = text;
 }
 
-pub told_differs : (hives h s place : ℕ) (all : List SessionState) (audit : List Booked) (old new : List ℕ) → length audit ≡ hives → AreAdmitted audit →
-    IsMismatch audit all h s place → new ≡ old ++ (entries_text (entries_of audit) ++ end_text false) → IsTold hives all old new
-told_differs hives h s place all audit old new long admitted differ text = record {
+pub told_differs : (hives h s place : ℕ) (kept : Kept) (all : List SessionState) (audit : List Booked) (old new : List ℕ) → length audit ≡ hives → AreAdmitted audit →
+    IsMismatch audit all h s place kept → new ≡ old ++ (entries_text (entries_of audit) ++ end_text false) → IsTold hives all old new
+told_differs hives h s place kept all audit old new long admitted differ text = record {
   booked = audit;
   count = long;
   admitted = admitted;
   gathered = false;
-  ends = (h, s, place, differ);
+  ends = (h, s, place, kept, differ);
   text = text;
 }

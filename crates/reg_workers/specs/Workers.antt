@@ -1,13 +1,15 @@
 -- Scripts whose sessions work side by side on several hives (this project's own rules of the script).
-use Rattle.std.specs.Prelude.{◌≡◌, ◌≢◌, ℕ, zero, suc, ◌+◌, ◌<◌, Bool, true, false, List, [], ◌++◌, length, map, slice_get, Option, Some}
+use Rattle.std.specs.Prelude.{◌≡◌, ◌≢◌, ℕ, zero, suc, ◌+◌, ◌<◌, Bool, true, false, List, [], ◌++◌, length, map, take, slice_get, Option, Some}
 use Rattle.std.specs.Io.KnownBytes.{Appends, Consumes, IsAtEnd}
 use Rattle.reg_callbacks.specs.Asking.{Answers}
 use Rattle.reg_callbacks.specs.declared.callback.NoCallback.{NoCallback}
 use Rattle.reg_model.specs.Histories.{receipts_of}
 use Rattle.reg_calls.specs.Views.{Booked}
 use Rattle.reg_sessions.specs.declared.job.Done.{Done}
-use Rattle.reg_sessions.specs.Jobs.{are_of_kinds, receipts_by, AreLawful}
-use Rattle.reg_sessions.specs.Gathering.{journal_at}
+use Rattle.reg_sessions.specs.declared.gathering.Kept.{Kept}
+use Rattle.reg_sessions.specs.declared.gathering.Kept.TheVariants.{Receipt as OfReceipt, Notice as OfNotice}
+use Rattle.reg_sessions.specs.Jobs.{are_of_kinds, receipts_by, notices_by, AreLawful}
+use Rattle.reg_sessions.specs.Gathering.{journal_at, told_at, IsStray}
 use Rattle.reg_sessions.specs.Locked.{IsAdmitted}
 use Rattle.reg_sessions.specs.Sessions.{SessionState}
 use Rattle.reg_script.specs.declared.engine.ScriptFault.{ScriptFault}
@@ -30,20 +32,29 @@ entries_of hives = map (λ (b : Booked). length b.view.journal) hives
 abbrev pub AreAdmitted : List Booked → Type 0
 AreAdmitted hives = (h : ℕ) (b : Booked) → slice_get hives h ≡ Some b → IsAdmitted b
 
--- of each session the hive's journal has just the entries of its accepted changes, in order, and there are no others
+-- of each session the hive's journal has just the entries of its accepted changes, in order, and there are no others; and the notices that
+-- it took are the first of those that the hive told it
 pub record HoldsAll (hives : List Booked) (tasks : ℕ → List Task) (done : ℕ → List Done) (n h : ℕ) : Type 0 where
   pub entries : (s : ℕ) → receipts_of s (journal_at hives h) ≡ receipts_by h (works_of (tasks s)) (done s)
   pub total : length (journal_at hives h) ≡ accepted_at h tasks done n
+  pub delivered : (s : ℕ) → take (length (notices_by h (works_of (tasks s)) (done s))) (told_at hives h s) ≡ notices_by h (works_of (tasks s)) (done s)
 
--- at some place of a session a hive's journal differs from what the session was told
+-- by what a session was told at a hive: at a place the hive's journal has another entry than its accepted change, or none, or the hive has none
+-- to that entry; or the notice that it took there isn't the one that the hive told it
+abbrev pub DiffersIn : Kept → List Booked → ℕ → ℕ → List Task → List Done → ℕ → Type 0
+DiffersIn OfReceipt hives h s tasks done place = slice_get (receipts_of s (journal_at hives h)) place ≢ slice_get (receipts_by h (works_of tasks) done) place
+DiffersIn OfNotice hives h s tasks done place = IsStray (notices_by h (works_of tasks) done) (told_at hives h s) place
+
+-- at some place of a session a hive differs from what the session was told
 pub record Differs (hives : List Booked) (tasks : ℕ → List Task) (done : ℕ → List Done) : Type 0 where
   pub hive : ℕ
   pub is_hive : hive < length hives
   pub session : ℕ
   pub place : ℕ
-  pub differ : slice_get (receipts_of session (journal_at hives hive)) place ≢ slice_get (receipts_by hive (works_of (tasks session)) (done session)) place
+  pub kept : Kept
+  pub differ : DiffersIn kept hives hive session (tasks session) (done session) place
 
--- what is told at the end is so: each journal holds just the accepted changes, or one differs
+-- what is told at the end is so: each hive holds just what its sessions were told, or one differs
 abbrev pub IsEnd : Bool → List Booked → (ℕ → List Task) → (ℕ → List Done) → ℕ → Type 0
 IsEnd true hives tasks done n = (h : ℕ) → h < length hives → HoldsAll hives tasks done n h
 IsEnd false hives tasks done n = Differs hives tasks done

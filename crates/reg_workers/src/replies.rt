@@ -223,6 +223,7 @@ fn write_gathered<C: Callback>(
                 hive: _,
                 session: _,
                 place: _,
+                kept: _,
                 audit,
             },
         ) => write_end(text, &audit, false),

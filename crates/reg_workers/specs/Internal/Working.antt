@@ -7,8 +7,9 @@ use Rattle.reg_calls.specs.Views.{Booked}
 use Rattle.reg_sessions.specs.declared.job.Work.{Work}
 use Rattle.reg_sessions.specs.declared.job.Done.{Done}
 use Rattle.reg_sessions.specs.declared.job.Job.{Job}
-use Rattle.reg_sessions.specs.Sessions.{SessionState, session_of, receipts_at}
-use Rattle.reg_sessions.specs.Jobs.{are_of_kinds, receipts_by, AreLawful}
+use Rattle.reg_sessions.specs.declared.gathering.Kept.{Kept}
+use Rattle.reg_sessions.specs.Sessions.{SessionState, session_of, receipts_at, taken_at}
+use Rattle.reg_sessions.specs.Jobs.{are_of_kinds, receipts_by, notices_by, AreLawful}
 use Rattle.reg_sessions.specs.Gathering.{IsAudited, IsMismatch}
 use Rattle.reg_workers.specs.declared.part.Reply.{Reply}
 use Rattle.reg_workers.specs.declared.part.Reply.TheVariants.{Bad, Worked}
@@ -29,13 +30,14 @@ pub record AreJobs (sessions : List SessionState) (parts : List PartState) (jobs
   pub count : length jobs ≡ length sessions
   pub each : (s : ℕ) (d : Job) → s < length sessions → IsJob (session_of sessions s) (part_at s parts) (slice_index_or jobs s d)
 
--- the job of session s was run, which had no receipt before
+-- the job of session s was run, which had no receipt before, and had taken no notice
 pub record IsWorked {C : Type 0} (answers : C → Answers) (s : ℕ) (part : PartState) (job : Job) : Type 0 where
   pub number : job.session.number ≡ s
   pub work : job.work.items ≡ part.work
   pub kinds : are_of_kinds part.work job.outcomes.items ≡ true
   pub lawful : AreLawful answers (fresh_session s) part.work job.outcomes.items
   pub receipts : (h : ℕ) → receipts_at h job.session ≡ receipts_by h part.work job.outcomes.items
+  pub taken : (h : ℕ) → taken_at h job.session ≡ notices_by h part.work job.outcomes.items
 
 pub record AreWorked {C : Type 0} (answers : C → Answers) (parts : List PartState) (jobs : List Job) : Type 0 where
   pub count : length jobs ≡ length parts
@@ -90,7 +92,7 @@ pub record IsWritten (reply : Reply) (work : List Work) (done : List Done) (old 
 -- what is told at the end is what gathering answers
 abbrev pub IsGatheredSo : Bool → List Booked → List SessionState → Type 0
 IsGatheredSo true hives sessions = (h : ℕ) → h < length hives → IsAudited hives sessions h
-IsGatheredSo false hives sessions = (h : ℕ) × (s : ℕ) × (place : ℕ) × IsMismatch hives sessions h s place
+IsGatheredSo false hives sessions = (h : ℕ) × (s : ℕ) × (place : ℕ) × (kept : Kept) × IsMismatch hives sessions h s place kept
 
 -- the end was written
 pub record IsTold (hives : ℕ) (sessions : List SessionState) (old new : List ℕ) : Type 0 where
