@@ -23,6 +23,7 @@ const ROUNDS: u32 = 320;
 struct Turns {
     what: &'static str,
     act: Act,
+    sessions: u8,
     rounds: u32,
     each: u32,
 }
@@ -34,9 +35,10 @@ pub fn run<H: Hive>(
     alloc: Global,
     takes_time: bool,
 ) -> Result<()> {
-    for (what, act) in [
-        ("QueryValue by a session", Act::Ask),
-        ("SetValue by a session", Act::Set),
+    for (what, act, sessions) in [
+        ("QueryValue by a session", Act::Ask, 1),
+        ("SetValue by a session", Act::Set, 1),
+        ("SetValue by one of 64 sessions", Act::Set, 64),
     ] {
         let (rounds, each) = if takes_time {
             (ROUNDS, BATCH)
@@ -46,6 +48,7 @@ pub fn run<H: Hive>(
         let turns = Turns {
             what,
             act,
+            sessions,
             rounds,
             each,
         };
@@ -62,7 +65,7 @@ impl Turns {
         takes_time: bool,
     ) -> Result<()> {
         let mut hive = Stage::<H>::hive(alloc)?;
-        let (registry, mut sessions) = started(alloc, 1, 1)?;
+        let (registry, mut sessions) = started(alloc, 1, self.sessions)?;
         let Some(session) = sessions.get_mut(0) else {
             bail!("there is no session");
         };

@@ -9,7 +9,7 @@
 //!
 //! A row is a [`row::Row`]: a [`step::Step`] on the keys of a [`place::Place`], whose calls a [`stage::Stage`] answers. One loop times
 //! all of them. Whatever works on a hive is generic in a [`reg_fixtures::Registry`], which is checked without all that a hive is made
-//! of. Sessions have rows of their own: [`alone`] on this thread, [`crew`] on several, [`receipts`] for memory.
+//! of. Sessions have rows of their own: [`alone`] on this thread, [`crew`] on several, [`notices`] between two, [`receipts`] for memory.
 #![tactic(auto)]
 
 mod act;
@@ -17,6 +17,7 @@ mod alone;
 mod calls;
 mod cells;
 mod crew;
+mod notices;
 mod place;
 mod receipts;
 mod row;
@@ -92,6 +93,7 @@ fn run_sessions<H: Registry>(
     takes_time: bool,
 ) -> Result<()> {
     alone::run::<H>(rt, alloc, takes_time)?;
+    notices::run(rt, alloc, takes_time)?;
     crew::run(rt, alloc, takes_time)
 }
 

@@ -20,7 +20,7 @@ use Rattle.reg_calls.specs.declared.hive.Hive.{Hive}
 use Rattle.reg_calls.specs.HiveView.{view_of, asks_of}
 use Rattle.reg_calls.specs.Views.{View, Booked, state, next_of, entry_of, IsAppliedBy, IsAccepted, IsHive}
 use Rattle.reg_calls.proofs.AcceptedChanges.{either, refused}
-use Rattle.reg_sessions.specs.Locked.{booked_of, IsAdmitted, IsLawfulReply, IsLawfulAnswer}
+use Rattle.reg_sessions.specs.Locked.{booked_of, IsAdmitted, IsLawfulReply, IsLawfulOrLacks, IsLawfulAnswer}
 use Rattle.reg_sessions.specs.Internal.Answered.{IsAnswered, IsCauseOf, IsAsked}
 
 -- whether the share is current
@@ -168,6 +168,9 @@ lawful answers h new share after mark moment change reply p a reached other =
 some-is : (n m : ℕ) → Some n ≡ Some m → n ≡ m
 some-is n m e = cc
 
+no-some : (n : ℕ) → None ≡ Some n → ⊥
+no-some n e = cc
+
 pub never-zero : {k : Callbacks} {b : Booked} {share : Seat} {moment : ℕ} {change : Change} (cause : Option ℕ) → IsCauseOf k b share moment change cause → unwrap_or cause 8 ≢ 0
 never-zero None p z = absurd (omega (arith, z))
 never-zero {k} {b} {share} {moment} {change} (Some status) p z =
@@ -178,16 +181,20 @@ never-zero {k} {b} {share} {moment} {change} (Some status) p z =
 
 pub lacked : {C : Type 0} (answers : C → Answers) (h : Hive C) (share : Seat) (mark moment : ℕ) (change : Change) (cause : Option ℕ) (reply : ChangeReply)
     → IsCauseOf (asks_of answers h) (booked_of h) share moment change cause → IsAdmitted (booked_of h) → mark ≤ next_of (view_of h)
-    → reply ≡ refusal (unwrap_or cause 8) → reply.status ≢ 1009 → reply.status ≢ 8 → IsLawfulReply answers share mark moment change reply
-lacked answers h share mark moment change None reply p a reached told stale lack = absurd (lack (status_is reply 8 told))
-lacked answers h share mark moment change (Some status) reply p a reached told stale lack =
+    → reply ≡ refusal (unwrap_or cause 8) → reply.status ≢ 1009 → IsLawfulOrLacks answers share mark moment change reply
+lacked answers h share mark moment change None reply p a reached told stale =
     elim (decided (booked_of h) share) [
-      | inl c ↦ record {
+      | inl c ↦ inr (told, record { hive = h; sight = record { admitted = a; current = c; reached = reached }; uncaused = sym (p.cause c) })
+      | inr none ↦ absurd (no-some 1009 (p.stale none))
+    ]
+lacked answers h share mark moment change (Some status) reply p a reached told stale =
+    elim (decided (booked_of h) share) [
+      | inl c ↦ inl (record {
         hive = h;
         new = view_of h;
         sight = record { admitted = a; current = c; reached = reached };
         applied = subst (λ (o : Option ℕ). IsAppliedBy o (view_of h) (view_of h) share.session moment change reply) (p.cause c) (told, refl);
-      }
+      })
       | inr none ↦ absurd (stale (status_is reply status told ∙ some-is status 1009 (p.stale none)))
     ]
 

@@ -65,8 +65,8 @@ pub record IsMismatch (hives : List Booked) (sessions : List SessionState) (h s 
   pub within : h < length hives
   pub differ : KeptDiffer kept hives sessions h s place
 
--- when each fault is due: a mismatch, of a receipt or of a notice, where the sessions are those that were started, in order, and there is that difference; the sessions
--- where they aren't, and they come back with the registry
+-- when each fault is due: a mismatch, of a receipt or of a notice, where the sessions are those that were started, in order, and there is that
+-- difference; the sessions where they aren't, and they come back with the registry
 abbrev pub IsDue : {C : Type 0} → Shape → List SessionState → GatherFault C → Type 0
 IsDue shape given (Mismatch h s place kept audit) = AreInOrder shape.sessions given × (length audit ≡ shape.hives) × IsMismatch audit given h s place kept
 IsDue shape given (Sessions registry sessions) = (registry ≡ shape) × (sessions.items ≡ given) × (AreInOrder shape.sessions given → ⊥)

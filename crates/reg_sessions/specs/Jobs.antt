@@ -3,7 +3,7 @@ use Rattle.std.specs.Prelude.{◌≡◌, ◌≢◌, ◌+◌, ◌≤◌, ◌<◌,
 use Rattle.reg_callbacks.specs.Asking.{Answers}
 use Rattle.reg_journal.specs.Kept.{Seat, seat}
 use Rattle.reg_model.specs.declared.answer.AnswerBody.TheVariants.{Refused}
-use Rattle.reg_model.specs.declared.statuses.TheConstants.{BAD_DATABASE, NOT_ENOUGH_MEMORY}
+use Rattle.reg_model.specs.declared.statuses.TheConstants.{BAD_DATABASE}
 use Rattle.reg_model.specs.declared.call.Call.TheVariants.{Change, Query}
 use Rattle.reg_model.specs.declared.notice.Notice.{Notice as Told}
 use Rattle.reg_model.specs.declared.reply.Receipt.{Receipt}
@@ -14,7 +14,7 @@ use Rattle.reg_sessions.specs.declared.job.Ask.TheVariants.{Call, TakeNotice}
 use Rattle.reg_sessions.specs.declared.job.Done.{Done}
 use Rattle.reg_sessions.specs.declared.job.Done.TheVariants.{Outcome, Notice}
 use Rattle.reg_sessions.specs.declared.job.Job.{Job}
-use Rattle.reg_sessions.specs.Locked.{IsLawfulReply, IsLawfulAnswer}
+use Rattle.reg_sessions.specs.Locked.{IsLawfulOrLacks, IsLawfulAnswer}
 use Rattle.reg_sessions.specs.Sessions.{SessionState, receipts_at, mark_at, taken_at, notice_of, receipt_of, mark_after, mark_told}
 
 -- an outcome is of the kind that was asked for: a reply to a change, an answer to a question, a notice or none to who takes one
@@ -75,10 +75,10 @@ mark_by h mark [] ds = mark
 mark_by h mark (w ∷ ws) [] = mark
 mark_by h mark (w ∷ ws) (d ∷ ds) = mark_by h (if h == w.hive then mark_by_one mark w.ask d else mark) ws ds
 
--- what a session with this seat and mark at a hive may be told there, 1009 and 8 aside; a notice that it takes is compared when all are gathered
+-- what a session with this seat and mark at a hive may be told there, 1009 aside; a notice that it takes is compared when all are gathered
 abbrev pub IsLawfulDone : {C : Type 0} → (C → Answers) → Seat → (mark moment : ℕ) → Ask → Done → Type 0
 IsLawfulDone answers share mark moment (Call (Change change)) (Outcome (Changed reply)) =
-    reply.status ≢ BAD_DATABASE → reply.status ≢ NOT_ENOUGH_MEMORY → IsLawfulReply answers share mark moment change reply
+    reply.status ≢ BAD_DATABASE → IsLawfulOrLacks answers share mark moment change reply
 IsLawfulDone answers share mark moment (Call (Query query)) (Outcome (Answered answer)) =
     answer.body ≢ Refused BAD_DATABASE → IsLawfulAnswer answers share mark query answer
 IsLawfulDone answers share mark moment TakeNotice (Notice notice) = Unit {0}

@@ -1,11 +1,15 @@
 -- What stands behind a hive's lock, and what sessions may be told there.
-use Rattle.std.specs.Prelude.{◌≡◌, ◌<◌, ◌≤◌, ℕ, List, [], length, slice_index_or}
+use Rattle.std.specs.Prelude.{◌≡◌, ◌<◌, ◌≤◌, ◌⊎◌, ℕ, List, [], None, length, slice_index_or}
+use Rattle.reg_model.specs.Callbacks.{change_status}
+use Rattle.reg_model.specs.Causes.{change_cause}
 use Rattle.reg_model.specs.Histories.{count_of}
+use Rattle.reg_model.specs.Replies.{refusal}
 use Rattle.reg_model.specs.declared.answer.Answer.{Answer}
 use Rattle.reg_model.specs.declared.call.Change.{Change}
 use Rattle.reg_model.specs.declared.call.Query.{Query}
 use Rattle.reg_model.specs.declared.limits.TheConstants.{SESSIONS_LIMIT}
 use Rattle.reg_model.specs.declared.reply.ChangeReply.{ChangeReply}
+use Rattle.reg_model.specs.declared.statuses.TheConstants.{NOT_ENOUGH_MEMORY}
 use Rattle.reg_journal.specs.Kept.{Seat, IsCurrent, row_of}
 use Rattle.reg_callbacks.specs.Asking.{Answers}
 use Rattle.reg_calls.specs.declared.hive.Hive.{Hive}
@@ -44,6 +48,18 @@ pub record IsLawfulReply {C : Type 0} (answers : C → Answers) (share : Seat) (
   pub new : View
   pub sight : IsInSight share mark hive
   pub applied : IsApplied (asks_of answers hive) (view_of hive) new share.session moment change reply
+
+-- some hive in sight, whose callbacks answer so, has no cause to refuse a change
+pub record IsUncaused {C : Type 0} (answers : C → Answers) (share : Seat) (mark moment : ℕ) (change : Change) : Type 0 where
+  pub hive : Hive C
+  pub sight : IsInSight share mark hive
+  pub uncaused : change_cause (state (view_of hive)) share.session change
+      (change_status (asks_of answers hive) (state (view_of hive)).world share.session moment change) ≡ None
+
+-- what a session may be told of a change: such a reply, or 8 where there may be no other cause
+abbrev pub IsLawfulOrLacks : {C : Type 0} → (C → Answers) → Seat → (mark moment : ℕ) → Change → ChangeReply → Type 0
+IsLawfulOrLacks answers share mark moment change reply =
+    IsLawfulReply answers share mark moment change reply ⊎ ((reply ≡ refusal NOT_ENOUGH_MEMORY) × IsUncaused answers share mark moment change)
 
 -- some hive in sight may answer so to a question, with how many entries it has had
 pub record IsLawfulAnswer {C : Type 0} (answers : C → Answers) (share : Seat) (mark : ℕ) (query : Query) (answer : Answer) : Type 0 where

@@ -6,7 +6,7 @@ ghost use Rattle.reg_model.specs.Replies.{refusal};
 ghost use Rattle.reg_model.specs.declared.limits.TheConstants.{JOURNAL_LIMIT};
 ghost use Rattle.reg_calls.specs.HiveView.{asks_of};
 ghost use Rattle.reg_calls.specs.Views.{View, next_of, IsAccepted};
-ghost use Rattle.reg_sessions.specs.Locked.{booked_of, IsAdmitted, IsLawfulReply, IsLawfulAnswer};
+ghost use Rattle.reg_sessions.specs.Locked.{booked_of, IsAdmitted, IsLawfulReply, IsLawfulOrLacks, IsLawfulAnswer};
 ghost use Rattle.reg_sessions.specs.Internal.Answered.{IsAnswered, IsCauseOf, IsAsked};
 ghost use Rattle.reg_sessions.specs.Internal.Moved.{AreMoved};
 
@@ -141,7 +141,7 @@ impl<C: Callback> Locked<C> {
     /// Answers a change for whose receipt there is no memory: 1009 as of `change`, else its first cause, or else 8. Takes no memory.
     pub(crate) fn lack(&self, share: &Share, mark: u64, moment: u64, change: &Change) -> ChangeReply
         ensures refused { result.status ≢ 0 }
-        ensures lawful { result.status ≢ BAD_DATABASE → result.status ≢ NOT_ENOUGH_MEMORY → IsLawfulReply C.answers share.now mark moment change.now result }
+        ensures lawful { result.status ≢ BAD_DATABASE → IsLawfulOrLacks C.answers share.now mark moment change.now result }
     {
         if self.is_behind(mark) {
             return refused(BAD_DATABASE);

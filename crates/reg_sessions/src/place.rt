@@ -1,8 +1,8 @@
 //! What a session has at one hive.
 ghost use Rattle.std.specs.Prelude.{◌≡◌, ◌≢◌, ◌+◌, ◌-◌, ◌^◌, ◌<◌, ◌≤◌, ◌==◌, [], ◌++◌, ℕ, length, max, Some, false, true, IfOk, OnOk, vec_len, vec_capacity};
 ghost use Rattle.reg_model.specs.declared.answer.AnswerBody.TheVariants.{Refused};
-ghost use Rattle.reg_model.specs.declared.statuses.TheConstants.{BAD_DATABASE, NOT_ENOUGH_MEMORY};
-ghost use Rattle.reg_sessions.specs.Locked.{IsLawfulReply, IsLawfulAnswer};
+ghost use Rattle.reg_model.specs.declared.statuses.TheConstants.{BAD_DATABASE};
+ghost use Rattle.reg_sessions.specs.Locked.{IsLawfulOrLacks, IsLawfulAnswer};
 ghost use Rattle.reg_sessions.specs.Sessions.{PlaceState, notice_of, receipt_of, mark_after, mark_told, seat_of, status_told, closes as closes_of};
 
 use crate::gate::HiveGate;
@@ -222,8 +222,8 @@ impl Place {
         ensures notices { (self.new.taken ≡ self.old.taken) × (self.new.popped ≡ self.old.popped) }
         ensures accepted { result.status ≡ 0 → (n : ℕ) × (result.number ≡ Some n) × (length self.old.receipts ≤ n) × (self.old.mark ≤ n) }
         ensures refused { result.status ≢ 0 → self.new ≡ self.old }
-        ensures lawful { result.status ≢ BAD_DATABASE → result.status ≢ NOT_ENOUGH_MEMORY →
-            IsLawfulReply C.answers (seat_of self.old) self.old.mark moment change.now result }
+        ensures lawful { result.status ≢ BAD_DATABASE →
+            IsLawfulOrLacks C.answers (seat_of self.old) self.old.mark moment change.now result }
     {
         let copies = prepared(
             alloc,

@@ -1,7 +1,7 @@
 ghost use Rattle.std.specs.Prelude.{◌≡◌, ◌≢◌, ◌<◌, ◌≤◌, ◌==◌, ℕ, [], ◌∷◌, ◌++◌, length, Some, OnErr, OnOk, if◌then◌else◌};
 ghost use Rattle.reg_model.specs.declared.answer.AnswerBody.TheVariants.{Refused};
-ghost use Rattle.reg_model.specs.declared.statuses.TheConstants.{BAD_DATABASE, NOT_ENOUGH_MEMORY};
-ghost use Rattle.reg_sessions.specs.Locked.{IsLawfulReply, IsLawfulAnswer};
+ghost use Rattle.reg_model.specs.declared.statuses.TheConstants.{BAD_DATABASE};
+ghost use Rattle.reg_sessions.specs.Locked.{IsLawfulOrLacks, IsLawfulAnswer};
 ghost use Rattle.reg_sessions.specs.Sessions.{SessionState, receipts_at, count_at, mark_at, seat_at, taken_at, popped_at, notice_of, receipt_of, mark_after, mark_told, status_told};
 
 use crate::gate::HiveGate;
@@ -114,8 +114,8 @@ impl Session {
         ensures kept { (self.new.number ≡ self.old.number) × (length self.new.places ≡ length self.old.places) }
         ensures refused { result.status ≢ 0 → self.new ≡ self.old }
         ensures later { result.status ≡ 0 → (n : ℕ) × (result.number ≡ Some n) × (length (receipts_at hive self.old) ≤ n) × (mark_at hive self.old ≤ n) }
-        ensures lawful { result.status ≢ BAD_DATABASE → result.status ≢ NOT_ENOUGH_MEMORY →
-            IsLawfulReply C.answers (seat_at hive self.old) (mark_at hive self.old) moment change.now result }
+        ensures lawful { result.status ≢ BAD_DATABASE →
+            IsLawfulOrLacks C.answers (seat_at hive self.old) (mark_at hive self.old) moment change.now result }
     {
         let lock = registry.lock(hive);
         let alloc = self.alloc;
