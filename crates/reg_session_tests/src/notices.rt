@@ -10,6 +10,9 @@ use std::sync::atomic::{AtomicBool, AtomicU64, Ordering};
 use std::test::Fail;
 use std::thread::Threads;
 
+/// How many watches end at once: more than a ring has room for.
+const WATCHES: usize = 70;
+
 /// A gate at which session 0 begins once session 1 is inside hive 0, and session 1 stays there until session 0 was answered twice by hive 1.
 #[derive(Drop)]
 struct Stay {
@@ -156,6 +159,63 @@ fn told<Rt: Threads + Wait + Sync>(rt: &Rt, alloc: Global) -> Result<String, Fai
     let sessions = sessions_of(alloc, jobs, &mut text)?;
     tell_gathered(registry, sessions, &mut text)?;
     Ok(text)
+}
+
+/// Takes all notices of hive 0 that have come, and counts them.
+fn taken(registry: &Registry, session: &mut Session) -> Result<usize, Fail> {
+    for count in 0..WATCHES {
+        if session.hives() == 0 {
+            return Err("there is no hive".into());
+        }
+        if session.take_notice(registry, 0).is_none() {
+            return Ok(count);
+        }
+    }
+    Ok(WATCHES)
+}
+
+/// More watches of the root end at once than a ring has room for; the notices are taken before a question, and after it.
+fn many<Rt: Wait>(
+    rt: &Rt,
+    alloc: Global,
+    registry: &Registry,
+    session: &mut Session,
+) -> Result<String, Fail> {
+    let handle = opened(rt, registry, session, 0)?;
+    let watch = Change::Notify {
+        handle,
+        filter: 4,
+        subtree: false,
+    };
+    for _watch in 0..WATCHES {
+        make(rt, registry, session, &watch)?;
+    }
+    make(rt, registry, session, &set_value(alloc, handle)?)?;
+    let before = taken(registry, session)?;
+    if registry.hives() == 0 || session.hives() == 0 {
+        return Err("there is no hive".into());
+    }
+    session.ask(rt, registry, &OpenGate, 0, &Query::QueryInfo { handle });
+    let after = taken(registry, session)?;
+    Ok(format!(in alloc; "{before} and {after}\n")?)
+}
+
+fn told_of_many<Rt: Wait>(rt: &Rt, alloc: Global) -> Result<String, Fail> {
+    let (registry, mut sessions) = start(alloc, fresh_hives(alloc, 1)?, 1)?;
+    let Some(session) = sessions.get_mut(0) else {
+        return Err("there is no session".into());
+    };
+    let mut text = many(rt, alloc, &registry, session)?;
+    tell_gathered(registry, sessions, &mut text)?;
+    Ok(text)
+}
+
+#[test]
+fn what_a_full_ring_kept_back_comes_by_the_next_question(rt: HostRuntime) -> Result<(), Fail> {
+    assert_report(
+        told_of_many(&rt, rt.alloc()),
+        "64 and 6\n72 entries\n",
+    )
 }
 
 #[test]
