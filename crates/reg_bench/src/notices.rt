@@ -9,13 +9,12 @@ use reg_model::Change;
 use reg_sessions::{HiveGate, Registry, Session};
 use reg_workload::PerCall;
 use std::alloc::Global;
-use std::hint;
 use std::rt::Clock;
 use std::sync::Wait;
 use std::sync::atomic::{AtomicBool, AtomicU64, Ordering};
-use std::thread;
 use std::thread::Threads;
 use std::time::{Duration, Instant};
+use std::{hint, thread};
 
 /// How often a notice is looked for, and how many go from thread to thread.
 const LOOKS: u32 = 1_000_000;
@@ -320,6 +319,9 @@ pub fn run<Rt: Print + Clock + Threads + Wait + Sync>(
     }
     println!(rt; "TakeNotice that finds none, 1: {alone} ns")?;
     println!(rt; "TakeNotice while the hive is locked, 1: {locked} ns")?;
-    println!(rt; "a notice on another thread, {notices}: {} ns", median(times)?)?;
+    println!(rt;
+        "a notice on another thread, {notices}: {} ns",
+        median(times)?
+    )?;
     Ok(())
 }

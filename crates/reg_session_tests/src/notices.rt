@@ -212,10 +212,7 @@ fn told_of_many<Rt: Wait>(rt: &Rt, alloc: Global) -> Result<String, Fail> {
 
 #[test]
 fn what_a_full_ring_kept_back_comes_by_the_next_question(rt: HostRuntime) -> Result<(), Fail> {
-    assert_report(
-        told_of_many(&rt, rt.alloc()),
-        "64 and 6\n72 entries\n",
-    )
+    assert_report(told_of_many(&rt, rt.alloc()), "64 and 6\n72 entries\n")
 }
 
 #[test]
