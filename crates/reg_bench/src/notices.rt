@@ -38,6 +38,7 @@ enum Part {
 }
 
 /// A session of a thread of its own, and what came of its part.
+#[derive(Drop)]
 struct Side {
     session: Session,
     handle: u64,
