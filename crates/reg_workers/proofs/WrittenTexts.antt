@@ -209,7 +209,7 @@ module _ (hives : ℕ) (lines : List (List ℕ)) (parts kept : List PartState) (
   }
   ends_so false booked h = record {
     hive = h.0;
-    is_hive = h.3.within;
+    is_hive = h.4.within;
     session = h.1;
     place = h.2;
     kept = h.3;

@@ -1,4 +1,4 @@
-use Rattle.std.proofs.Common.{◌≡◌, ◌≤◌, ◌∙◌, ℕ, Some, length, ap, subst, sym, arith}
+use Rattle.std.proofs.Common.{◌≡◌, ◌≤◌, ◌∙◌, Some, length, ap, subst, sym, arith}
 use Rattle.reg_calls.specs.HiveView.{view_of}
 use Rattle.reg_calls.specs.Views.{View, Booked, IsAccepted, next_of}
 use Rattle.reg_sessions.specs.Locked.{booked_of}
