@@ -105,7 +105,9 @@ pub fn tell_notice(
     let Some(session) = session else {
         return Err("there is no such session".into());
     };
-    assert_hive(registry, hive)?;
+    if hive as usize >= session.hives() {
+        return Err("there is no such hive".into());
+    }
     match session.take_notice(registry, hive) {
         Some(Notice { watch, by, .. }) => write!(text, "notice {watch} {by}\n")?,
         None => write!(text, "no notice\n")?,
