@@ -4,12 +4,14 @@
 //! `reg_bench measure SUBJECT` prints the mean time of a call for each row of a subject, beside the same calls on plain maps or on
 //! another hive, or of sessions on threads how many calls a second are answered, beside those of one session. The subjects are `arena`,
 //! `maps`, `sizes`, `watches`, `callbacks` and `sessions`. `reg_bench memory tree` makes a tree of 180,000 keys and prints how many bytes
-//! its bins have; `memory session` has a session make 1,000,000 changes, `memory hive` makes them without one. The system tells the
-//! process's memory. Without an argument everything is done with a few keys, and counts are printed alone, which are the same on every run.
+//! its bins have; `memory session` has a session make 1,000,000 changes, `memory hive` makes them without one. `memory cut` makes them and
+//! cuts the journal behind them, `memory rounds` makes 100 rounds of 200,000 with a checkpoint behind each. The system tells the process's
+//! memory. Without an argument everything is done with a few keys, and counts are printed alone, which are the same on every run.
 //!
 //! A row is a [`row::Row`]: a [`step::Step`] on the keys of a [`place::Place`], whose calls a [`stage::Stage`] answers. One loop times
 //! all of them. Whatever works on a hive is generic in a [`reg_fixtures::Registry`], which is checked without all that a hive is made
-//! of. Sessions have rows of their own: [`alone`] on this thread, [`crew`] on several, [`notices`] between two, [`receipts`] for memory.
+//! of. Sessions have rows of their own: [`alone`] on this thread, [`crew`] on several, [`notices`] between two, [`receipts`] for memory. So
+//! have hives whose journal begins anew: [`rounds`].
 #![tactic(auto)]
 
 mod act;
@@ -20,6 +22,7 @@ mod crew;
 mod notices;
 mod place;
 mod receipts;
+mod rounds;
 mod row;
 mod rows;
 mod stage;
@@ -45,6 +48,9 @@ const CALLBACKS: u32 = 64;
 
 /// How many changes are made whose memory is told.
 const CHANGES: u32 = 1_000_000;
+
+/// How many rounds of changes are made whose memory is told, and how many changes each has.
+const ROUNDS: (u32, u32) = (100, 200_000);
 
 /// Registers callbacks, each at an altitude of its own.
 fn register_all<C: Callback>(hive: &mut Hive<C>, callbacks: Vec<C>) -> Result<()> {
@@ -133,7 +139,9 @@ fn run_memory<H: Registry>(rt: &(impl Print + Wait), alloc: Global, what: &str) 
             receipts::fill_session(rt, alloc, CHANGES)
         }
         "hive" => receipts::fill_hive::<H>(rt, alloc, CHANGES),
-        _ => bail!("what has memory: tree, session, hive"),
+        "cut" => rounds::cut(rt, alloc, CHANGES),
+        "rounds" => rounds::check(rt, alloc, ROUNDS.0, ROUNDS.1),
+        _ => bail!("what has memory: tree, session, hive, cut, rounds"),
     }
 }
 
@@ -145,6 +153,8 @@ fn run_small<H: Registry>(
     cells::fill_tree(rt, alloc, 12)?;
     receipts::fill_session(rt, alloc, 12)?;
     receipts::fill_hive::<H>(rt, alloc, 12)?;
+    rounds::cut(rt, alloc, 12)?;
+    rounds::check(rt, alloc, 3, 12)?;
     for subject in SUBJECTS {
         run_subject::<H>(rt, alloc, subject, false)?;
     }

@@ -9,7 +9,7 @@ use Rattle.reg_model.specs.declared.notice.Notice.{Notice}
 use Rattle.reg_model.specs.declared.reply.Entry.{Entry}
 use Rattle.reg_notify.specs.Tables.{Table, told_to, taken_by}
 use Rattle.reg_calls.specs.declared.store.Store.{Store}
-use Rattle.reg_calls.specs.Views.{HiveInvariant, View, view_with, IsHive, IsNoticeTaken}
+use Rattle.reg_calls.specs.Views.{HiveInvariant, View, before_of, view_with, IsHive, IsNoticeTaken}
 
 -- one more is taken only where there is one
 taken-within : (told : List Notice) (taken : ℕ) (o : Option Notice) → o ≡ slice_get told taken → taken ≤ length told →
@@ -26,7 +26,7 @@ module _ {origin : Tree} {base : ℕ} {before : List (List Notice)} {es : List E
 
   -- all that a session was told
   abbrev all_told : ℕ → List Notice
-  all_told s = slice_index_or before s [] ++ fired origin es s
+  all_told s = slice_index_or (before_of base before) s [] ++ fired origin es s
 
   due : notice ≡ slice_get (all_told session) (taken_by store.watches session)
   due = is ∙ ap (λ (all : List Notice). slice_get all (taken_by store.watches session)) (kept.hive.told session)

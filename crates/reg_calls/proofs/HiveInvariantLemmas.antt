@@ -33,7 +33,7 @@ use Rattle.reg_calls.specs.Internal.Stores.{at, world_of, IsReady, IsCarriedOut,
 use Rattle.reg_calls.specs.declared.lack.Lack.{Lack}
 use Rattle.reg_calls.proofs.KnownKeys.{unmade}
 use Rattle.reg_calls.specs.Shortages.{is_closing, growth_of}
-use Rattle.reg_calls.specs.Views.{HiveInvariant, View, view_with, state, IsHive, IsAccepted, IsAppliedBy, IsApplied}
+use Rattle.reg_calls.specs.Views.{HiveInvariant, View, view_with, state, IsHive, IsAccepted, IsAppliedBy, IsApplied, before_of}
 
 -- where a journal ends
 abbrev pub ends_at : ℕ → List Entry → JournalEnd
@@ -157,8 +157,8 @@ sessions-push [] e b l = (l, tt)
 sessions-push (x ∷ es) e b l = (b.0, sessions-push es e b.1 l)
 
 -- what a session was told before the journal began
-abbrev told_before : List (List Notice) → ℕ → List Notice
-told_before before s = slice_index_or before s []
+abbrev told_before : ℕ → List (List Notice) → ℕ → List Notice
+told_before base before s = slice_index_or (before_of base before) s []
 
 -- the entry that an accepted change becomes
 abbrev pub entry_with : ℕ → List Entry → ℕ → ℕ → Change → ChangeReply → Entry
@@ -194,19 +194,19 @@ module _ {origin : Tree} {base : ℕ} {before : List (List Notice)} {es : List E
       ∙ ((λ i. pending_past (few_ending (world-kept kept i) (sym due i)) (watch_of (world-kept kept i) (sym due i)) (kept.hive.pending i))
       ∙ sym (few-pending base origin es e kept.hive.origin kept.hive.legal fit-done))
 
-  told-done : (s : ℕ) → told_to new.watches s ≡ told_before before s ++ fired origin (es ++ e ∷ []) s
+  told-done : (s : ℕ) → told_to new.watches s ≡ told_before base before s ++ fired origin (es ++ e ∷ []) s
   told-done s =
       done.watches.told s
       ∙ ((λ i. kept.hive.told s i ++ notices s (few_ending (world-kept kept i) (sym due i)) (kept.hive.pending i))
-      ∙ (append_assoc (told_before before s) (fired origin es s) (notices s (few_ending (replay origin es) e) (pending origin es))
-      ∙ ap (λ (ns : List Notice). told_before before s ++ ns) (sym (few-fired base origin es e s kept.hive.origin kept.hive.legal fit-done))))
+      ∙ (append_assoc (told_before base before s) (fired origin es s) (notices s (few_ending (replay origin es) e) (pending origin es))
+      ∙ ap (λ (ns : List Notice). told_before base before s ++ ns) (sym (few-fired base origin es e s kept.hive.origin kept.hive.legal fit-done))))
 
-  taken-done : (s : ℕ) → taken_by new.watches s ≤ length (told_before before s ++ fired origin (es ++ e ∷ []) s)
+  taken-done : (s : ℕ) → taken_by new.watches s ≤ length (told_before base before s ++ fired origin (es ++ e ∷ []) s)
   taken-done s =
       let same = ap (λ (taken : List ℕ). get_or taken s 0) done.watches.taken in
       let most = kept.hive.taken s in
-      let was = length-append (told_before before s) (fired origin es s) in
-      let now = length-append (told_before before s) (fired origin (es ++ e ∷ []) s) in
+      let was = length-append (told_before base before s) (fired origin es s) in
+      let now = length-append (told_before base before s) (fired origin (es ++ e ∷ []) s) in
       let more = ap (λ (told : List Notice). length told) (fired-push origin es e s) in
       let both = length-append (fired origin es s) (notices s (ending (replay origin es) e) (pending origin es)) in
       omega (arith, same, most, was, now, more, both)
@@ -261,7 +261,7 @@ module _ {origin : Tree} {base : ℕ} {before : List (List Notice)} {es : List E
 -- a change that isn't made leaves the hive, save that more room may be kept
 pub view-unchanged : {store new : Store} (origin : Tree) (base : ℕ) (before : List (List Notice)) (es : List Entry) → IsUnchanged store new →
     view_with origin base before es new ≡ view_with origin base before es store
-view-unchanged origin base before es u = λ i. record { origin = origin; base = base; before = before; journal = es; keys = u.tree i; handles = u.handles i; watches = u.watches i }
+view-unchanged origin base before es u = λ i. record { origin = origin; base = base; before = before_of base before; journal = es; keys = u.tree i; handles = u.handles i; watches = u.watches i }
 
 pub kept-unchanged : {origin : Tree} {base : ℕ} {before : List (List Notice)} {es : List Entry} {store : Store} {room : ℕ} → HiveInvariant origin base before es store room → (new : Store) (room' : ℕ) →
     IsUnchanged store new → room ≤ room' → HiveInvariant origin base before es new room'
@@ -280,6 +280,12 @@ kept-at {origin = origin} {before = before} {es = es} {store = store} {room = ro
 pub view-at : (origin : Tree) (before : List (List Notice)) (store : Store) {base base' : ℕ} {es es' : List Entry} → base' ≡ base → es' ≡ es →
     view_with origin base' before es' store ≡ view_with origin base before es store
 view-at origin before store same_base same = λ i. view_with origin (same_base i) before (same i) store
+
+-- where the journal begins with the first entry of all, nobody was told anything before it
+pub began-at : (origin : Tree) (base : ℕ) (before : List (List Notice)) (es : List Entry) (store : Store) (v : View) → view_with origin base before es store ≡ v →
+    v.base ≡ 0 → (s : ℕ) → slice_index_or v.before s [] ≡ []
+began-at origin base before es store v is first s =
+    subst (λ (w : View). w.base ≡ 0 → slice_index_or w.before s [] ≡ []) is (λ z. ap (λ (n : ℕ). slice_index_or (before_of n before) s []) z) first
 
 -- room is kept for more
 pub kept-roomier : {origin : Tree} {base : ℕ} {before : List (List Notice)} {es : List Entry} {store : Store} {room : ℕ} → HiveInvariant origin base before es store room →
@@ -300,7 +306,7 @@ kept-unmade kept new base' es' room' session moment n change lack made same_base
 -- a change that was made is accepted
 pub accepted : {origin : Tree} {base : ℕ} {before : List (List Notice)} {es : List Entry} {store : Store} {room : ℕ} (kept : HiveInvariant origin base before es store room) (v new : View) →
     view_with origin base before es store ≡ v → (session moment : ℕ) (change : Change) (told : ChangeReply) →
-    told ≡ reply_to (at (ends_at base es) store) session change → new.journal ≡ es ++ entry_with base es session moment change told ∷ [] → new.origin ≡ origin → new.base ≡ base → new.before ≡ before →
+    told ≡ reply_to (at (ends_at base es) store) session change → new.journal ≡ es ++ entry_with base es session moment change told ∷ [] → new.origin ≡ origin → new.base ≡ base → new.before ≡ before_of base before →
     new.watches.taken ≡ store.watches.taken → (changes_keys change told ≡ false → new.keys ≡ store.tree) →
     length store.tree.bins.bytes ≤ length new.keys.bins.bytes →
     length new.keys.bins.bytes ≤ length store.tree.bins.bytes + growth_of change → IsHive new → IsAccepted v new session moment change told

@@ -22,3 +22,4 @@ pub mod HandlesLead
 pub mod SharesOfHives
 pub mod LargestNumbers
 pub mod ToldNotices
+pub mod CutJournals

@@ -4,3 +4,4 @@ pub mod Views
 pub mod HiveView
 pub mod Runs
 pub mod Seats
+pub mod Cuts

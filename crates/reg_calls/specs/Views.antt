@@ -1,5 +1,5 @@
 -- What callers see of a hive, and what is true of every hive.
-use Rattle.std.specs.Prelude.{◌≡◌, ◌≢◌, ℕ, ◌+◌, ◌<◌, ◌≤◌, ◌==◌, ◌&&◌, List, [], ◌∷◌, ◌++◌, length, slice_get, slice_index_or, if◌then◌else◌}
+use Rattle.std.specs.Prelude.{◌≡◌, ◌≢◌, ℕ, ◌+◌, ◌<◌, ◌≤◌, ◌==◌, ◌&&◌, List, [], ◌∷◌, ◌++◌, length, slice_get, slice_index_or, if◌then◌else◌, zero, suc}
 use Rattle.std.specs.Prelude.{Option, Some, None, is_some, false, ◌⊎◌, refl}
 use Rattle.std.specs.List.{AllByRecursion}
 use Rattle.std.specs.Coded.{Coded, code_by, coded×, coded_list, coded_ℕ}
@@ -89,12 +89,17 @@ pub record IsHive (v : View) : Type 0 where
   pub sound : IsSound v.keys.bins.bytes v.keys.bins.heads
   pub whole : IsWholeTree v.keys.bins.bytes v.keys.root v.keys.tree
 
+-- what each session was told before a journal: nothing, where that begins with the first entry of all; else what the watches then had
+abbrev pub before_of : ℕ → List (List Notice) → List (List Notice)
+before_of zero told = []
+before_of (suc base) told = told
+
 -- the view of a hive's parts
 abbrev pub view_with : Tree → ℕ → List (List Notice) → List Entry → Store → View
-view_with origin base before journal store = record {
+view_with origin base told journal store = record {
   origin = origin;
   base = base;
-  before = before;
+  before = before_of base told;
   journal = journal;
   keys = store.tree;
   handles = store.handles.handles;
@@ -110,9 +115,10 @@ abbrev pub coded_booked : Coded Booked
 coded_booked =
     code_by (View × List ℕ) (coded× coded_view (coded_list coded_ℕ)) (λ b. (b.view, b.noted)) (λ p. record { view = p.0; noted = p.1 }) (λ _. refl)
 
--- what is true of a hive's parts: they are a hive; room is kept for the closing of each open handle; and each node that is kept is that of its key
-pub record HiveInvariant (origin : Tree) (base : ℕ) (before : List (List Notice)) (journal : List Entry) (store : Store) (room : ℕ) : Type 0 where
-  pub hive : IsHive (view_with origin base before journal store)
+-- what is true of a hive's parts: they are a hive; room is kept for the closing of each open handle; and each node that is kept is that of
+-- its key
+pub record HiveInvariant (origin : Tree) (base : ℕ) (told : List (List Notice)) (journal : List Entry) (store : Store) (room : ℕ) : Type 0 where
+  pub hive : IsHive (view_with origin base told journal store)
   pub room_kept : length store.handles.handles ≤ room
   pub known : KnowsKeys store
 

@@ -1,9 +1,9 @@
 ghost use Rattle.std.specs.Prelude.{◌≡◌, ◌≢◌, ◌<◌, ◌≤◌, ◌↔◌, ◌⊎◌, ◌+◌, ◌-◌, [], Some, None, true, false, length, map, nat_lt, replicate, slice_get, option_copied, ℕ, if◌then◌else◌};
-ghost use Rattle.std.specs.Prelude.{IfOk, IfErr, IfNone, IfSome, OnErr, OnOk, IsErrOf, IsTrue};
+ghost use Rattle.std.specs.Prelude.{IfOk, IfErr, IfNone, OnErr, OnOk, IsErrOf, IsTrue, slice_index, slice_index_or};
 ghost use Rattle.std.specs.List.{range_with_len};
 ghost use Rattle.std.specs.FinMap.{insert, empty};
 ghost use Rattle.reg_names.specs.Names.{is_key_name};
-ghost use Rattle.reg_model.specs.declared.limits.TheConstants.{SESSIONS_LIMIT};
+ghost use Rattle.reg_model.specs.declared.limits.TheConstants.{NUMBERS_LIMIT, SESSIONS_LIMIT};
 ghost use Rattle.reg_arena.specs.Arena.{IsSound};
 ghost use Rattle.reg_model.specs.declared.statuses.TheConstants.{BAD_DATABASE};
 ghost use Rattle.reg_model.specs.declared.answer.AnswerBody.TheVariants.{Refused};
@@ -11,15 +11,17 @@ ghost use Rattle.reg_model.specs.Callbacks.{change_status};
 ghost use Rattle.reg_model.specs.Causes.{change_cause};
 ghost use Rattle.reg_model.specs.Histories.{IsLegal, count_of, replay, pending};
 ghost use Rattle.reg_model.specs.Replies.{refusal};
-ghost use Rattle.reg_journal.specs.Kept.{IsCurrent, row_of, seat};
+ghost use Rattle.reg_journal.specs.Kept.{Seat, IsCurrent, row_of, seat, total_of};
 ghost use Rattle.reg_tree.specs.TreeKeys.{made_root, IsWholeTree};
 ghost use Rattle.reg_tree.specs.NewHive.{IsNewHive};
 ghost use Rattle.reg_notify.specs.Tables.{told_to, taken_by};
 ghost use Rattle.reg_callbacks.specs.declared.callbacks.TheConstants.{REGISTRATIONS_LIMIT};
 ghost use Rattle.reg_callbacks.specs.Rows.{is_falling, is_among, IsOneMore};
 ghost use Rattle.reg_callbacks.specs.Lists.{rows_of, altitudes_of, cookies_of, made_of};
+ghost use Rattle.reg_calls.specs.Cuts.{fault_of_cut, IsCut};
 ghost use Rattle.reg_calls.specs.Views.{next_of, state, told_in, IsApplied, IsRead, IsHive, IsNoticeTaken};
 
+use crate::cut::CutFault;
 use crate::hive_core::{Core, refuse};
 use reg_arena::Arena;
 use reg_callbacks::{Callback, CallbackFault, Callbacks, Cookie};
@@ -137,13 +139,15 @@ impl<C: Callback> Hive<C> {
         }
     }
 
-    /// How many changes the hive accepted: the number of the next entry. The first has the number 0, and before it no session was told
-    /// anything (clauses `base`, `before`). Those of the journal are legal: each was accepted after those before it (clause `legal`);
-    /// and all else that is true of every hive is so of this one (clause `hive`).
+    /// How many changes the hive accepted, those that were cut among them: the number of the next entry. The rows of all sessions together
+    /// are as many (clause `rows`). The journal begins with a number of at most 10^18 (clause `first`), and where that is 0 no session was
+    /// told anything before (clause `began`). Its entries are legal: each was accepted after those before it (clause `legal`); and all else
+    /// that is true of every hive is so of this one (clause `hive`).
     pub fn len(&self) -> usize
         ensures len { result ≡ next_of (view_of self.now) }
-        ensures base { (view_of self.now).base ≡ 0 }
-        ensures before { (view_of self.now).before ≡ [] }
+        ensures first { (view_of self.now).base ≤ NUMBERS_LIMIT }
+        ensures rows { next_of (view_of self.now) ≡ total_of (noted_of self.now) (view_of self.now).journal }
+        ensures began { (view_of self.now).base ≡ 0 → (s : ℕ) → slice_index_or (view_of self.now).before s [] ≡ [] }
         ensures legal { IsLegal (view_of self.now).base (view_of self.now).origin (view_of self.now).journal }
         ensures hive { IsHive (view_of self.now) }
     {
@@ -200,12 +204,49 @@ impl<C: Callback> Hive<C> {
         self.core.take_notice(session)
     }
 
-    /// The entry of that number, counted from 0; `None` where the journal keeps none of it.
+    /// The entry of that number, where the hive's first one of all has 0; `None` where the journal doesn't keep it: it was cut, or there was
+    /// none yet.
     pub fn entry(&self, number: usize) -> Option<&Entry>
         ensures { option_copied result ≡ (if nat_lt number (view_of self.now).base then None else
             slice_get (view_of self.now).journal (number - (view_of self.now).base)) }
     {
         self.core.entry(number)
+    }
+
+    /// The entries that the journal keeps, in order.
+    pub fn entries(&self) -> &[Entry]
+        ensures { result.now ≡ (view_of self.now).journal }
+    {
+        self.core.entries()
+    }
+
+    /// Why the journal can't begin anew, if something stands against it: `HandlesOpen` where handles are open, with how many; else `Numbers`
+    /// where the hive has had more than 10^18 entries.
+    pub fn cut_fault(&self) -> Option<CutFault>
+        ensures { result ≡ fault_of_cut (view_of self.now) }
+    {
+        self.core.cut_fault()
+    }
+
+    /// Has the journal begin anew, and answers how many entries were cut: the tree as it stands becomes its origin, and the numbers go on.
+    /// All that a session was told before stays told, so that a notice that wasn't handed out yet still is. Keys, watches and callbacks are
+    /// as they were, and so are the rows of the book: a share whose count is its row is of use as before (clause `current`). No watch is
+    /// pending then (clause `cut`). The fault is that of [`Hive::cut_fault`] (clauses `fault` and `clear`); then nothing changed. Takes
+    /// no memory.
+    pub fn cut(&mut self) -> Result<u64, CutFault>
+        ensures count { IfOk result (λ count. count ≡ length (view_of self.old).journal) }
+        ensures cut { OnOk result (IsCut (view_of self.old) (view_of self.new)) }
+        ensures seats { length (noted_of self.new) ≡ length (noted_of self.old) }
+        ensures noted { OnOk result ((session : ℕ) →
+            slice_index (noted_of self.new) session ≡ row_of (noted_of self.old) (view_of self.old).journal session) }
+        ensures current { (share : Seat) → IsCurrent (noted_of self.old) (view_of self.old).journal share →
+            IsCurrent (noted_of self.new) (view_of self.new).journal share }
+        ensures callbacks { callbacks_of self.new ≡ callbacks_of self.old }
+        ensures clear { OnOk result (fault_of_cut (view_of self.old) ≡ None) }
+        ensures fault { IfErr result (λ fault. fault_of_cut (view_of self.old) ≡ Some fault) }
+        ensures err { OnErr result (self.new ≡ self.old) }
+    {
+        self.core.cut()
     }
 
     /// The hive's bytes: its bins with all their cells, to be read byte by byte.
@@ -238,6 +279,7 @@ impl<C: Callback> Hive<C> {
         ensures view { view_of self.new ≡ view_of self.old }
         ensures shares { IfOk result (λ shares. shares.items ≡ map (λ s. seat s 0) (range_with_len 0 n)) }
         ensures seated { OnOk result (noted_of self.new ≡ replicate n 0) }
+        ensures never { OnOk result ((view_of self.old).base ≡ 0) }
         ensures first { OnOk result ((view_of self.old).journal ≡ []) }
         ensures err { OnErr result (self.new ≡ self.old) }
         ensures again { IsErrOf result SeatFault.Seated ↔ (noted_of self.old ≢ []) }
@@ -246,12 +288,11 @@ impl<C: Callback> Hive<C> {
         self.core.seat(n)
     }
 
-    /// How many changes of a session were accepted: its row in the journal's book, which is the number of its entries (clause `kept`).
-    /// `None` where it has no seat, and then none was (clause `unseated`).
+    /// How many changes of a session were accepted: its row in the journal's book, in which those that were cut are counted too. `None`
+    /// where it has no seat, and then none was (clause `unseated`).
     pub fn row(&self, session: u8) -> Option<u64>
         ensures row { result ≡
             (if nat_lt session (length (noted_of self.now)) then Some (row_of (noted_of self.now) (view_of self.now).journal session) else None) }
-        ensures kept { IfSome result (λ row. row ≡ count_of session (view_of self.now).journal) }
         ensures unseated { IfNone result (count_of session (view_of self.now).journal ≡ 0) }
     {
         self.core.row(session)

@@ -1,26 +1,29 @@
 //! A hive without its callbacks.
-ghost use Rattle.std.specs.Prelude.{ℕ, ◌≡◌, ◌≢◌, ◌<◌, ◌≤◌, ◌↔◌, ◌⊎◌, [], Some, None, length, map, nat_lt, replicate, slice_get, option_copied, ◌+◌, ◌-◌, false, if◌then◌else◌, IfNone, IfOk, IfSome, IsErrOf, IsTrue, OnOk, OnErr};
+ghost use Rattle.std.specs.Prelude.{ℕ, ◌≡◌, ◌≢◌, ◌<◌, ◌≤◌, ◌↔◌, ◌⊎◌, [], Some, None, length, map, nat_lt, replicate, slice_get, option_copied, ◌+◌, ◌-◌, false, if◌then◌else◌, slice_index, slice_index_or, IfErr, IfNone, IfOk, IsErrOf, IsTrue, OnOk, OnErr};
 ghost use Rattle.std.specs.List.{range_with_len};
 ghost use Rattle.reg_heap.specs.Trees.{IsTree, IsWithinLimits};
 ghost use Rattle.reg_arena.specs.Arena.{IsSound};
-ghost use Rattle.reg_model.specs.declared.limits.TheConstants.{JOURNAL_LIMIT, SESSIONS_LIMIT};
+ghost use Rattle.reg_model.specs.declared.limits.TheConstants.{JOURNAL_LIMIT, NUMBERS_LIMIT, SESSIONS_LIMIT};
 ghost use Rattle.reg_model.specs.Causes.{change_cause};
 ghost use Rattle.reg_model.specs.Callbacks.{change_status};
 ghost use Rattle.reg_model.specs.Histories.{count_of};
 ghost use Rattle.reg_model.specs.Replies.{refusal};
 ghost use Rattle.reg_tree.specs.TreeKeys.{IsWholeTree};
-ghost use Rattle.reg_journal.specs.Kept.{IsCurrent, row_of, seat};
+ghost use Rattle.reg_journal.specs.Kept.{Seat, IsCurrent, row_of, seat, total_of};
 ghost use Rattle.reg_callbacks.specs.Asking.{asks};
 ghost use Rattle.reg_callbacks.specs.Lists.{answers_of};
 ghost use Rattle.reg_calls.specs.Shortages.{is_closing};
+ghost use Rattle.reg_calls.specs.Cuts.{fault_of_cut, IsCut};
 ghost use Rattle.reg_calls.specs.Views.{next_of, state, told_in, IsApplied, IsRead, IsHive, IsNoticeTaken};
 
+use crate::cut::CutFault;
 use crate::quiet::Quiet;
 use crate::store::{JournalEnd, Store};
 use reg_arena::Arena;
 use reg_callbacks::{Callback, Callbacks};
 use reg_handles::Handles;
 use reg_journal::{Journal, SeatFault, Share};
+use reg_model::limits::NUMBERS_LIMIT;
 use reg_model::statuses::NOT_ENOUGH_MEMORY;
 use reg_model::{Answer, Change, ChangeReply, Entry, Notice, Query};
 use reg_notify::Watches;
@@ -34,13 +37,15 @@ use std::snapshot::Snapshot;
 pub struct Core {
     alloc: Global,
     origin: Snapshot<Tree>,
+    /// The watches as they were when the journal began: what each session was told before it.
+    told: Snapshot<Watches>,
     store: Store,
     journal: Journal,
     quiet: Quiet,
 }
 
 impl Model for Core {
-    ghost use Rattle.std.specs.Prelude.{◌≡◌, ◌+◌, [], length, vec_len};
+    ghost use Rattle.std.specs.Prelude.{◌≡◌, ◌+◌, length, vec_len};
     ghost use Rattle.reg_calls.specs.declared.quiet.TheConstants.{REMEMBERED};
     ghost use Rattle.reg_calls.specs.Internal.QuietKeys.{AreUnhit};
     ghost use Rattle.reg_calls.specs.Views.{Booked, HiveInvariant, coded_booked, view_with};
@@ -50,12 +55,12 @@ impl Model for Core {
     ghost coded = { coded_booked };
 
     ghost view = { λ h. record {
-      view = view_with h.origin.value.tree h.journal.base [] h.journal.entries h.store;
+      view = view_with h.origin.value.tree h.journal.base h.told.value.told h.journal.entries h.store;
       noted = h.journal.noted;
     } };
 
     ghost invariant = { λ h. (vec_len h.quiet.rows ≡ REMEMBERED) × AreUnhit (h.journal.base + length h.journal.entries) h.store h.quiet
-        × HiveInvariant h.origin.value.tree h.journal.base [] h.journal.entries h.store h.journal.room };
+        × HiveInvariant h.origin.value.tree h.journal.base h.told.value.told h.journal.entries h.store h.journal.room };
 }
 
 /// The reply of a refusal.
@@ -104,6 +109,16 @@ fn keep_room(journal: &mut Journal, handles: usize, change: &Change) -> Result<(
     journal.reserve(handles + 2)
 }
 
+/// Why the journal can't begin anew where so many handles are open.
+fn handles_open(count: usize) -> CutFault
+    requires { count ≤ JOURNAL_LIMIT }
+    ensures { result ≡ CutFault.HandlesOpen count }
+{
+    CutFault::HandlesOpen {
+        count: count as u32,
+    }
+}
+
 /// Where a journal ends.
 fn end_of(journal: &Journal) -> JournalEnd
     ensures kept { result.kept ≡ length journal.now.entries }
@@ -140,10 +155,12 @@ impl Core {
         let _ = tree.arena();
         let origin = Snapshot::of(&tree);
         let watches = Watches::new(alloc)?;
+        let told = Snapshot::of(&watches);
         let quiet = Quiet::new(alloc)?;
         Ok(Core {
             alloc,
             origin,
+            told,
             store: Store {
                 tree,
                 handles: Handles::new(alloc),
@@ -159,11 +176,12 @@ impl Core {
         self.alloc
     }
 
-    /// How many entries the hive has had: the number of the next one.
+    /// How many entries the hive has had: the number of the next one. The rows of all sessions together are as many (clause `rows`).
     pub fn len(&self) -> usize
         ensures len { result ≡ next_of self.now.view }
-        ensures base { self.now.view.base ≡ 0 }
-        ensures before { self.now.view.before ≡ [] }
+        ensures first { self.now.view.base ≤ NUMBERS_LIMIT }
+        ensures rows { next_of self.now.view ≡ total_of self.now.noted self.now.view.journal }
+        ensures began { self.now.view.base ≡ 0 → (s : ℕ) → slice_index_or self.now.view.before s [] ≡ [] }
         ensures legal { IsLegal self.now.view.base self.now.view.origin self.now.view.journal }
         ensures hive { IsHive self.now.view }
     {
@@ -216,12 +234,55 @@ impl Core {
         self.store.watches.take(session)
     }
 
+    /// Why the journal can't begin anew, if something stands against it.
+    pub fn cut_fault(&self) -> Option<CutFault>
+        ensures { result ≡ fault_of_cut self.now.view }
+    {
+        let open = self.store.handles.len();
+        if open > 0 {
+            return Some(handles_open(open));
+        }
+        if self.journal.len() as u64 > NUMBERS_LIMIT {
+            return Some(CutFault::Numbers);
+        }
+        None
+    }
+
+    /// Has the journal begin anew with the tree as it stands. Answers how many entries were cut.
+    pub fn cut(&mut self) -> Result<u64, CutFault>
+        ensures count { IfOk result (λ count. count ≡ length self.old.view.journal) }
+        ensures cut { OnOk result (IsCut self.old.view self.new.view) }
+        ensures seats { length self.new.noted ≡ length self.old.noted }
+        ensures noted { OnOk result ((session : ℕ) → slice_index self.new.noted session ≡ row_of self.old.noted self.old.view.journal session) }
+        ensures current { (share : Seat) → IsCurrent self.old.noted self.old.view.journal share → IsCurrent self.new.noted self.new.view.journal share }
+        ensures clear { OnOk result (fault_of_cut self.old.view ≡ None) }
+        ensures fault { IfErr result (λ fault. fault_of_cut self.old.view ≡ Some fault) }
+        ensures err { OnErr result (self.new ≡ self.old) }
+    {
+        match self.cut_fault() {
+            Some(fault) => return Err(fault),
+            None => {}
+        }
+        // Only for its clauses: what is true of every tree's keys.
+        let _ = self.store.tree.root();
+        self.origin = Snapshot::of(&self.store.tree);
+        self.told = Snapshot::of(&self.store.watches);
+        Ok(self.journal.cut() as u64)
+    }
+
     /// The journal's entry of that number, if it keeps one.
     pub fn entry(&self, number: usize) -> Option<&Entry>
         ensures { option_copied result ≡
             (if nat_lt number self.now.view.base then None else slice_get self.now.view.journal (number - self.now.view.base)) }
     {
         self.journal.entry(number)
+    }
+
+    /// The journal's entries that are kept, in order.
+    pub fn entries(&self) -> &[Entry]
+        ensures { result.now ≡ self.now.view.journal }
+    {
+        self.journal.entries()
     }
 
     /// The bins with their cells: whole, and spelling the tree of the journal's replay.
@@ -247,6 +308,7 @@ impl Core {
         ensures shares { IfOk result (λ shares. shares.items ≡ map (λ s. seat s 0) (range_with_len 0 n)) }
         ensures seated { OnOk result (self.new.noted ≡ replicate n 0) }
         ensures view { self.new.view ≡ self.old.view }
+        ensures never { OnOk result (self.old.view.base ≡ 0) }
         ensures first { OnOk result (self.old.view.journal ≡ []) }
         ensures err { OnErr result (self.new ≡ self.old) }
         ensures again { IsErrOf result SeatFault.Seated ↔ (self.old.noted ≢ []) }
@@ -258,7 +320,6 @@ impl Core {
     /// How many entries a session has had; `None` where it has no seat.
     pub fn row(&self, session: u8) -> Option<u64>
         ensures row { result ≡ (if nat_lt session (length self.now.noted) then Some (row_of self.now.noted self.now.view.journal session) else None) }
-        ensures kept { IfSome result (λ row. row ≡ count_of session self.now.view.journal) }
         ensures unseated { IfNone result (count_of session self.now.view.journal ≡ 0) }
     {
         self.journal.row(session)

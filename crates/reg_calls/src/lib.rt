@@ -3,7 +3,11 @@
 //! Its one contract: a change is refused exactly by the rules and then changes nothing, or is told what is due and is one entry of
 //! the journal more; tree, handles and pending watches are the journal's replay, the bytes spell that tree, and each session is handed
 //! just the notices that the journal tells it. It stands on reg_tree, reg_handles, reg_notify, reg_journal, reg_callbacks and
-//! reg_model. Its types are [`Hive`] and, with the shares of all sessions, [`SeatedHive`]; its faults are [`NewFault`] and [`RunFault`].
+//! reg_model. Its types are [`Hive`] and, with the shares of all sessions, [`SeatedHive`]; its faults are [`NewFault`], [`RunFault`] and
+//! [`CutFault`].
+//!
+//! Where no handle is open, the journal can begin anew ([`Hive::cut`]): the tree as it stands is then its origin, the numbers go on, and
+//! what was told stays told.
 //!
 //! A session calls by its share ([`Hive::seat`]). 1009 comes before all else, where the share's session has no seat or the share's count
 //! isn't its row in the journal's book.
@@ -51,6 +55,7 @@ mod cause;
 mod changes;
 mod close;
 mod create_key;
+mod cut;
 mod delete_key;
 mod delete_tree;
 mod delete_value;
@@ -75,5 +80,6 @@ mod set_security;
 mod set_value;
 mod store;
 
+pub use cut::CutFault;
 pub use hive::{Hive, NewFault, RunFault};
 pub use seated::{SeatedHive, apply_by, read_by};

@@ -1,12 +1,15 @@
 //! A hive with the shares of all its sessions, for those who call it by a session's number.
-ghost use Rattle.std.specs.Prelude.{◌≡◌, ◌≢◌, ◌⊎◌, ◌↔◌, ◌<◌, ◌-◌, [], true, replicate, IfErr, IfOk, IsErrOf};
+ghost use Rattle.std.specs.Prelude.{◌≡◌, ◌≢◌, ◌⊎◌, ◌↔◌, ◌<◌, ◌-◌, [], ℕ, true, length, replicate, slice_index, IfErr, IfOk, IsErrOf, OnErr, OnOk, None, Some};
 ghost use Rattle.reg_model.specs.declared.limits.TheConstants.{SESSIONS_LIMIT};
 ghost use Rattle.reg_callbacks.specs.Rows.{is_falling};
 ghost use Rattle.reg_callbacks.specs.Lists.{altitudes_of};
 ghost use Rattle.reg_calls.specs.HiveView.{view_of, noted_of, callbacks_of, asks_of};
+ghost use Rattle.reg_journal.specs.Kept.{row_of};
+ghost use Rattle.reg_calls.specs.Cuts.{fault_of_cut, IsCut};
 ghost use Rattle.reg_calls.specs.Views.{next_of, state, IsApplied, IsNoticeTaken, IsRead};
 ghost use Rattle.reg_calls.specs.Seats.{AreSeated};
 
+use crate::cut::CutFault;
 use crate::hive::Hive;
 use reg_callbacks::Callback;
 use reg_journal::{SeatFault, Share};
@@ -99,5 +102,20 @@ impl<C: Callback> SeatedHive<C> {
         ensures callbacks { callbacks_of self.new.hive ≡ callbacks_of self.old.hive }
     {
         self.hive.take_notice(session)
+    }
+
+    /// Has the journal begin anew, as [`Hive::cut`] does. Each session's share stays current.
+    pub fn cut(&mut self) -> Result<u64, CutFault>
+        ensures count { IfOk result (λ count. count ≡ length (view_of self.old.hive).journal) }
+        ensures cut { OnOk result (IsCut (view_of self.old.hive) (view_of self.new.hive)) }
+        ensures seats { length (noted_of self.new.hive) ≡ length (noted_of self.old.hive) }
+        ensures noted { OnOk result ((session : ℕ) →
+            slice_index (noted_of self.new.hive) session ≡ row_of (noted_of self.old.hive) (view_of self.old.hive).journal session) }
+        ensures callbacks { callbacks_of self.new.hive ≡ callbacks_of self.old.hive }
+        ensures clear { OnOk result (fault_of_cut (view_of self.old.hive) ≡ None) }
+        ensures fault { IfErr result (λ fault. fault_of_cut (view_of self.old.hive) ≡ Some fault) }
+        ensures err { OnErr result (self.new.hive ≡ self.old.hive) }
+    {
+        self.hive.cut()
     }
 }

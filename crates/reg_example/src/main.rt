@@ -2,6 +2,7 @@
 #![tactic(auto)]
 
 mod one_thread;
+mod service;
 
 use anyhow::{Result, bail};
 use reg_calls::Hive;
@@ -63,6 +64,7 @@ fn sessions(alloc: Global, jobs: Vec<Job>) -> Result<Vec<Session>> {
 fn main(rt: HostRuntime) -> Result<()> {
     let alloc = rt.alloc();
     one_thread::run(&rt, alloc)?;
+    service::run(&rt, alloc)?;
     let (registry, sessions_started) = start(alloc, hives(alloc)?, 2)?;
     let mut jobs = Vec::new(alloc);
     for session in sessions_started {

@@ -1,1 +1,2 @@
 pub mod LoadedHives
+pub mod CheckpointFaults

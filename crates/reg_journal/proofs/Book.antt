@@ -1,40 +1,108 @@
 -- The book of a journal: a row for each session that has a seat.
-use Rattle.std.proofs.Common.{◌≡◌, ◌+◌, ◌==◌, ◌≤◌, ◌<◌, ℕ, not, List, [], ◌∷◌, ◌++◌, length, slice_set, slice_index, if◌then◌else◌, refl, inl, inr, replicate, ◌∙◌, subst, arith, length-append}
-use Rattle.std.proofs.Math.ListN.{get_or-eq_default}
-use Rattle.std.proofs.lemmas.List.{get_or-set_same, get_or-set_other, get_or-replicate, length-replicate}
-use Rattle.std.proofs.lemmas.Bool.{cases_lt}
+use Rattle.std.proofs.Common.{◌≡◌, ◌+◌, ◌≤◌, ◌<◌, ℕ, not, List, [], ◌∷◌, ◌++◌, length, slice_index, refl, sym, inl, inr, replicate, ◌∙◌, subst, arith}
+use Rattle.std.specs.Prelude.{slice_set}
+use Rattle.std.proofs.lemmas.Bool.{cases_eq}
+use Rattle.std.proofs.lemmas.List.{get_or-set_same, get_or-set_other, length-set, length-append, length-replicate}
 use Rattle.std.proofs.lemmas.List.Filters.{length-filter_both}
-use Rattle.std.proofs.lemmas.List.Elements.{filter-append}
 use Rattle.std.proofs.lemmas.Bool.Decides.{nat_tests}
-use Rattle.reg_model.specs.Histories.{is_of, entries_of, count_of}
-use Rattle.reg_journal.specs.Kept.{Seat, row_of, IsCurrent}
+use Rattle.reg_model.specs.Histories.{is_of, count_of}
+use Rattle.reg_model.specs.declared.limits.TheConstants.{NUMBERS_LIMIT, SESSIONS_LIMIT}
+use Rattle.reg_journal.specs.Kept.{Seat, row_of, IsBook, IsCurrent}
 use Rattle.reg_model.specs.declared.reply.Entry.{Entry}
+use Rattle.reg_journal.proofs.Totals.{replicated, count_push, total_push, total_cut, total_none}
 
-pub replicated : (n s : ℕ) → slice_index (replicate n 0) s ≡ 0
-replicated n s = elim (cases_lt s n) [ inl h ↦ get_or-replicate n s 0 0 h | inr h ↦ get_or-eq_default (replicate n 0) 0 (rw (length-replicate {A = ℕ} n 0) h) ]
-
-entries_of-more : (t : ℕ) (es : List Entry) (e : Entry) → count_of t (es ++ e ∷ []) ≡ count_of t es + (if e.session == t then 1 else 0)
-entries_of-more t es e = grind (arith, filter-append (is_of t) es (e ∷ []), length-append (entries_of t es) (entries_of t (e ∷ [])))
-
-row_set : (rows : List ℕ) (s t n : ℕ) → s < length rows → slice_index (slice_set rows s n) t ≡ (if s == t then n else slice_index rows t)
-row_set rows s t n h = grind (arith, nat_tests, get_or-set_same rows s n 0, get_or-set_other rows s t n 0)
-
--- one entry more is one more in its session's row
-pub counts_more : (rows : List ℕ) (es : List Entry) (e : Entry) → ((s : ℕ) → slice_index rows s ≡ count_of s es) → e.session < length rows →
-    (t : ℕ) → slice_index (slice_set rows e.session (slice_index rows e.session + 1)) t ≡ count_of t (es ++ e ∷ [])
-counts_more rows es e all within t = let a = row_set rows e.session t (slice_index rows e.session + 1) within in let b = entries_of-more t es e in let q = all t in let r = all e.session in grind (arith, nat_tests)
-
-pub row_at_most : (es : List Entry) (s : ℕ) → count_of s es ≤ length es
-row_at_most es s = omega (arith, length-filter_both (is_of s) (λ e. not (is_of s e)) (λ _. refl) es)
-
-pub row_is : (n : ℕ) (es : List Entry) (s : ℕ) → row_of (replicate n 0) es s ≡ count_of s es
-row_is n es s = omega (arith, replicated n s)
+pub count_at_most : (es : List Entry) (s : ℕ) → count_of s es ≤ length es
+count_at_most es s = omega (arith, length-filter_both (is_of s) (λ e. not (is_of s e)) (λ _. refl) es)
 
 -- where there are no rows, there is no entry
-pub none_yet : (rows : List ℕ) (es : List Entry) → ((s : ℕ) → slice_index rows s ≡ count_of s es) → length rows ≡ 0 → es ≡ []
-none_yet rows [] all none = refl
-none_yet [] (e ∷ es) all none = let a = all e.session in absurd (grind (arith, nat_tests))
-none_yet (r ∷ rows) (e ∷ es) all none = absurd (omega (arith, none))
+pub none_yet : (base : ℕ) (noted rows : List ℕ) (es : List Entry) → IsBook base noted rows es → length rows ≡ 0 → es ≡ []
+none_yet base noted rows [] b none = refl
+none_yet base [] [] (e ∷ es) b none = let a = b.rows_are e.session in absurd (grind (arith, nat_tests))
+none_yet base [] (r ∷ rows) (e ∷ es) b none = absurd (omega (arith, none))
+none_yet base (n ∷ noted) rows (e ∷ es) b none = let m = b.many in absurd (omega (arith, none, m))
 
-pub current_or_not : (n : ℕ) (es : List Entry) (x : Seat) → IsCurrent (replicate n 0) es x → (x.session < n) × (x.count ≡ count_of x.session es)
-current_or_not n es x c = (subst (λ k. x.session < k) (length-replicate {A = ℕ} n 0) c.seated, c.counted ∙ row_is n es x.session)
+-- no row tells more entries than there were
+pub row_at_most : (base : ℕ) (noted rows : List ℕ) (es : List Entry) → IsBook base noted rows es → (session : ℕ) → slice_index rows session ≤ base + length es
+row_at_most base noted rows es b session =
+    let is = b.rows_are session in
+    let most = b.most session in
+    let few = count_at_most es session in
+    omega (arith, is, most, few)
+
+-- ---- from book to book
+
+-- seats are given
+pub book_seated : (base : ℕ) (noted rows : List ℕ) (es : List Entry) (n : ℕ) (noted' rows' : List ℕ) → IsBook base noted rows es → length rows ≡ 0 → 0 < n → n ≤ SESSIONS_LIMIT →
+    noted' ≡ rows' → rows' ≡ replicate n 0 → IsBook base noted' rows' es
+book_seated base noted rows es n noted' rows' b first some few same zeros =
+    let none = none_yet base noted rows es b first in
+    let begins = b.unseated first in
+    let long = length-replicate {A = ℕ} n 0 in
+    subst (λ (ns : List ℕ). IsBook base ns rows' es) (sym same)
+    (subst (λ (rs : List ℕ). IsBook base rs rs es) (sym zeros)
+    (subst (λ (l : List Entry). IsBook base (replicate n 0) (replicate n 0) l) (sym none) (record {
+      numbers = b.numbers;
+      few = omega (arith, long, few);
+      many = refl;
+      rows_are = λ session. omega arith;
+      most = λ session. omega (arith, replicated n session);
+      unseated = λ unseated. absurd (omega (arith, long, some, unseated));
+      total = total_none n ∙ omega (arith, begins);
+    })))
+
+-- one entry more of a session that has a seat
+pub book_push : (base : ℕ) (noted rows : List ℕ) (es : List Entry) (e : Entry) (session : ℕ) (rows' : List ℕ) (es' : List Entry) → IsBook base noted rows es →
+    session < length noted → e.session ≡ session → rows' ≡ slice_set rows session (slice_index rows session + 1) → es' ≡ es ++ e ∷ [] → IsBook base noted rows' es'
+book_push base noted rows es e session rows' es' b seated own raised pushed =
+    let many = b.many in
+    let long : length (slice_set rows session (slice_index rows session + 1)) ≡ length rows = length-set rows session (slice_index rows session + 1) in
+    subst (λ (rs : List ℕ). IsBook base noted rs es') (sym raised)
+    (subst (λ (l : List Entry). IsBook base noted (slice_set rows session (slice_index rows session + 1)) l) (sym pushed) (record {
+      numbers = b.numbers;
+      few = omega (arith, long, b.few);
+      many = omega (arith, long, many);
+      rows_are = rows_are;
+      most = b.most;
+      unseated = λ unseated. absurd (omega (arith, long, many, seated, unseated));
+      total = omega (arith, total_push noted es e (omega (arith, own, seated)), b.total, length-append es (e ∷ []));
+    }))
+  where
+    rows_are : (s : ℕ) → slice_index (slice_set rows session (slice_index rows session + 1)) s ≡ row_of noted (es ++ e ∷ []) s
+    rows_are s =
+        let was = b.rows_are s in
+        let counted = count_push s es e in
+        let many = b.many in
+        elim (cases_eq s session) [
+          | inl same ↦ (let set_here = get_or-set_same rows session (slice_index rows session + 1) 0 (omega (arith, many, seated)) in grind (arith, nat_tests))
+          | inr other ↦ (let set_other = get_or-set_other rows session s (slice_index rows session + 1) 0 other in grind (arith, nat_tests))
+        ]
+
+-- begun anew: the rows are what is noted
+pub book_cut : (base : ℕ) (noted rows : List ℕ) (es : List Entry) (base' : ℕ) (noted' : List ℕ) (es' : List Entry) → IsBook base noted rows es → base + length es ≤ NUMBERS_LIMIT →
+    base' ≡ base + length es → noted' ≡ rows → es' ≡ [] → IsBook base' noted' rows es'
+book_cut base noted rows es base' noted' es' b small later same none =
+    subst (λ (ns : List ℕ). IsBook base' ns rows es') (sym same)
+    (subst (λ (l : List Entry). IsBook base' rows rows l) (sym none) (record {
+      numbers = omega (arith, later, small);
+      few = b.few;
+      many = refl;
+      rows_are = λ session. omega arith;
+      most = λ session. omega (arith, later, row_at_most base noted rows es b session);
+      unseated = λ unseated.
+          let first = b.unseated unseated in
+          let length_is = ap_length (none_yet base noted rows es b unseated) in
+          omega (arith, later, first, length_is);
+      total = total_cut noted rows es b.many b.rows_are ∙ b.total ∙ omega (arith, later);
+    }))
+  where
+    ap_length : es ≡ [] → length es ≡ 0
+    ap_length e = subst (λ (l : List Entry). length l ≡ 0) (sym e) refl
+
+-- ---- shares
+
+pub current_or_not : (base : ℕ) (noted rows : List ℕ) (es : List Entry) (x : Seat) → IsBook base noted rows es → IsCurrent noted es x →
+    (x.session < length rows) × (x.count ≡ slice_index rows x.session)
+current_or_not base noted rows es x b c =
+    let seated = c.seated in
+    let many = b.many in
+    (omega (arith, seated, many), c.counted ∙ sym (b.rows_are x.session))

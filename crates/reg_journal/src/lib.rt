@@ -1,9 +1,9 @@
 //! The journal of a hive: its accepted changes, in order, and the book of its sessions.
 //!
-//! Its one contract: a list of entries that only grows, whose numbers go on from a base; and for each session that has a seat a row, which
-//! is the number of that session's entries. The base is 0, so that all entries are kept; it is where the numbers begin once entries
-//! that came before are given up. A [`Share`] is a session's seat, with the count of its entries: an append raises the share that it is
-//! lent and its row together. Room for entries is kept beforehand, so that an append can't fail. It stands on reg_model.
+//! Its one contract: a list of entries that only grows, until it is cut and begins anew; their numbers go on from a base, which is how many
+//! entries were cut. For each session that has a seat there is a row: how many entries it has had, those that were cut among them. A
+//! [`Share`] is a session's seat, with the count of its entries: an append raises the share that it is lent and its row together, and a cut
+//! leaves both. Room for entries is kept beforehand, so that an append can't fail. It stands on reg_model.
 //!
 //! Appending an entry and finding one by its number take no longer with more entries; a list that is full is copied to one of
 //! twice its size.
@@ -11,17 +11,18 @@
 
 mod share;
 
-ghost use Rattle.std.specs.Prelude.{◌≡◌, ◌≢◌, ◌+◌, ◌-◌, ◌*◌, ◌^◌, ◌<◌, ◌≤◌, ◌↔◌, ◌⊎◌, ◌++◌, ◌∷◌, [], None, Some, IfNone, IfOk, IfSome, IsErrOf, IsOk, IsTrue, OnErr, OnOk, length, map, nat_lt, replicate, slice_get, slice_index, slice_set, vec_len, if◌then◌else◌, option_copied};
+ghost use Rattle.std.specs.Prelude.{ℕ, ◌≡◌, ◌≢◌, ◌+◌, ◌-◌, ◌*◌, ◌^◌, ◌<◌, ◌≤◌, ◌↔◌, ◌⊎◌, ◌++◌, ◌∷◌, [], None, Some, IfNone, IfOk, IsErrOf, IsOk, IsTrue, OnErr, OnOk, length, map, nat_lt, replicate, slice_get, slice_index, slice_set, vec_len, if◌then◌else◌, option_copied};
 ghost use Rattle.std.specs.List.{range_with_len};
-ghost use Rattle.reg_model.specs.declared.limits.TheConstants.{SESSIONS_LIMIT};
+ghost use Rattle.reg_model.specs.declared.limits.TheConstants.{NUMBERS_LIMIT, SESSIONS_LIMIT};
 ghost use Rattle.reg_model.specs.Histories.{count_of};
-ghost use Rattle.reg_journal.specs.Kept.{Kept, seat, row_of, IsCurrent};
+ghost use Rattle.reg_journal.specs.Kept.{Kept, Seat, seat, row_of, total_of, IsCurrent};
 
 use reg_model::Entry;
 use reg_model::limits::SESSIONS_LIMIT;
 pub use share::Share;
 use std::alloc::{AllocError, Global};
 use std::marker::Model;
+use std::snapshot::Snapshot;
 use thiserror::Error;
 
 /// Why no seats were given; the first that holds.
@@ -55,24 +56,24 @@ pub struct Journal {
     base: usize,
     entries: Vec<Entry>,
     rows: Vec<u64>,
+    /// The rows as the entries from the base on found them.
+    noted: Snapshot<Vec<u64>>,
 }
 
 impl Model for Journal {
-    ghost use Rattle.std.specs.Prelude.{◌-◌, ◌≡◌, ◌≤◌, ℕ, replicate, slice_index, vec_len, vec_capacity};
-    ghost use Rattle.reg_model.specs.Histories.{count_of};
-    ghost use Rattle.reg_model.specs.declared.limits.TheConstants.{SESSIONS_LIMIT};
-    ghost use Rattle.reg_journal.specs.Kept.{Kept};
+    ghost use Rattle.std.specs.Prelude.{◌-◌, vec_len, vec_capacity};
+    ghost use Rattle.reg_journal.specs.Kept.{Kept, IsBook};
 
     ghost Value = { Kept };
 
     ghost view = { λ j. record {
-      noted = replicate (vec_len j.rows) 0;
+      noted = j.noted.value.items;
       base = j.base;
       entries = j.entries.items;
       room = vec_capacity j.entries - vec_len j.entries;
     } };
 
-    ghost invariant = { λ j. (j.base ≡ 0) × (vec_len j.rows ≤ SESSIONS_LIMIT) × ((s : ℕ) → slice_index j.rows.items s ≡ count_of s j.entries.items) };
+    ghost invariant = { λ j. IsBook j.base j.noted.value.items j.rows.items j.entries.items };
 }
 
 /// The seats of the sessions below `n`.
@@ -102,21 +103,24 @@ impl Journal {
         ensures base { result.base ≡ 0 }
         ensures entries { result.entries ≡ [] }
     {
+        let rows = Vec::new(alloc);
+        let noted = Snapshot::of(&rows);
         Journal {
             alloc,
             base: 0,
             entries: Vec::new(alloc),
-            rows: Vec::new(alloc),
+            rows,
+            noted,
         }
     }
 
     /// Gives the sessions below `n` their seats, once: a share of each, in order, that has counted no call. That is before the first
-    /// entry (clause `first`). `Seated` where seats were given before, else `Count` where `n` is 0 or above 64, else `Memory`; then
+    /// entry of all (clauses `never` and `first`). `Seated` where seats were given before, else `Count` where `n` is 0 or above 64, else `Memory`; then
     /// nothing changed.
-    #[tactic(auto, using(crate::proofs::Book::none_yet, crate::proofs::Book::replicated))]
     pub fn seat(&mut self, n: u8) -> Result<Vec<Share>, SeatFault>
         ensures shares { IfOk result (λ shares. shares.items ≡ map (λ s. seat s 0) (range_with_len 0 n)) }
         ensures seated { OnOk result (self.new ≡ record self.old { noted = replicate n 0 }) }
+        ensures never { OnOk result (self.old.base ≡ 0) }
         ensures first { OnOk result (self.old.entries ≡ []) }
         ensures base { self.new.base ≡ self.old.base }
         ensures entries { self.new.entries ≡ self.old.entries }
@@ -133,16 +137,15 @@ impl Journal {
         }
         let rows = vec![in self.alloc; 0u64; n as usize]?;
         let shares = shares(self.alloc, n)?;
+        self.noted = Snapshot::of(&rows);
         self.rows = rows;
         Ok(shares)
     }
 
-    /// How many entries a session has had, each of which is kept (clause `kept`); `None` where it has no seat, and then it has had none
-    /// (clause `unseated`).
-    #[tactic(auto, using(crate::proofs::Book::row_is))]
+    /// How many entries a session has had, those that were cut among them; `None` where it has no seat, and then it has had none (clause
+    /// `unseated`).
     pub fn row(&self, session: u8) -> Option<u64>
         ensures row { result ≡ (if nat_lt session (length self.now.noted) then Some (row_of self.now.noted self.now.entries session) else None) }
-        ensures kept { IfSome result (λ row. row ≡ count_of session self.now.entries) }
         ensures unseated { IfNone result (count_of session self.now.entries ≡ 0) }
     {
         self.rows.get(session as usize).copied()
@@ -157,7 +160,6 @@ impl Journal {
     }
 
     /// Whether the share's session has a seat whose row is the share's count.
-    #[tactic(auto, using(crate::proofs::Book::current_or_not))]
     pub fn is_current(&self, share: &Share) -> bool
         ensures { IsTrue result ↔ IsCurrent self.now.noted self.now.entries share.now }
     {
@@ -165,10 +167,12 @@ impl Journal {
         at < self.rows.len() && self.rows[at] == share.count
     }
 
-    /// How many entries were ever appended: the number of the next one. The first one has the number 0 (clause `first`).
+    /// How many entries were ever appended: the number of the next one. All rows of the book together are as many (clause `rows`). The
+    /// first one that is kept has a number of 10^18 at most (clause `first`).
     pub fn len(&self) -> usize
         ensures len { result ≡ self.now.base + length self.now.entries }
-        ensures first { self.now.base ≡ 0 }
+        ensures first { self.now.base ≤ NUMBERS_LIMIT }
+        ensures rows { result ≡ total_of self.now.noted self.now.entries }
     {
         self.base + self.entries.len()
     }
@@ -188,6 +192,13 @@ impl Journal {
             return None;
         }
         self.entries.get(number - self.base)
+    }
+
+    /// The entries that are kept, in order.
+    pub fn entries(&self) -> &[Entry]
+        ensures { result.now ≡ self.now.entries }
+    {
+        self.entries.as_slice()
     }
 
     /// Keeps room for so many more entries. Where there is less yet, the list becomes one of twice its size or of what is needed, the
@@ -213,7 +224,6 @@ impl Journal {
     }
 
     /// Appends an entry of a session in room that was kept, and counts it in the session's row and in its share.
-    #[tactic(auto, using(crate::proofs::Book::counts_more, crate::proofs::Book::row_at_most, crate::proofs::Book::row_is))]
     pub fn append(&mut self, share: &mut Share, entry: Entry)
         requires room { 0 < self.old.room }
         requires current { IsCurrent self.old.noted self.old.entries share.old }
@@ -230,5 +240,25 @@ impl Journal {
             Err(_) => unreachable!(),
         }
         share.count += 1;
+    }
+
+    /// Begins anew at the number of the next entry: no entry is kept, and what the rows tell is noted. Answers how many entries were cut.
+    /// Each share whose count is its row stays so (clause `current`). The room of the entries is given back (clause `room`). Takes no
+    /// memory.
+    pub fn cut(&mut self) -> usize
+        requires { self.old.base + length self.old.entries ≤ NUMBERS_LIMIT }
+        ensures cut { result ≡ length self.old.entries }
+        ensures base { self.new.base ≡ self.old.base + length self.old.entries }
+        ensures entries { self.new.entries ≡ [] }
+        ensures seats { length self.new.noted ≡ length self.old.noted }
+        ensures noted { (session : ℕ) → slice_index self.new.noted session ≡ row_of self.old.noted self.old.entries session }
+        ensures current { (share : Seat) → IsCurrent self.old.noted self.old.entries share → IsCurrent self.new.noted self.new.entries share }
+        ensures room { self.new.room ≡ 0 }
+    {
+        let count = self.entries.len();
+        self.base += count;
+        self.entries = Vec::new(self.alloc);
+        self.noted = Snapshot::of(&self.rows);
+        count
     }
 }

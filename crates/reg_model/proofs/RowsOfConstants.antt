@@ -1,6 +1,6 @@
 -- Limits, statuses and rights as the rules give them, in digits: who changes a constant changes the rules.
 use Rattle.std.proofs.Common.{◌≡◌, refl}
-use Rattle.reg_model.specs.declared.limits.TheConstants.{SESSIONS_LIMIT, HANDLES_LIMIT, WATCHES_LIMIT, JOURNAL_LIMIT}
+use Rattle.reg_model.specs.declared.limits.TheConstants.{SESSIONS_LIMIT, HANDLES_LIMIT, WATCHES_LIMIT, JOURNAL_LIMIT, NUMBERS_LIMIT}
 use Rattle.reg_model.specs.declared.rights.TheConstants.{NO_RIGHTS, QUERY_VALUE, SET_VALUE, ENUMERATE_SUB_KEYS, DELETE_TREE, DELETE_CONTENTS, READ_CONTROL, WRITE_DAC, NOTIFY}
 use Rattle.reg_model.specs.declared.filters.TheConstants.{NAME, LAST_SET, SECURITY, EVENTS, NO_FILTER}
 use Rattle.reg_model.specs.declared.statuses.TheConstants.{FILE_NOT_FOUND, ACCESS_DENIED, INVALID_HANDLE, NOT_ENOUGH_MEMORY, INVALID_PARAMETER, INSUFFICIENT_BUFFER}
@@ -14,6 +14,9 @@ handles_limit_is = refl
 
 journal_limit_is : JOURNAL_LIMIT ≡ 16777216
 journal_limit_is = refl
+
+numbers_limit_is : NUMBERS_LIMIT ≡ 1000000000000000000
+numbers_limit_is = refl
 
 no_rights_is : NO_RIGHTS ≡ 4293984192
 no_rights_is = refl

@@ -11,3 +11,6 @@ pub const WATCHES_LIMIT: u32 = 4_096;
 
 /// The most entries of the journal and open handles that a hive has, together: each open handle's closing has its room.
 pub const JOURNAL_LIMIT: usize = 16_777_216;
+
+/// The greatest count of entries at which a journal may begin anew: 10^18.
+pub const NUMBERS_LIMIT: u64 = 1_000_000_000_000_000_000;

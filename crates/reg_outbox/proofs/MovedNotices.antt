@@ -89,9 +89,10 @@ one_more session count old mid new notice h t = record {
     by s true e = omega (arith, e)
     by s false e = e
 
-pub ahead_next : (sent : List Notice) (session : ℕ) (old new : View) (notice : Notice) → IsAhead sent session old → IsNoticeTaken old new session (Some notice) →
-    IsAhead (sent ++ notice ∷ []) session new
-ahead_next sent session old new notice ahead t =
+-- a notice that moves leaves what was sent, followed by what is kept back
+pub front_next : (sent : List Notice) (session : ℕ) (old new : View) (notice : Notice) → IsNoticeTaken old new session (Some notice) →
+    (sent ++ notice ∷ []) ++ backlog_of session new ≡ sent ++ backlog_of session old
+front_next sent session old new notice t =
     let same = told_same old new session t.origin t.before t.journal in
     let rest = drop_at (told_in old session) (taken_by old.watches session) notice t.next in
     let count : taken_by new.watches session ≡ taken_by old.watches session + 1 = t.taken session ∙ by (eqb session session) (own session) in
@@ -99,12 +100,14 @@ ahead_next sent session old new notice ahead t =
     ∙ ap (λ (n : ℕ). sent ++ notice ∷ drop n (told_in new session)) (count ∙ add-one (taken_by old.watches session))
     ∙ ap (λ (all : List Notice). sent ++ notice ∷ drop (suc (taken_by old.watches session)) all) same
     ∙ ap (λ (l : List Notice). sent ++ l) (sym rest)
-    ∙ ahead
-    ∙ sym same
   where
     by : (b : Bool) → b ≡ true → cond (b && true) (taken_by old.watches session + 1) (taken_by old.watches session) ≡ taken_by old.watches session + 1
     by true e = refl
     by false e = absurd cc
+
+pub ahead_moved : (before after : List Notice) (session count : ℕ) (old new : View) → IsHandedOut session count old new →
+    after ++ backlog_of session new ≡ before ++ backlog_of session old → IsAhead before session old → IsAhead after session new
+ahead_moved before after session count old new h front ahead = front ∙ ahead ∙ sym (told_same old new session h.origin h.before h.journal)
 
 pub none_left : (session : ℕ) (v new : View) → IsNoticeTaken v new session None → backlog_of session new ≡ []
 none_left session v new t =

@@ -55,9 +55,9 @@ impl Outbox {
     /// Moves what a hive keeps back for a session into the ring, from the front, until nothing is left or the ring is full. Answers how
     /// many notices were moved. Takes no memory.
     pub fn refill<C: Callback>(&mut self, hive: &mut Hive<C>, session: u8) -> u64
-        requires ahead { IsAhead self.old.sent session (view_of hive.old) }
         ensures moved { IsHandedOut session result (view_of hive.old) (view_of hive.new) }
-        ensures ahead { IsAhead self.new.sent session (view_of hive.new) }
+        ensures front { self.new.sent ++ backlog_of session (view_of hive.new) ≡ self.old.sent ++ backlog_of session (view_of hive.old) }
+        ensures ahead { IsAhead self.old.sent session (view_of hive.old) → IsAhead self.new.sent session (view_of hive.new) }
         ensures stops { (backlog_of session (view_of hive.new) ≡ []) ⊎ (self.new.free ≡ 0) }
         ensures noted { noted_of hive.new ≡ noted_of hive.old }
         ensures callbacks { callbacks_of hive.new ≡ callbacks_of hive.old }
@@ -80,9 +80,9 @@ impl Outbox {
     /// Moves what a call told a session, where nothing was kept back for it before that call: what [`Outbox::refill`] moves. Where `kept`
     /// notices were kept back, it moves none and answers 0, since those come first. Takes no memory.
     pub fn push_or_keep<C: Callback>(&mut self, hive: &mut Hive<C>, session: u8, kept: u64) -> u64
-        requires ahead { IsAhead self.old.sent session (view_of hive.old) }
         ensures moved { IsHandedOut session result (view_of hive.old) (view_of hive.new) }
-        ensures ahead { IsAhead self.new.sent session (view_of hive.new) }
+        ensures front { self.new.sent ++ backlog_of session (view_of hive.new) ≡ self.old.sent ++ backlog_of session (view_of hive.old) }
+        ensures ahead { IsAhead self.old.sent session (view_of hive.old) → IsAhead self.new.sent session (view_of hive.new) }
         ensures stops { kept ≡ 0 → (backlog_of session (view_of hive.new) ≡ []) ⊎ (self.new.free ≡ 0) }
         ensures still { kept ≢ 0 → (result ≡ 0) × (hive.new ≡ hive.old) × (self.new ≡ self.old) }
         ensures noted { noted_of hive.new ≡ noted_of hive.old }

@@ -12,17 +12,16 @@ pub fn assert_report(report: Result<String, Fail>, wanted: &str) -> Result<(), F
     Err(Fail::new(format_args!("{:?}, and not {wanted:?}", text.as_str())))
 }
 
-/// Gathers all sessions, and writes how many entries each hive has.
+/// Gathers all sessions, and writes how many entries each hive has: nothing where they aren't gathered.
 pub fn tell_gathered<C: Callback>(
     registry: Registry<C>,
     sessions: Vec<Session>,
     text: &mut String,
-) -> Result<(), Fail> {
+) {
     let Ok(audit) = gather(registry, sessions) else {
-        return Err("not gathered".into());
+        return;
     };
     for hive in 0..audit.hives() {
-        write!(text, "{} entries\n", audit.entries(hive as u8))?;
+        let _ = write!(text, "{} entries\n", audit.entries(hive as u8));
     }
-    Ok(())
 }

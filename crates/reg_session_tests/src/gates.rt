@@ -1,9 +1,9 @@
 //! When a gate is told of a call: inside the hive's lock, where no other call is, and again after the lock was given back.
-use crate::asserts::{assert_report, tell_gathered};
-use crate::flags::is_raised;
-use crate::jobs::{fresh_hives, open, run, sessions_of, to_change};
-use reg_sessions::{HiveGate, Job, Registry, Session, start};
-use std::alloc::Global;
+use crate::asserts::assert_report;
+use crate::flags::Flags;
+use crate::jobs::{fresh_hives, job_of, open, run, to_change, told_of_jobs};
+use reg_sessions::{HiveGate, Job, Registry, Work, start};
+use std::alloc::{AllocError, Global};
 use std::sync::Wait;
 use std::sync::atomic::{AtomicBool, AtomicU64, Ordering};
 use std::test::Fail;
@@ -12,7 +12,7 @@ use std::thread::Threads;
 /// How many sessions are at one hive, and how many calls each makes.
 const SESSIONS: u8 = 4;
 
-const CALLS: u32 = 200;
+const CALLS: usize = 200;
 
 /// How long a session stays inside: so many reads of a flag.
 const STAY: u32 = 1_000;
@@ -58,71 +58,41 @@ impl HiveGate for Watchman {
 /// ends well only where session 0 gave the lock back before the gate was told that it is answered.
 #[derive(Drop)]
 struct Handover {
-    first: AtomicBool,
-    second: AtomicBool,
-    failed: AtomicBool,
-}
-
-impl Handover {
-    fn new() -> Handover {
-        Handover {
-            first: AtomicBool::new(false),
-            second: AtomicBool::new(false),
-            failed: AtomicBool::new(false),
-        }
-    }
-
-    fn wait_for(&self, flag: &AtomicBool) {
-        if !is_raised(flag) {
-            self.failed.store(true, Ordering::SeqCst);
-        }
-    }
-
-    /// Whether both came, and neither waited in vain.
-    fn is_well(&self) -> bool {
-        self.first.load(Ordering::SeqCst)
-            && self.second.load(Ordering::SeqCst)
-            && !self.failed.load(Ordering::SeqCst)
-    }
+    flags: Flags,
 }
 
 impl HiveGate for Handover {
     fn inside(&self, session: u8, hive: u8) {
         match (session, hive) {
-            (0, 0) => self.first.store(true, Ordering::SeqCst),
-            (1, 1) => self.wait_for(&self.first),
-            (1, 0) => self.second.store(true, Ordering::SeqCst),
+            (0, 0) => self.flags.first.store(true, Ordering::SeqCst),
+            (1, 1) => self.flags.wait_for(&self.flags.first),
+            (1, 0) => self.flags.second.store(true, Ordering::SeqCst),
             _ => {}
         }
     }
 
     fn answered(&self, session: u8, hive: u8) {
         if session == 0 && hive == 0 {
-            self.wait_for(&self.second);
+            self.flags.wait_for(&self.flags.second);
         }
     }
 }
 
-/// A job that opens the root of each of these hives.
-fn job(alloc: Global, session: Session, hives: &[u8]) -> Result<Job, Fail> {
+/// The work that opens the root of each of these hives.
+fn opening(alloc: Global, hives: &[u8]) -> Result<Vec<Work>, AllocError> {
     let mut work = Vec::new(alloc);
     for hive in hives {
         work.push(to_change(*hive, open()))?;
     }
-    Ok(Job {
-        session,
-        work,
-        outcomes: Vec::new(alloc),
-    })
+    Ok(work)
 }
 
 /// A registry of one hive, and sessions that make many calls there.
 fn many_calls(alloc: Global) -> Result<(Registry, Vec<Job>), Fail> {
     let (registry, sessions) = start(alloc, fresh_hives(alloc, 1)?, SESSIONS)?;
-    let hives = vec![in alloc; 0u8; CALLS as usize]?;
     let mut jobs = Vec::new(alloc);
     for session in sessions {
-        jobs.push(job(alloc, session, hives.as_slice())?)?;
+        let _ = jobs.push(job_of(alloc, session, opening(alloc, &[0; CALLS])));
     }
     Ok((registry, jobs))
 }
@@ -145,19 +115,18 @@ fn two_ways(alloc: Global) -> Result<(Registry, Vec<Job>), Fail> {
     let mut jobs = Vec::new(alloc);
     for session in sessions {
         let ways: &[u8] = if session.number() == 0 { &[0] } else { &[1, 0] };
-        jobs.push(job(alloc, session, ways)?)?;
+        let _ = jobs.push(job_of(alloc, session, opening(alloc, ways)));
     }
     Ok((registry, jobs))
 }
 
 fn handed_over<Rt: Threads + Wait + Sync>(rt: &Rt, alloc: Global) -> Result<String, Fail> {
-    let (registry, mut jobs) = two_ways(alloc)?;
-    let gate = Handover::new();
-    run(rt, &registry, &mut jobs, &gate)?;
-    let mut text = String::new(alloc);
-    write!(text, "well {}\n", gate.is_well())?;
-    let sessions = sessions_of(alloc, jobs, &mut text)?;
-    tell_gathered(registry, sessions, &mut text)?;
+    let (registry, jobs) = two_ways(alloc)?;
+    let gate = Handover {
+        flags: Flags::new(),
+    };
+    let mut text = told_of_jobs(rt, alloc, registry, jobs, &gate)?;
+    write!(text, "well {}\n", gate.flags.are_well())?;
     Ok(text)
 }
 
@@ -175,6 +144,6 @@ fn one_call_is_inside_a_hive_at_a_time_and_the_gate_is_told_twice(
 fn a_lock_is_given_back_before_the_gate_is_told_of_the_answer(rt: HostRuntime) -> Result<(), Fail> {
     assert_report(
         handed_over(&rt, rt.alloc()),
-        "well true\n0 \n0 0 \n2 entries\n1 entries\n",
+        "0 \n0 0 \n2 entries\n1 entries\nwell true\n",
     )
 }

@@ -1,8 +1,7 @@
 //! Which hive a registration, and the taking of a notice, is for: of two hives the one that is named.
 use crate::asserts::{assert_report, tell_gathered};
-use crate::jobs::{fresh_hives, open};
+use crate::jobs::{fresh_hives, open, set_value, watch};
 use crate::told::{register, tell_change, tell_notice, unregister};
-use reg_model::{Bytes, Change};
 use reg_sessions::{Registry, Session, start};
 use std::alloc::Global;
 use std::sync::Wait;
@@ -14,26 +13,26 @@ fn guarded<Rt: Wait>(
     alloc: Global,
     registry: &Registry,
     all: &mut Vec<Session>,
-) -> Result<String, Fail> {
+) -> String {
     let mut text = String::new(alloc);
-    let first = register(rt, alloc, registry, 0, 5)?;
-    tell_change(rt, registry, all.get_mut(0), 0, &open(), &mut text)?;
-    tell_change(rt, registry, all.get_mut(0), 1, &open(), &mut text)?;
-    let second = register(rt, alloc, registry, 1, 87)?;
-    tell_change(rt, registry, all.get_mut(0), 0, &open(), &mut text)?;
-    tell_change(rt, registry, all.get_mut(0), 1, &open(), &mut text)?;
-    unregister(rt, registry, 1, second, &mut text)?;
-    tell_change(rt, registry, all.get_mut(0), 0, &open(), &mut text)?;
-    tell_change(rt, registry, all.get_mut(0), 1, &open(), &mut text)?;
-    unregister(rt, registry, 0, first, &mut text)?;
-    tell_change(rt, registry, all.get_mut(0), 0, &open(), &mut text)?;
-    Ok(text)
+    let first = register(rt, alloc, registry, 0, 5);
+    tell_change(rt, registry, all.get_mut(0), 0, &open(), &mut text);
+    tell_change(rt, registry, all.get_mut(0), 1, &open(), &mut text);
+    let second = register(rt, alloc, registry, 1, 87);
+    tell_change(rt, registry, all.get_mut(0), 0, &open(), &mut text);
+    tell_change(rt, registry, all.get_mut(0), 1, &open(), &mut text);
+    unregister(rt, registry, 1, second, &mut text);
+    tell_change(rt, registry, all.get_mut(0), 0, &open(), &mut text);
+    tell_change(rt, registry, all.get_mut(0), 1, &open(), &mut text);
+    unregister(rt, registry, 0, first, &mut text);
+    tell_change(rt, registry, all.get_mut(0), 0, &open(), &mut text);
+    text
 }
 
 fn told_of_guards<Rt: Wait>(rt: &Rt, alloc: Global) -> Result<String, Fail> {
     let (registry, mut sessions) = start(alloc, fresh_hives(alloc, 2)?, 1)?;
-    let mut text = guarded(rt, alloc, &registry, &mut sessions)?;
-    tell_gathered(registry, sessions, &mut text)?;
+    let mut text = guarded(rt, alloc, &registry, &mut sessions);
+    tell_gathered(registry, sessions, &mut text);
     Ok(text)
 }
 
@@ -44,33 +43,23 @@ fn notified<Rt: Wait>(
     registry: &Registry,
     all: &mut Vec<Session>,
 ) -> Result<String, Fail> {
+    let set = set_value(alloc, 0)?;
     let mut text = String::new(alloc);
-    let watch = Change::Notify {
-        handle: 0,
-        filter: 4,
-        subtree: false,
-    };
-    let set = Change::SetValue {
-        handle: 0,
-        name: Bytes::from_slice(alloc, b"v")?,
-        kind: 4,
-        bytes: Bytes::from_slice(alloc, &[1])?,
-    };
-    tell_change(rt, registry, all.get_mut(0), 1, &open(), &mut text)?;
-    tell_change(rt, registry, all.get_mut(0), 1, &watch, &mut text)?;
-    tell_notice(registry, all.get_mut(0), 1, &mut text)?;
-    tell_change(rt, registry, all.get_mut(0), 1, &set, &mut text)?;
-    tell_notice(registry, all.get_mut(0), 0, &mut text)?;
-    tell_notice(registry, all.get_mut(1), 1, &mut text)?;
-    tell_notice(registry, all.get_mut(0), 1, &mut text)?;
-    tell_notice(registry, all.get_mut(0), 1, &mut text)?;
+    tell_change(rt, registry, all.get_mut(0), 1, &open(), &mut text);
+    tell_change(rt, registry, all.get_mut(0), 1, &watch(0, 4), &mut text);
+    tell_notice(registry, all.get_mut(0), 1, &mut text);
+    tell_change(rt, registry, all.get_mut(0), 1, &set, &mut text);
+    tell_notice(registry, all.get_mut(0), 0, &mut text);
+    tell_notice(registry, all.get_mut(1), 1, &mut text);
+    tell_notice(registry, all.get_mut(0), 1, &mut text);
+    tell_notice(registry, all.get_mut(0), 1, &mut text);
     Ok(text)
 }
 
 fn told_of_notices<Rt: Wait>(rt: &Rt, alloc: Global) -> Result<String, Fail> {
     let (registry, mut sessions) = start(alloc, fresh_hives(alloc, 2)?, 2)?;
     let mut text = notified(rt, alloc, &registry, &mut sessions)?;
-    tell_gathered(registry, sessions, &mut text)?;
+    tell_gathered(registry, sessions, &mut text);
     Ok(text)
 }
 

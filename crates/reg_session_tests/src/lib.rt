@@ -1,10 +1,13 @@
 //! Tests of sessions on threads: what no clause of reg_sessions says. A session's answer, a notice, and a registration, are those of the hive
-//! in that lock; jobs run side by side, each hive has a lock of its own, and a gate is told inside it and after it; and many calls at
-//! random, from all sessions that there may be, leave hives that are those of their journals. There is nothing here but tests, and so no contract. The wanted replies come from the rules.
+//! in that lock; what a full ring had no room for comes by a later call; jobs run side by side, each hive has a lock of its own, and a gate
+//! is told inside it and after it; and many calls at random, from all sessions that there may be, leave hives that are those of their
+//! journals. There is nothing here but tests, and so no contract. The wanted replies come from the rules.
 #![tactic(auto)]
 
 #[cfg(test)]
 mod asserts;
+#[cfg(test)]
+mod checkpoints;
 #[cfg(test)]
 mod flags;
 #[cfg(test)]

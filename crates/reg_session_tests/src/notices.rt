@@ -1,58 +1,36 @@
-//! The rules' row of a notice: it is taken while another session is inside the lock of the hive that told it.
+//! The rules' rows of notices: one is taken while another session is inside the lock of the hive that told it, and what a ring has no room
+//! for comes by a later call of the session.
 use crate::asserts::{assert_report, tell_gathered};
-use crate::flags::is_raised;
-use crate::jobs::{fresh_hives, opened, run, sessions_of, to_ask, to_change};
-use reg_model::{Bytes, Change, Query};
+use crate::flags::Flags;
+use crate::jobs::{
+    fresh_hives, job_of, make, new_key, open, set_value, to_ask, to_change, told_of_jobs, watch,
+};
+use reg_model::{Change, Query};
 use reg_sessions::{Ask, HiveGate, Job, OpenGate, Registry, Session, Work, start};
-use std::alloc::Global;
+use std::alloc::{AllocError, Global};
 use std::sync::Wait;
-use std::sync::atomic::{AtomicBool, AtomicU64, Ordering};
+use std::sync::atomic::{AtomicU64, Ordering};
 use std::test::Fail;
 use std::thread::Threads;
 
 /// How many watches end at once: more than a ring has room for.
 const WATCHES: usize = 70;
 
-/// A gate at which session 0 begins once session 1 is inside hive 0, and session 1 stays there until session 0 was answered twice by hive 1.
+/// A gate at which session 0 begins once session 1 is inside hive 0, the first flag, and session 1 stays there until session 0 was answered
+/// twice by hive 1, the second.
 #[derive(Drop)]
 struct Stay {
-    held: AtomicBool,
+    flags: Flags,
     answers: AtomicU64,
-    twice: AtomicBool,
-    failed: AtomicBool,
-}
-
-impl Stay {
-    fn new() -> Stay {
-        Stay {
-            held: AtomicBool::new(false),
-            answers: AtomicU64::new(0),
-            twice: AtomicBool::new(false),
-            failed: AtomicBool::new(false),
-        }
-    }
-
-    fn wait_for(&self, flag: &AtomicBool) {
-        if !is_raised(flag) {
-            self.failed.store(true, Ordering::SeqCst);
-        }
-    }
-
-    /// Whether both came, and neither waited in vain.
-    fn is_well(&self) -> bool {
-        self.held.load(Ordering::SeqCst)
-            && self.twice.load(Ordering::SeqCst)
-            && !self.failed.load(Ordering::SeqCst)
-    }
 }
 
 impl HiveGate for Stay {
     fn inside(&self, session: u8, hive: u8) {
         match (session, hive) {
-            (0, 1) => self.wait_for(&self.held),
+            (0, 1) => self.flags.wait_for(&self.flags.first),
             (1, 0) => {
-                self.held.store(true, Ordering::SeqCst);
-                self.wait_for(&self.twice);
+                self.flags.first.store(true, Ordering::SeqCst);
+                self.flags.wait_for(&self.flags.second);
             }
             _ => {}
         }
@@ -60,165 +38,172 @@ impl HiveGate for Stay {
 
     fn answered(&self, session: u8, hive: u8) {
         if session == 0 && hive == 1 && self.answers.fetch_add(1, Ordering::SeqCst) == 1 {
-            self.twice.store(true, Ordering::SeqCst);
+            self.flags.second.store(true, Ordering::SeqCst);
         }
     }
 }
 
-fn set_value(alloc: Global, handle: u64) -> Result<Change, Fail> {
-    Ok(Change::SetValue {
-        handle,
-        name: Bytes::from_slice(alloc, b"v")?,
-        kind: 4,
-        bytes: Bytes::from_slice(alloc, &[1])?,
-    })
+/// What was before the jobs: session 0 watches the root of hive 0, and opens that of hive 1; session 1's change tells it something. The
+/// handle that session 1 has is 2, since it is of the third entry.
+fn prepare<Rt: Wait>(rt: &Rt, registry: &Registry, all: &mut Vec<Session>, change: &Change) {
+    make(rt, registry, all.get_mut(0), 0, &open(), 1);
+    make(rt, registry, all.get_mut(0), 0, &watch(0, 4), 1);
+    make(rt, registry, all.get_mut(0), 1, &open(), 1);
+    make(rt, registry, all.get_mut(1), 0, &open(), 1);
+    make(rt, registry, all.get_mut(1), 0, change, 1);
 }
 
-/// Makes a change at hive 0, which is accepted.
-fn make<Rt: Wait>(
-    rt: &Rt,
-    registry: &Registry,
-    session: &mut Session,
-    change: &Change,
-) -> Result<(), Fail> {
-    if registry.hives() == 0 || session.hives() == 0 {
-        return Err("there is no hive".into());
-    }
-    let reply = session.change(rt, registry, &OpenGate, 0, 1, change);
-    if reply.status == 0 {
-        return Ok(());
-    }
-    Err("the change was refused".into())
-}
-
-/// The work of session 0, which watches the root of hive 0: a notice of it, between two questions at hive 1.
-fn watching<Rt: Wait>(
-    rt: &Rt,
-    alloc: Global,
-    registry: &Registry,
-    session: &mut Session,
-) -> Result<Vec<Work>, Fail> {
-    let watch = Change::Notify {
-        handle: opened(rt, registry, session, 0)?,
-        filter: 4,
-        subtree: false,
-    };
-    make(rt, registry, session, &watch)?;
-    let handle = opened(rt, registry, session, 1)?;
+/// The work of session 0: a notice of hive 0, between two questions at hive 1. That of session 1: another change of hive 0.
+fn work(alloc: Global, number: u8) -> Result<Vec<Work>, AllocError> {
     let mut work = Vec::new(alloc);
-    work.push(to_ask(1, Query::QueryInfo { handle }))?;
+    if number == 1 {
+        work.push(to_change(0, set_value(alloc, 2)?))?;
+        return Ok(work);
+    }
+    work.push(to_ask(1, Query::QueryInfo { handle: 0 }))?;
     work.push(Work {
         hive: 0,
         moment: 1,
         ask: Ask::TakeNotice,
     })?;
-    work.push(to_ask(1, Query::QueryInfo { handle }))?;
-    Ok(work)
-}
-
-/// The work of session 1, whose change told session 0 something: another change of hive 0.
-fn changing<Rt: Wait>(
-    rt: &Rt,
-    alloc: Global,
-    registry: &Registry,
-    session: &mut Session,
-) -> Result<Vec<Work>, Fail> {
-    let handle = opened(rt, registry, session, 0)?;
-    make(rt, registry, session, &set_value(alloc, handle)?)?;
-    let mut work = Vec::new(alloc);
-    work.push(to_change(0, set_value(alloc, handle)?))?;
+    work.push(to_ask(1, Query::QueryInfo { handle: 0 }))?;
     Ok(work)
 }
 
 /// A registry of two hives, and a job of each of two sessions.
 fn two_jobs<Rt: Wait>(rt: &Rt, alloc: Global) -> Result<(Registry, Vec<Job>), Fail> {
-    let (registry, sessions) = start(alloc, fresh_hives(alloc, 2)?, 2)?;
+    let change = set_value(alloc, 2)?;
+    let (registry, mut all) = start(alloc, fresh_hives(alloc, 2)?, 2)?;
+    prepare(rt, &registry, &mut all, &change);
     let mut jobs = Vec::new(alloc);
-    for session in sessions {
-        let mut session = session;
-        let work = if session.number() == 0 {
-            watching(rt, alloc, &registry, &mut session)?
-        } else {
-            changing(rt, alloc, &registry, &mut session)?
-        };
-        jobs.push(Job {
-            session,
-            work,
-            outcomes: Vec::new(alloc),
-        })?;
+    for session in all {
+        let work = work(alloc, session.number());
+        let _ = jobs.push(job_of(alloc, session, work));
     }
     Ok((registry, jobs))
 }
 
 fn told<Rt: Threads + Wait + Sync>(rt: &Rt, alloc: Global) -> Result<String, Fail> {
-    let (registry, mut jobs) = two_jobs(rt, alloc)?;
-    let mut text = String::new(alloc);
-    let stay = Stay::new();
-    run(rt, &registry, &mut jobs, &stay)?;
-    write!(text, "stayed {}\n", stay.is_well())?;
-    let sessions = sessions_of(alloc, jobs, &mut text)?;
-    tell_gathered(registry, sessions, &mut text)?;
+    let (registry, jobs) = two_jobs(rt, alloc)?;
+    let stay = Stay {
+        flags: Flags::new(),
+        answers: AtomicU64::new(0),
+    };
+    let mut text = told_of_jobs(rt, alloc, registry, jobs, &stay)?;
+    write!(text, "stayed {}\n", stay.flags.are_well())?;
     Ok(text)
 }
 
-/// Takes all notices of hive 0 that have come, and counts them.
-fn taken(registry: &Registry, session: &mut Session) -> Result<usize, Fail> {
-    for count in 0..WATCHES {
-        if session.hives() == 0 {
-            return Err("there is no hive".into());
+/// Takes the notices of a hive that have come, so many at most, and counts them.
+fn taken(registry: &Registry, session: Option<&mut Session>, hive: u8, most: usize) -> usize {
+    let Some(session) = session else {
+        return 0;
+    };
+    for count in 0..most {
+        if hive as usize >= session.hives() {
+            return count;
         }
-        if session.take_notice(registry, 0).is_none() {
-            return Ok(count);
+        if session.take_notice(registry, hive).is_none() {
+            return count;
         }
     }
-    Ok(WATCHES)
+    most
 }
 
-/// More watches of the root end at once than a ring has room for; the notices are taken before a question, and after it.
-fn many<Rt: Wait>(
+/// Asks about the root of a hive, which has this handle.
+fn ask<Rt: Wait>(
+    rt: &Rt,
+    registry: &Registry,
+    session: Option<&mut Session>,
+    hive: u8,
+    handle: u64,
+) {
+    let Some(session) = session else {
+        return;
+    };
+    if hive as usize >= registry.hives() || hive as usize >= session.hives() {
+        return;
+    }
+    session.ask(rt, registry, &OpenGate, hive, &Query::QueryInfo { handle });
+}
+
+/// What becomes of a ring at a hive: a session, `watcher`, watches the root's values `WATCHES` times, and its keys `more` times. Session 0
+/// sets a value, and the watcher takes `most` notices at most. A session, `maker`, is asked to make a key by handle 0, and the watcher takes
+/// all, before a question and after it. The handle of the root is 0 in session 0, and 1 in session 1, which so is refused the key.
+fn ring<Rt: Wait>(
+    rt: &Rt,
+    registry: &Registry,
+    all: &mut Vec<Session>,
+    changes: (&Change, &Change),
+    row: (u8, u8, usize, usize, usize),
+    text: &mut String,
+) {
+    let (set, key) = changes;
+    let (hive, watcher, more, most, maker) = row;
+    let by = watcher as usize;
+    let handle = u64::from(watcher);
+    make(rt, registry, all.get_mut(0), hive, &open(), 1);
+    make(rt, registry, all.get_mut(1), hive, &open(), 1);
+    make(
+        rt,
+        registry,
+        all.get_mut(by),
+        hive,
+        &watch(handle, 4),
+        WATCHES,
+    );
+    make(rt, registry, all.get_mut(by), hive, &watch(handle, 1), more);
+    make(rt, registry, all.get_mut(0), hive, set, 1);
+    let first = taken(registry, all.get_mut(by), hive, most);
+    make(rt, registry, all.get_mut(maker), hive, key, 1);
+    let before = taken(registry, all.get_mut(by), hive, WATCHES);
+    ask(rt, registry, all.get_mut(by), hive, handle);
+    let after = taken(registry, all.get_mut(by), hive, WATCHES);
+    let _ = write!(text, "{first} then {before}, and {after}\n");
+}
+
+/// Four rings, each at a hive of its own. The first is that of the session that makes the changes, whose second change moves what was kept
+/// back. At the second only the question does; at the third the second change moves nothing, since something is kept back; and at the
+/// fourth a change of the watcher's moves it, though it is refused.
+fn rings<Rt: Wait>(
     rt: &Rt,
     alloc: Global,
     registry: &Registry,
-    session: &mut Session,
-) -> Result<String, Fail> {
-    let handle = opened(rt, registry, session, 0)?;
-    let watch = Change::Notify {
-        handle,
-        filter: 4,
-        subtree: false,
-    };
-    for _watch in 0..WATCHES {
-        make(rt, registry, session, &watch)?;
+    all: &mut Vec<Session>,
+) -> Result<String, AllocError> {
+    let set = set_value(alloc, 0)?;
+    let key = new_key(alloc, 0)?;
+    let mut text = String::new(alloc);
+    for row in [
+        (0, 0, 0, WATCHES, 0),
+        (1, 1, 0, WATCHES, 0),
+        (2, 1, 1, 10, 0),
+        (3, 1, 0, WATCHES, 1),
+    ] {
+        ring(rt, registry, all, (&set, &key), row, &mut text);
     }
-    make(rt, registry, session, &set_value(alloc, handle)?)?;
-    let before = taken(registry, session)?;
-    if registry.hives() == 0 || session.hives() == 0 {
-        return Err("there is no hive".into());
-    }
-    session.ask(rt, registry, &OpenGate, 0, &Query::QueryInfo { handle });
-    let after = taken(registry, session)?;
-    Ok(format!(in alloc; "{before} and {after}\n")?)
+    Ok(text)
 }
 
-fn told_of_many<Rt: Wait>(rt: &Rt, alloc: Global) -> Result<String, Fail> {
-    let (registry, mut sessions) = start(alloc, fresh_hives(alloc, 1)?, 1)?;
-    let Some(session) = sessions.get_mut(0) else {
-        return Err("there is no session".into());
-    };
-    let mut text = many(rt, alloc, &registry, session)?;
-    tell_gathered(registry, sessions, &mut text)?;
+fn told_of_rings<Rt: Wait>(rt: &Rt, alloc: Global) -> Result<String, Fail> {
+    let (registry, mut all) = start(alloc, fresh_hives(alloc, 4)?, 2)?;
+    let mut text = rings(rt, alloc, &registry, &mut all)?;
+    tell_gathered(registry, all, &mut text);
     Ok(text)
 }
 
 #[test]
-fn what_a_full_ring_kept_back_comes_by_the_next_question(rt: HostRuntime) -> Result<(), Fail> {
-    assert_report(told_of_many(&rt, rt.alloc()), "64 and 6\n72 entries\n")
+fn what_a_full_ring_kept_back_comes_by_the_next_call(rt: HostRuntime) -> Result<(), Fail> {
+    assert_report(
+        told_of_rings(&rt, rt.alloc()),
+        "64 then 6, and 0\n64 then 0, and 6\n10 then 54, and 7\n64 then 6, and 0\n74 entries\n74 entries\n75 entries\n73 entries\n",
+    )
 }
 
 #[test]
 fn a_notice_is_taken_while_its_hive_is_locked(rt: HostRuntime) -> Result<(), Fail> {
     assert_report(
         told(&rt, rt.alloc()),
-        "stayed true\nanswered notice 1 3 answered \n0 \n5 entries\n1 entries\n",
+        "answered notice 1 3 answered \n0 \n5 entries\n1 entries\nstayed true\n",
     )
 }

@@ -58,9 +58,9 @@ fn guarded<Rt: Wait>(
     alloc: Global,
     registry: &Registry,
     sessions: &mut Vec<Session>,
-) -> Result<String, Fail> {
+) -> String {
     let mut text = String::new(alloc);
-    tell_change(rt, registry, sessions.get_mut(0), 0, &open(), &mut text)?;
+    tell_change(rt, registry, sessions.get_mut(0), 0, &open(), &mut text);
     tell_answer(
         rt,
         registry,
@@ -68,9 +68,9 @@ fn guarded<Rt: Wait>(
         0,
         &first_key(),
         &mut text,
-    )?;
-    let cookie = register(rt, alloc, registry, 0, 5)?;
-    tell_change(rt, registry, sessions.get_mut(0), 0, &open(), &mut text)?;
+    );
+    let cookie = register(rt, alloc, registry, 0, 5);
+    tell_change(rt, registry, sessions.get_mut(0), 0, &open(), &mut text);
     tell_answer(
         rt,
         registry,
@@ -78,18 +78,18 @@ fn guarded<Rt: Wait>(
         0,
         &first_key(),
         &mut text,
-    )?;
-    unregister(rt, registry, 0, cookie, &mut text)?;
-    tell_change(rt, registry, sessions.get_mut(0), 0, &open(), &mut text)?;
-    Ok(text)
+    );
+    unregister(rt, registry, 0, cookie, &mut text);
+    tell_change(rt, registry, sessions.get_mut(0), 0, &open(), &mut text);
+    text
 }
 
 fn told_of_a_guard<Rt: Wait>(rt: &Rt, alloc: Global) -> Result<String, Fail> {
     let mut hives = Vec::new(alloc);
     hives.push(loaded(alloc)?)?;
     let (registry, mut sessions) = start(alloc, hives, 1)?;
-    let mut text = guarded(rt, alloc, &registry, &mut sessions)?;
-    tell_gathered(registry, sessions, &mut text)?;
+    let mut text = guarded(rt, alloc, &registry, &mut sessions);
+    tell_gathered(registry, sessions, &mut text);
     Ok(text)
 }
 
@@ -100,7 +100,6 @@ fn in_turn<Rt: Wait>(
     registry: &Registry,
     all: &mut Vec<Session>,
 ) -> Result<String, Fail> {
-    let mut text = String::new(alloc);
     let set = Change::SetValue {
         handle: 1,
         name: Bytes::from_slice(alloc, b"")?,
@@ -112,15 +111,16 @@ fn in_turn<Rt: Wait>(
         name: Bytes::from_slice(alloc, b"")?,
         room: Some(4),
     };
-    tell_change(rt, registry, all.get_mut(0), 0, &open(), &mut text)?;
-    tell_change(rt, registry, all.get_mut(1), 0, &open(), &mut text)?;
-    tell_change(rt, registry, all.get_mut(1), 0, &set, &mut text)?;
-    tell_answer(rt, registry, all.get_mut(0), 0, &value, &mut text)?;
-    tell_change(rt, registry, all.get_mut(0), 1, &open(), &mut text)?;
-    tell_answer(rt, registry, all.get_mut(0), 1, &value, &mut text)?;
-    tell_answer(rt, registry, all.get_mut(0), 1, &first_key(), &mut text)?;
-    tell_answer(rt, registry, all.get_mut(0), 0, &first_key(), &mut text)?;
-    tell_change(rt, registry, all.get_mut(1), 1, &open(), &mut text)?;
+    let mut text = String::new(alloc);
+    tell_change(rt, registry, all.get_mut(0), 0, &open(), &mut text);
+    tell_change(rt, registry, all.get_mut(1), 0, &open(), &mut text);
+    tell_change(rt, registry, all.get_mut(1), 0, &set, &mut text);
+    tell_answer(rt, registry, all.get_mut(0), 0, &value, &mut text);
+    tell_change(rt, registry, all.get_mut(0), 1, &open(), &mut text);
+    tell_answer(rt, registry, all.get_mut(0), 1, &value, &mut text);
+    tell_answer(rt, registry, all.get_mut(0), 1, &first_key(), &mut text);
+    tell_answer(rt, registry, all.get_mut(0), 0, &first_key(), &mut text);
+    tell_change(rt, registry, all.get_mut(1), 1, &open(), &mut text);
     Ok(text)
 }
 
@@ -130,7 +130,7 @@ fn told_in_turn<Rt: Wait>(rt: &Rt, alloc: Global) -> Result<String, Fail> {
     hives.push(Hive::new(alloc, b"ROOT", &[7; 20], 0)?)?;
     let (registry, mut sessions) = start(alloc, hives, 2)?;
     let mut text = in_turn(rt, alloc, &registry, &mut sessions)?;
-    tell_gathered(registry, sessions, &mut text)?;
+    tell_gathered(registry, sessions, &mut text);
     Ok(text)
 }
 

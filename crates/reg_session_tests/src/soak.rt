@@ -1,7 +1,7 @@
 //! Sixty-four sessions on threads of their own at sixteen hives, with calls taken at random. When all are gathered, each hive's journal, run
 //! again on one thread, is answered as it was, and leaves the same tree.
 use crate::asserts::assert_report;
-use crate::jobs::run;
+use crate::jobs::{job_of, run};
 use reg_callbacks::NoCallback;
 use reg_calls::{Hive, SeatedHive};
 use reg_model::{Bytes, Call, Change, Query};
@@ -171,6 +171,21 @@ fn works(alloc: Global, seed: u64, handles: &[u64]) -> Result<Vec<Work>, Fail> {
     Ok(all)
 }
 
+/// The job of a session with its seed.
+fn job<Rt: Wait>(
+    rt: &Rt,
+    alloc: Global,
+    registry: &Registry,
+    seed: u64,
+    session: Session,
+) -> Result<Job, Fail> {
+    let mut session = session;
+    let handles = handles(rt, alloc, registry, &mut session)?;
+    let seed = seed.wrapping_add(u64::from(session.number()));
+    let work = works(alloc, seed, handles.as_slice())?;
+    Ok(job_of(alloc, session, Ok(work)))
+}
+
 /// A job of each session.
 fn jobs<Rt: Wait>(
     rt: &Rt,
@@ -181,20 +196,12 @@ fn jobs<Rt: Wait>(
 ) -> Result<Vec<Job>, Fail> {
     let mut jobs = Vec::new(alloc);
     for session in sessions {
-        let mut session = session;
-        let handles = handles(rt, alloc, registry, &mut session)?;
-        let seed = seed.wrapping_add(u64::from(session.number()));
-        let work = works(alloc, seed, handles.as_slice())?;
-        jobs.push(Job {
-            session,
-            work,
-            outcomes: Vec::new(alloc),
-        })?;
+        jobs.push(job(rt, alloc, registry, seed, session)?)?;
     }
     Ok(jobs)
 }
 
-/// Runs the jobs, and takes the sessions out.
+/// Runs the jobs, and takes the sessions out. Where one is lost, they won't be gathered.
 fn driven<Rt: Threads + Wait + Sync>(
     rt: &Rt,
     alloc: Global,
@@ -210,7 +217,7 @@ fn driven<Rt: Threads + Wait + Sync>(
             work: _,
             outcomes: _,
         } = job;
-        sessions.push(session)?;
+        let _ = sessions.push(session);
     }
     Ok(sessions)
 }

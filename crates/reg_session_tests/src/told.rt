@@ -1,12 +1,10 @@
-//! What a session is told, written as text, and callbacks that come and go.
-ghost use Rattle.std.specs.Prelude.{◌<◌, OnOk};
-
+//! What a session is told, written as text, and callbacks that come and go. A report lacks what couldn't be made or written, and so isn't
+//! the wanted one.
 use reg_callbacks::{Callback, Cookie};
 use reg_model::{AnswerBody, Change, Notice, Query};
 use reg_sessions::{OpenGate, Registry, Session};
 use std::alloc::{AllocError, Global};
 use std::sync::Wait;
-use std::test::Fail;
 
 /// Refuses every call by a status.
 #[derive(Drop)]
@@ -30,16 +28,6 @@ fn boxed(alloc: Global, status: u32) -> Result<Box<dyn Callback + Send>, AllocEr
     Ok(Box::new(alloc, Refuses { status })?)
 }
 
-/// Fails where a registry has no such hive.
-fn assert_hive(registry: &Registry, hive: u8) -> Result<(), Fail>
-    ensures { OnOk result (hive < registry.now.hives) }
-{
-    if hive as usize >= registry.hives() {
-        return Err("there is no such hive".into());
-    }
-    Ok(())
-}
-
 /// Writes what a session's change is answered, where the session and the hive are there.
 pub fn tell_change<Rt: Wait>(
     rt: &Rt,
@@ -48,30 +36,28 @@ pub fn tell_change<Rt: Wait>(
     hive: u8,
     change: &Change,
     text: &mut String,
-) -> Result<(), Fail> {
+) {
     let Some(session) = session else {
-        return Err("there is no such session".into());
+        return;
     };
     if hive as usize >= registry.hives() || hive as usize >= session.hives() {
-        return Err("there is no such hive".into());
+        return;
     }
     let reply = session.change(rt, registry, &OpenGate, hive, 9, change);
-    write!(text, "{} number {:?}\n", reply.status, reply.number)?;
-    Ok(())
+    let _ = write!(text, "{} number {:?}\n", reply.status, reply.number);
 }
 
 /// Writes an answer.
-fn tell_body(body: &AnswerBody, text: &mut String) -> Result<(), Fail> {
-    match body {
-        AnswerBody::Refused { status } => write!(text, "{status}")?,
+fn tell_body(body: &AnswerBody, text: &mut String) {
+    let _ = match body {
+        AnswerBody::Refused { status } => write!(text, "{status}"),
         AnswerBody::Value {
             bytes: Some(bytes),
             ..
-        } => write!(text, "{:?}", bytes.as_slice())?,
-        AnswerBody::Key { name, time } => write!(text, "{:?} {time}", name.as_slice())?,
-        _ => write!(text, "another answer")?,
-    }
-    Ok(())
+        } => write!(text, "{:?}", bytes.as_slice()),
+        AnswerBody::Key { name, time } => write!(text, "{:?} {time}", name.as_slice()),
+        _ => write!(text, "another answer"),
+    };
 }
 
 /// Writes what a session's question is answered, and `at`.
@@ -82,17 +68,16 @@ pub fn tell_answer<Rt: Wait>(
     hive: u8,
     query: &Query,
     text: &mut String,
-) -> Result<(), Fail> {
+) {
     let Some(session) = session else {
-        return Err("there is no such session".into());
+        return;
     };
     if hive as usize >= registry.hives() || hive as usize >= session.hives() {
-        return Err("there is no such hive".into());
+        return;
     }
     let answer = session.ask(rt, registry, &OpenGate, hive, query);
-    tell_body(&answer.body, text)?;
-    write!(text, " at {}\n", answer.at)?;
-    Ok(())
+    tell_body(&answer.body, text);
+    let _ = write!(text, " at {}\n", answer.at);
 }
 
 /// Writes the next notice of a session at a hive.
@@ -101,18 +86,17 @@ pub fn tell_notice(
     session: Option<&mut Session>,
     hive: u8,
     text: &mut String,
-) -> Result<(), Fail> {
+) {
     let Some(session) = session else {
-        return Err("there is no such session".into());
+        return;
     };
     if hive as usize >= session.hives() {
-        return Err("there is no such hive".into());
+        return;
     }
-    match session.take_notice(registry, hive) {
-        Some(Notice { watch, by, .. }) => write!(text, "notice {watch} {by}\n")?,
-        None => write!(text, "no notice\n")?,
-    }
-    Ok(())
+    let _ = match session.take_notice(registry, hive) {
+        Some(Notice { watch, by, .. }) => write!(text, "notice {watch} {by}\n"),
+        None => write!(text, "no notice\n"),
+    };
 }
 
 /// Registers a callback that answers a status on a hive, and tells its cookie.
@@ -122,11 +106,16 @@ pub fn register<Rt: Wait>(
     registry: &Registry,
     hive: u8,
     status: u32,
-) -> Result<Cookie, Fail> {
-    assert_hive(registry, hive)?;
-    match registry.register(rt, hive, boxed(alloc, status)?, 7) {
-        Ok(cookie) => Ok(cookie),
-        Err(_) => Err("not registered".into()),
+) -> Option<Cookie> {
+    if hive as usize >= registry.hives() {
+        return None;
+    }
+    let Ok(callback) = boxed(alloc, status) else {
+        return None;
+    };
+    match registry.register(rt, hive, callback, 7) {
+        Ok(cookie) => Some(cookie),
+        Err(_) => None,
     }
 }
 
@@ -135,16 +124,17 @@ pub fn unregister<Rt: Wait>(
     rt: &Rt,
     registry: &Registry,
     hive: u8,
-    cookie: Cookie,
+    cookie: Option<Cookie>,
     text: &mut String,
-) -> Result<(), Fail> {
-    assert_hive(registry, hive)?;
-    match registry.unregister(rt, hive, cookie) {
-        Ok(callback) => {
-            let status = callback.pre_query(0, b"", &Query::QueryInfo { handle: 0 });
-            write!(text, "the box answers {status}\n")?;
-            Ok(())
-        }
-        Err(_) => Err("not taken out".into()),
+) {
+    let Some(cookie) = cookie else {
+        return;
+    };
+    if hive as usize >= registry.hives() {
+        return;
+    }
+    if let Ok(callback) = registry.unregister(rt, hive, cookie) {
+        let status = callback.pre_query(0, b"", &Query::QueryInfo { handle: 0 });
+        let _ = write!(text, "the box answers {status}\n");
     }
 }

@@ -1,27 +1,34 @@
 -- What a lock's type admits, after calls; and what a session is told there.
-use Rattle.std.proofs.Common.{◌≡◌, ◌≢◌, ◌+◌, ◌<◌, ◌≤◌, ◌==◌, ◌++◌, ◌∷◌, ◌⊎◌, [], ℕ, Bool, true, false, IsTrue, List, Option, Some, None, length, if◌then◌else◌, inl, inr, arith, refl, sym, ap, ◌∙◌, subst, length-append, replicate, unwrap_or}
+use Rattle.std.proofs.Common.{◌≡◌, ◌≢◌, ◌+◌, ◌<◌, ◌≤◌, ◌==◌, ◌++◌, ◌∷◌, ◌⊎◌, [], ℕ, Bool, true, false, IsTrue, List, Option, Some, None, length, if◌then◌else◌, inl, inr, arith, refl, sym, ap, ◌∙◌, subst, length-append, replicate, unwrap_or, slice_index, sum_by, zero, suc}
+use Rattle.std.specs.List.{range_with_len}
+use Rattle.std.proofs.lemmas.List.Sums.{sum_by-cons}
+use Rattle.std.specs.Prelude.{slice_index_or}
 use Rattle.std.proofs.lemmas.List.Elements.{filter-append}
 use Rattle.std.proofs.lemmas.Bool.Decides.{nat_tests}
 use Rattle.std.proofs.lemmas.Bool.{cases_eq, cases_lt}
 use Rattle.reg_callbacks.specs.Asking.{Answers}
 use Rattle.reg_model.specs.Callbacks.{Callbacks}
-use Rattle.reg_model.specs.Histories.{is_of, entries_of, count_of}
+use Rattle.reg_model.specs.Histories.{is_of, entries_of, count_of, fired}
 use Rattle.reg_model.specs.Replies.{refusal, reply_to}
 use Rattle.reg_model.specs.declared.answer.Answer.{Answer}
 use Rattle.reg_model.specs.declared.answer.AnswerBody.TheVariants.{Refused}
 use Rattle.reg_model.specs.declared.call.Change.{Change}
 use Rattle.reg_model.specs.declared.call.Query.{Query}
+use Rattle.reg_model.specs.declared.notice.Notice.{Notice}
 use Rattle.reg_model.specs.declared.reply.Entry.{Entry}
 use Rattle.reg_model.specs.declared.reply.ChangeReply.{ChangeReply}
 use Rattle.reg_model.proofs.CallSteps.{not_zero}
-use Rattle.reg_journal.specs.Kept.{Seat, seat, IsCurrent, row_of}
-use Rattle.reg_journal.proofs.Book.{row_at_most, row_is}
+use Rattle.reg_journal.specs.Kept.{Seat, seat, IsCurrent, row_of, total_of}
+use Rattle.reg_journal.proofs.Totals.{total_push, total_none, total_cut}
 use Rattle.reg_calls.specs.declared.hive.Hive.{Hive}
-use Rattle.reg_calls.specs.HiveView.{view_of, asks_of}
-use Rattle.reg_calls.specs.Views.{View, Booked, state, next_of, entry_of, IsAppliedBy, IsAccepted, IsHive}
+use Rattle.reg_calls.specs.HiveView.{view_of, noted_of, asks_of}
+use Rattle.reg_calls.specs.Cuts.{IsCut}
+use Rattle.reg_calls.specs.Views.{View, Booked, state, next_of, told_in, entry_of, IsAppliedBy, IsAccepted, IsHive}
 use Rattle.reg_calls.proofs.AcceptedChanges.{either, refused}
 use Rattle.reg_sessions.specs.Locked.{booked_of, IsAdmitted, IsLawfulReply, IsLawfulOrLacks, IsLawfulAnswer}
 use Rattle.reg_sessions.specs.Internal.Answered.{IsAnswered, IsCauseOf, IsAsked}
+use Rattle.reg_sessions.specs.Internal.Moved.{HasSeats}
+use Rattle.std.proofs.lemmas.List.{length-replicate}
 
 -- whether the share is current
 pub decided : (b : Booked) (share : Seat) → IsCurrent b.noted b.view.journal share ⊎ (IsCurrent b.noted b.view.journal share → ⊥)
@@ -50,12 +57,13 @@ pub admitted_journal : (b new : Booked) → IsAdmitted b → IsHive new.view →
     → new.view.journal ≡ b.view.journal → IsAdmitted new
 admitted_journal b new a hive noted base before journal = record {
   hive = hive;
-  base = base ∙ a.base;
-  before = before ∙ a.before;
-  rows = λ s. subst (λ (l : List ℕ). row_of l new.view.journal s ≡ count_of s new.view.journal) (sym noted)
-      (subst (λ (es : List Entry). row_of b.noted es s ≡ count_of s es) (sym journal) (a.rows s));
+  total = next ∙ a.total ∙ sym (ap (λ (l : List ℕ). total_of l new.view.journal) noted ∙ ap (λ (es : List Entry). total_of b.noted es) journal);
+  began = λ z s. ap (λ (l : List (List Notice)). slice_index_or l s []) before ∙ a.began (sym base ∙ z) s;
   seated = λ s past. ap (λ (es : List Entry). count_of s es) journal ∙ a.seated s (subst (λ (l : List ℕ). length l ≤ s) noted past);
 }
+  where
+    next : next_of new.view ≡ next_of b.view
+    next = (let long = ap (λ (es : List Entry). length es) journal in omega (arith, base, long))
 
 -- a hive that is the same
 pub admitted-same : (b new : Booked) → IsAdmitted b → new.noted ≡ b.noted → new.view ≡ b.view → IsAdmitted new
@@ -68,13 +76,18 @@ pub admitted-more : (b new : Booked) (e : Entry) → IsAdmitted b → IsHive new
     → new.view.journal ≡ b.view.journal ++ e ∷ [] → e.session < length b.noted → IsAdmitted new
 admitted-more b new e a hive noted base before journal seat = record {
   hive = hive;
-  base = base ∙ a.base;
-  before = before ∙ a.before;
-  rows = λ s. subst (λ (l : List ℕ). row_of l new.view.journal s ≡ count_of s new.view.journal) (sym noted) (let r = a.rows s in omega (arith, r));
+  total = (let all = total_is in let was = a.total in let more = total_push b.noted b.view.journal e seat in omega (arith, all, was, more, next));
+  began = λ z s. ap (λ (l : List (List Notice)). slice_index_or l s []) before ∙ a.began (sym base ∙ z) s;
   seated = λ s past.
       (let p = subst (λ (l : List ℕ). length l ≤ s) noted past in
       ap (λ (es : List Entry). count_of s es) journal ∙ count-other s b.view.journal e (λ same. absurd (omega (arith, same, p, seat))) ∙ a.seated s p);
 }
+  where
+    next : next_of new.view ≡ next_of b.view + 1
+    next = (let long = ap (λ (es : List Entry). length es) journal in let more = length-append b.view.journal (e ∷ []) in omega (arith, base, long, more))
+
+    total_is : total_of new.noted new.view.journal ≡ total_of b.noted (b.view.journal ++ e ∷ [])
+    total_is = ap (λ (l : List ℕ). total_of l new.view.journal) noted ∙ ap (λ (es : List Entry). total_of b.noted es) journal
 
 -- ---- a change
 
@@ -116,13 +129,24 @@ pub number-told : {old new : View} {session moment : ℕ} {change : Change} {rep
 unfolding reply_to
 number-told h = ap (λ (r : ChangeReply). r.number) h.says
 
--- a current share has counted no more than the journal's entries
+-- one of several numbers is at most their sum
+one_within : (f : ℕ → ℕ) (x a n : ℕ) → a ≤ x → x < a + n → f x ≤ sum_by f (range_with_len a n)
+one_within f x a zero low high = absurd (omega (arith, low, high))
+one_within f x a (suc n) low high =
+    elim (cases_eq x a) [
+      | inl e ↦ (let at : f x ≡ f a = ap f e in let first = sum_by-cons f a (range_with_len (a + 1) n) in omega (arith, at, first))
+      | inr ne ↦ (let rest = one_within f x (a + 1) n (omega (arith, low, ne)) (omega (arith, high)) in
+          let first = sum_by-cons f a (range_with_len (a + 1) n) in omega (arith, rest, first))
+    ]
+
+-- a current share has counted no more than the hive's entries
 pub count-within : (b : Booked) (share : Seat) → IsAdmitted b → IsCurrent b.noted b.view.journal share → share.count ≤ next_of b.view
 count-within b share a c =
     let row = c.counted in
-    let is = a.rows share.session in
-    let few = row_at_most b.view.journal share.session in
-    omega (arith, row, is, few)
+    let all = a.total in
+    let seat = c.seated in
+    let few = one_within (row_of b.noted b.view.journal) share.session 0 (length b.noted) (omega arith) (omega (arith, seat)) in
+    omega (arith, row, all, few)
 
 pub counted-more : {k : Callbacks} {old new : Booked} {share after : Seat} {moment : ℕ} {change : Change} {reply : ChangeReply}
     → IsAnswered k old new share after moment change reply → reply.status ≡ 0 → after.count ≡ share.count + 1
@@ -219,15 +243,44 @@ count-at {k} {b} {share} {query} {answer} p a other =
 
 -- ---- a new hive
 
+no_elements : {A : Type 0} (xs : List A) → length xs ≡ 0 → xs ≡ []
+no_elements [] e = refl
+no_elements (x ∷ xs) e = absurd (omega (arith, e))
+
 -- a hive that has had no entry, and that gave its first seats
-pub admitted_new : (b : Booked) (n : ℕ) → IsHive b.view → b.view.base ≡ 0 → b.view.before ≡ [] → b.view.journal ≡ [] → b.noted ≡ replicate n 0 → IsAdmitted b
+pub admitted_new : (b : Booked) (n : ℕ) → IsHive b.view → b.view.base ≡ 0 → ((s : ℕ) → slice_index_or b.view.before s [] ≡ []) → b.view.journal ≡ [] → b.noted ≡ replicate n 0
+    → IsAdmitted b
 admitted_new b n hive base before none rows = record {
   hive = hive;
-  base = base;
-  before = before;
-  rows = λ s. subst (λ (l : List ℕ). row_of l b.view.journal s ≡ count_of s b.view.journal) (sym rows) (row_is n b.view.journal s);
+  total = next ∙ sym (ap (λ (l : List ℕ). total_of l b.view.journal) rows ∙ ap (λ (es : List Entry). total_of (replicate n 0) es) none ∙ total_none n);
+  began = λ z s. before s;
   seated = λ s past. ap (λ (es : List Entry). count_of s es) none;
 }
+  where
+    next : next_of b.view ≡ 0
+    next = (let long = ap (λ (es : List Entry). length es) none in omega (arith, base, long))
+
+-- it has so many seats
+pub has_seats : {C : Type 0} (h : Hive C) (n : ℕ) → noted_of h ≡ replicate n 0 → HasSeats h n
+has_seats h n is = record { many = ap (λ (l : List ℕ). length l) is ∙ length-replicate {A = ℕ} n 0 }
+
+-- a hive whose journal began anew
+pub admitted_cut : (b new : Booked) → IsAdmitted b → IsCut b.view new.view → length new.noted ≡ length b.noted → ((s : ℕ) → slice_index new.noted s ≡ row_of b.noted b.view.journal s)
+    → IsAdmitted new
+admitted_cut b new a cut many rows = record {
+  hive = cut.hive;
+  total = next ∙ a.total ∙ sym (ap (λ (es : List Entry). total_of new.noted es) cut.journal ∙ total_cut b.noted new.noted b.view.journal (sym many) rows);
+  began = λ z s. cut.before s ∙ never z s;
+  seated = λ s past. ap (λ (es : List Entry). count_of s es) cut.journal;
+}
+  where
+    next : next_of new.view ≡ next_of b.view
+    next = (let base = cut.base in let long = ap (λ (es : List Entry). length es) cut.journal in omega (arith, base, long))
+
+    never : new.view.base ≡ 0 → (s : ℕ) → told_in b.view s ≡ []
+    never z s = (let base = cut.base in
+        ap (λ (l : List Notice). l ++ fired b.view.origin b.view.journal s) (a.began (omega (arith, base, z)) s)
+        ∙ ap (λ (es : List Entry). [] ++ fired b.view.origin es s) (no_elements b.view.journal (omega (arith, base, z))))
 
 -- ---- a mark
 

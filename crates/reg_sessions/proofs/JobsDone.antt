@@ -7,7 +7,7 @@ use Rattle.reg_callbacks.specs.Asking.{Answers}
 use Rattle.reg_journal.specs.Kept.{seat}
 use Rattle.reg_model.specs.declared.notice.Notice.{Notice}
 use Rattle.reg_model.specs.declared.reply.Receipt.{Receipt}
-use Rattle.reg_sessions.specs.Sessions.{SessionState, receipts_at, mark_at, seat_at, taken_at}
+use Rattle.reg_sessions.specs.Sessions.{SessionState, receipts_at, dropped_at, mark_at, seat_at, taken_at, popped_at}
 use Rattle.reg_sessions.specs.declared.job.Work.{Work}
 use Rattle.reg_sessions.specs.declared.job.Done.{Done}
 use Rattle.reg_sessions.specs.declared.job.Job.{Job}
@@ -40,6 +40,14 @@ notices_more h [] w (e ∷ ds) d same = absurd cc
 notices_more h (v ∷ ws) w [] d same = absurd cc
 notices_more h (v ∷ ws) w (e ∷ ds) d same =
     ap (λ (l : List Notice). fetched h v e ++ l) (notices_more h ws w ds d (and_right _ _ same)) ∙ sym (append_assoc (fetched h v e) (notices_by h ws ds) (fetched h w d))
+
+-- a list that grew by the notices of works grows by those of one work more
+fetched_more : (h : ℕ) (old mid : List Notice) (ws : List Work) (w : Work) (ds : List Done) (d : Done) → are_of_kinds ws ds ≡ true → mid ≡ old ++ notices_by h ws ds
+    → mid ++ fetched h w d ≡ old ++ notices_by h (ws ++ w ∷ []) (ds ++ d ∷ [])
+fetched_more h old mid ws w ds d same is =
+    ap (λ (l : List Notice). l ++ fetched h w d) is
+    ∙ append_assoc old (notices_by h ws ds) (fetched h w d)
+    ∙ ap (λ (l : List Notice). old ++ l) (sym (notices_more h ws w ds d same))
 
 both_true : (a b c : Bool) → (a && b) ≡ true → (b ≡ true → c ≡ true) → (a && c) ≡ true
 both_true true b c h f = f h
@@ -89,7 +97,7 @@ there_or_last (a ∷ xs) x y (suc i) h =
 -- what is lawful of a work by the works before it
 lawful_after : {C : Type 0} → (C → Answers) → SessionState → List Work → List Done → Work → Done → Type 0
 lawful_after answers s ws ds w d =
-    IsLawfulDone answers (seat s.number (length (receipts_at w.hive s ++ receipts_by w.hive ws ds))) (mark_by w.hive (mark_at w.hive s) ws ds) w.moment w.ask d
+    IsLawfulDone answers (seat s.number (dropped_at w.hive s + length (receipts_at w.hive s ++ receipts_by w.hive ws ds))) (mark_by w.hive (mark_at w.hive s) ws ds) w.moment w.ask d
 
 lawful_more : {C : Type 0} (answers : C → Answers) (s : SessionState) (ws : List Work) (w : Work) (ds : List Done) (d : Done) → are_of_kinds ws ds ≡ true → AreLawful answers s ws ds
     → lawful_after answers s ws ds w d → AreLawful answers s (ws ++ w ∷ []) (ds ++ d ∷ [])
@@ -115,13 +123,15 @@ lawful_more answers s ws w ds d same all one i x y is told =
 
 -- the seat and the mark that a session has after works are those by these works
 lawful_next : {C : Type 0} (answers : C → Answers) (old mid : SessionState) (ws : List Work) (ds : List Done) (w : Work) (d : Done) → mid.number ≡ old.number
-    → receipts_at w.hive mid ≡ receipts_at w.hive old ++ receipts_by w.hive ws ds → mark_at w.hive mid ≡ mark_by w.hive (mark_at w.hive old) ws ds
+    → receipts_at w.hive mid ≡ receipts_at w.hive old ++ receipts_by w.hive ws ds → dropped_at w.hive mid ≡ dropped_at w.hive old
+    → mark_at w.hive mid ≡ mark_by w.hive (mark_at w.hive old) ws ds
     → IsLawfulDone answers (seat_at w.hive mid) (mark_at w.hive mid) w.moment w.ask d → lawful_after answers old ws ds w d
 unfolding lawful_after
-lawful_next answers old mid ws ds w d number receipts mark one =
-    subst (λ (m : ℕ). IsLawfulDone answers (seat old.number (length (receipts_at w.hive old ++ receipts_by w.hive ws ds))) m w.moment w.ask d) mark
-    (subst (λ (l : List Receipt). IsLawfulDone answers (seat old.number (length l)) (mark_at w.hive mid) w.moment w.ask d) receipts
-    (subst (λ (n : ℕ). IsLawfulDone answers (seat n (length (receipts_at w.hive mid))) (mark_at w.hive mid) w.moment w.ask d) number one))
+lawful_next answers old mid ws ds w d number receipts dropped mark one =
+    subst (λ (m : ℕ). IsLawfulDone answers (seat old.number (dropped_at w.hive old + length (receipts_at w.hive old ++ receipts_by w.hive ws ds))) m w.moment w.ask d) mark
+    (subst (λ (k : ℕ). IsLawfulDone answers (seat old.number (k + length (receipts_at w.hive old ++ receipts_by w.hive ws ds))) (mark_at w.hive mid) w.moment w.ask d) dropped
+    (subst (λ (l : List Receipt). IsLawfulDone answers (seat old.number (dropped_at w.hive mid + length l)) (mark_at w.hive mid) w.moment w.ask d) receipts
+    (subst (λ (n : ℕ). IsLawfulDone answers (seat n (dropped_at w.hive mid + length (receipts_at w.hive mid))) (mark_at w.hive mid) w.moment w.ask d) number one)))
 
 pub done_none : {C : Type 0} (answers : C → Answers) (s : SessionState) (b : List Done) → AreDone answers s [] b s b
 done_none answers s b = record {
@@ -130,8 +140,10 @@ done_none answers s b = record {
   kinds = refl;
   lawful = λ i w d is told. absurd (none_there w i is);
   receipts = λ h. sym (append-nil (receipts_at h s));
+  dropped = λ h. refl;
   marks = λ h. refl;
   taken = λ h. sym (append-nil (taken_at h s));
+  popped = λ h. sym (append-nil (popped_at h s));
   number = refl;
   hives = refl;
 }
@@ -139,27 +151,27 @@ done_none answers s b = record {
 done_more : {C : Type 0} (answers : C → Answers) (old : SessionState) (ws : List Work) (w : Work) (b a : List Done) (mid new : SessionState) (d : Done) → AreDone answers old ws b mid a
     → is_of_kind w.ask d ≡ true → IsLawfulDone answers (seat_at w.hive mid) (mark_at w.hive mid) w.moment w.ask d
     → ((h : ℕ) → receipts_at h new ≡ receipts_at h mid ++ (if h == w.hive then receipts_of_one w.moment w.ask d else []))
+    → ((h : ℕ) → dropped_at h new ≡ dropped_at h mid)
     → ((h : ℕ) → mark_at h new ≡ (if h == w.hive then mark_by_one (mark_at h mid) w.ask d else mark_at h mid))
     → ((h : ℕ) → taken_at h new ≡ taken_at h mid ++ (if h == w.hive then notices_of_one w.ask d else []))
+    → ((h : ℕ) → popped_at h new ≡ popped_at h mid ++ (if h == w.hive then notices_of_one w.ask d else []))
     → new.number ≡ mid.number → length new.places ≡ length mid.places
     → AreDone answers old (ws ++ w ∷ []) b new (a ++ d ∷ [])
 unfolding given fetched moved
-done_more answers old ws w b a mid new d p kind lawful receipt mark taken number hives = record {
+done_more answers old ws w b a mid new d p kind lawful receipt dropped mark taken popped number hives = record {
   done = p.done ++ d ∷ [];
   outcomes = ap (λ (l : List Done). l ++ d ∷ []) p.outcomes ∙ append_assoc b p.done (d ∷ []);
   kinds = kinds_more ws w p.done d p.kinds kind;
-  lawful = lawful_more answers old ws w p.done d p.kinds p.lawful (lawful_next answers old mid ws p.done w d p.number (p.receipts w.hive) (p.marks w.hive) lawful);
+  lawful = lawful_more answers old ws w p.done d p.kinds p.lawful (lawful_next answers old mid ws p.done w d p.number (p.receipts w.hive) (p.dropped w.hive) (p.marks w.hive) lawful);
+  dropped = λ h. dropped h ∙ p.dropped h;
   marks = λ h. mark h ∙ ap (λ (m : ℕ). moved h m w d) (p.marks h) ∙ sym (mark_more h (mark_at h old) ws w p.done d p.kinds);
   receipts = λ h. (
       receipt h
       ∙ ap (λ (l : List Receipt). l ++ given h w d) (p.receipts h)
       ∙ append_assoc (receipts_at h old) (receipts_by h ws p.done) (given h w d)
       ∙ ap (λ (l : List Receipt). receipts_at h old ++ l) (sym (receipts_more h ws w p.done d p.kinds)));
-  taken = λ h. (
-      taken h
-      ∙ ap (λ (l : List Notice). l ++ fetched h w d) (p.taken h)
-      ∙ append_assoc (taken_at h old) (notices_by h ws p.done) (fetched h w d)
-      ∙ ap (λ (l : List Notice). taken_at h old ++ l) (sym (notices_more h ws w p.done d p.kinds)));
+  taken = λ h. taken h ∙ fetched_more h (taken_at h old) (taken_at h mid) ws w p.done d p.kinds (p.taken h);
+  popped = λ h. popped h ∙ fetched_more h (popped_at h old) (popped_at h mid) ws w p.done d p.kinds (p.popped h);
   number = number ∙ p.number;
   hives = hives ∙ p.hives;
 }
@@ -169,14 +181,16 @@ pub done_next : {C : Type 0} (answers : C → Answers) (old : SessionState) (ws 
     → w ≡ get_or ws i w → AreDone answers old (take i ws) b mid a → is_of_kind w.ask d ≡ true
     → IsLawfulDone answers (seat_at w.hive mid) (mark_at w.hive mid) w.moment w.ask d
     → ((h : ℕ) → receipts_at h new ≡ receipts_at h mid ++ (if h == w.hive then receipts_of_one w.moment w.ask d else []))
+    → ((h : ℕ) → dropped_at h new ≡ dropped_at h mid)
     → ((h : ℕ) → mark_at h new ≡ (if h == w.hive then mark_by_one (mark_at h mid) w.ask d else mark_at h mid))
     → ((h : ℕ) → taken_at h new ≡ taken_at h mid ++ (if h == w.hive then notices_of_one w.ask d else []))
+    → ((h : ℕ) → popped_at h new ≡ popped_at h mid ++ (if h == w.hive then notices_of_one w.ask d else []))
     → new.number ≡ mid.number → length new.places ≡ length mid.places
     → AreDone answers old (take (i + 1) ws) b new (a ++ d ∷ [])
-done_next answers old ws i w b a mid new d below is p kind lawful receipt mark taken number hives =
+done_next answers old ws i w b a mid new d below is p kind lawful receipt dropped mark taken popped number hives =
     let Q : List Work → Type 0 = λ l. AreDone answers old l b new (a ++ d ∷ []) in
     subst Q (sym (take_more ws i w below ∙ ap (λ x. take i ws ++ x ∷ []) (sym is)))
-    (done_more answers old (take i ws) w b a mid new d p kind lawful receipt mark taken number hives)
+    (done_more answers old (take i ws) w b a mid new d p kind lawful receipt dropped mark taken popped number hives)
 
 -- ---- jobs
 

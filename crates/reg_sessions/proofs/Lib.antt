@@ -7,4 +7,7 @@ pub mod Compared
 pub mod Totals
 pub mod Crossings
 pub mod RowsOfLimits
+pub mod QuietChanges
 pub mod Rings
+pub mod Dropped
+pub mod RegistryCuts

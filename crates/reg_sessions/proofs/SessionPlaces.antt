@@ -1,5 +1,5 @@
 -- What a session has at each of its hives, after a call at one of them.
-use Rattle.std.proofs.Common.{◌≡◌, ◌==◌, ◌<◌, ℕ, zero, suc, List, [], ◌∷◌, ◌++◌, length, get_or, set, inl, inr, length-append, ap, ◌∙◌, arith, subst, if◌then◌else◌}
+use Rattle.std.proofs.Common.{◌≡◌, ◌+◌, ◌==◌, ◌<◌, ℕ, zero, suc, List, [], ◌∷◌, ◌++◌, length, get_or, set, inl, inr, length-append, ap, ◌∙◌, arith, subst, if◌then◌else◌}
 use Rattle.std.proofs.lemmas.List.{get_or-set_same, get_or-set_other, get_or_append_left, get_or_default}
 use Rattle.std.proofs.lemmas.Bool.{cases_lt}
 use Rattle.std.proofs.Math.Seq.{get_or-append_seam}
@@ -25,9 +25,9 @@ own-place ps h found within is = is ∙ get_or_default ps h found no_place withi
 -- the seat there, and the mark: the session's own
 pub own-seat : (P : Seat → ℕ → Type 0) (ps : List PlaceState) (h number : ℕ) (found : PlaceState) → h < length ps → found ≡ get_or ps h found
     → ((k : ℕ) → k < length ps → (place_of ps k).seat.session ≡ number) → P (seat_of found) found.mark
-    → P (seat number (length (place_of ps h).receipts)) (place_of ps h).mark
+    → P (seat number ((place_of ps h).dropped + length (place_of ps h).receipts)) (place_of ps h).mark
 own-seat P ps h number found within is all p =
-    subst (λ (n : ℕ). P (seat n (length (place_of ps h).receipts)) (place_of ps h).mark) (all h within)
+    subst (λ (n : ℕ). P (seat n ((place_of ps h).dropped + length (place_of ps h).receipts)) (place_of ps h).mark) (all h within)
     (subst (λ (x : PlaceState). P (seat_of x) x.mark) (own-place ps h found within is) p)
 
 -- a place that stays as it was

@@ -4,7 +4,8 @@ use Rattle.reg_model.specs.Histories.{receipts_of}
 use Rattle.reg_model.specs.declared.reply.Entry.{Entry}
 use Rattle.reg_model.specs.declared.reply.Receipt.{Receipt}
 use Rattle.reg_model.specs.declared.notice.Notice.{Notice as Told}
-use Rattle.reg_calls.specs.Views.{Booked, told_in}
+use Rattle.reg_journal.specs.Kept.{total_of}
+use Rattle.reg_calls.specs.Views.{Booked, next_of, told_in}
 use Rattle.reg_sessions.specs.Sessions.{SessionState, Shape, AreInOrder, receipts_at, taken_at, session_of}
 use Rattle.reg_sessions.specs.declared.gathering.Kept.{Kept}
 use Rattle.reg_sessions.specs.declared.gathering.Kept.TheVariants.{Receipt as OfReceipt, Notice as OfNotice}
@@ -31,6 +32,23 @@ journal_of (Some b) = b.view.journal
 abbrev pub journal_at : List Booked → ℕ → List Entry
 journal_at hives h = journal_of (slice_get hives h)
 
+-- how many changes were accepted: those of the journal, and those before it
+abbrev pub made_of : Option Booked → ℕ
+made_of None = 0
+made_of (Some b) = next_of b.view
+
+-- how many changes hive h accepted
+abbrev pub made_at : List Booked → ℕ → ℕ
+made_at hives h = made_of (slice_get hives h)
+
+-- how many changes of all sessions the book's rows count
+abbrev pub rows_of : Option Booked → ℕ
+rows_of None = 0
+rows_of (Some b) = total_of b.noted b.view.journal
+
+abbrev pub rows_at : List Booked → ℕ → ℕ
+rows_at hives h = rows_of (slice_get hives h)
+
 -- the notices that session s took of hive h; none where there is no such session
 abbrev pub taken_by : List SessionState → ℕ → ℕ → List Told
 taken_by sessions h s = taken_at h (session_of sessions s)
@@ -43,8 +61,8 @@ told_of (Some b) s = told_in b.view s
 abbrev pub told_at : List Booked → ℕ → ℕ → List Told
 told_at hives h s = told_of (slice_get hives h) s
 
--- what is known of hive h: each accepted change of each session is one entry of its journal, in order, and there are no others; so it has as
--- many entries as all sessions have receipts there. Each session took the first of the notices that it was told there, in order, each once
+-- what is known of hive h since its last checkpoint: each accepted change of each session is one entry of its journal, in order, and there
+-- are no others; so it has as many entries as all sessions have receipts there. Each session took the first of the notices that it was told there, in order, each once
 pub record IsAudited (hives : List Booked) (sessions : List SessionState) (h : ℕ) : Type 0 where
   pub gathered : IsGathered (journal_at hives h) h sessions
   pub total : length (journal_at hives h) ≡ sum_by (λ s. length (receipts_at h s)) sessions

@@ -15,7 +15,7 @@ use Rattle.reg_sessions.specs.declared.job.Done.{Done}
 use Rattle.reg_sessions.specs.declared.job.Done.TheVariants.{Outcome, Notice}
 use Rattle.reg_sessions.specs.declared.job.Job.{Job}
 use Rattle.reg_sessions.specs.Locked.{IsLawfulOrLacks, IsLawfulAnswer}
-use Rattle.reg_sessions.specs.Sessions.{SessionState, receipts_at, mark_at, taken_at, notice_of, receipt_of, mark_after, mark_told}
+use Rattle.reg_sessions.specs.Sessions.{SessionState, receipts_at, dropped_at, mark_at, taken_at, popped_at, notice_of, receipt_of, mark_after, mark_told}
 
 -- an outcome is of the kind that was asked for: a reply to a change, an answer to a question, a notice or none to who takes one
 abbrev pub is_of_kind : Ask → Done → Bool
@@ -88,20 +88,22 @@ IsLawfulDone answers share mark moment ask done = ⊥
 abbrev pub AreLawful : {C : Type 0} → (C → Answers) → SessionState → List Work → List Done → Type 0
 AreLawful answers s work done =
     (i : ℕ) (w : Work) (d : Done) → slice_get work i ≡ Some w → slice_get done i ≡ Some d →
-    IsLawfulDone answers (seat s.number (length (receipts_at w.hive s ++ receipts_by w.hive (take i work) (take i done))))
+    IsLawfulDone answers (seat s.number (dropped_at w.hive s + length (receipts_at w.hive s ++ receipts_by w.hive (take i work) (take i done))))
     (mark_by w.hive (mark_at w.hive s) (take i work) (take i done)) w.moment w.ask d
 
 -- the outcomes grew by one for each work, of its kind, lawful, and in order; at each hive the session's receipts grew by just those of its
--- accepted changes with these replies, in order, and its mark is that after them; and the notices that it took by just those among the
--- outcomes, in order
+-- accepted changes with these replies, in order, and none was dropped; its mark is that after them; and the notices that it took, as what
+-- came out of its ring, grew by just those among the outcomes, in order
 pub record AreDone {C : Type 0} (answers : C → Answers) (old : SessionState) (work : List Work) (before : List Done) (new : SessionState) (after : List Done) : Type 0 where
   pub done : List Done
   pub outcomes : after ≡ before ++ done
   pub kinds : are_of_kinds work done ≡ true
   pub lawful : AreLawful answers old work done
   pub receipts : (h : ℕ) → receipts_at h new ≡ receipts_at h old ++ receipts_by h work done
+  pub dropped : (h : ℕ) → dropped_at h new ≡ dropped_at h old
   pub marks : (h : ℕ) → mark_at h new ≡ mark_by h (mark_at h old) work done
   pub taken : (h : ℕ) → taken_at h new ≡ taken_at h old ++ notices_by h work done
+  pub popped : (h : ℕ) → popped_at h new ≡ popped_at h old ++ notices_by h work done
   pub number : new.number ≡ old.number
   pub hives : length new.places ≡ length old.places
 

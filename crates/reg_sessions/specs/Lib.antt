@@ -3,3 +3,4 @@ pub mod Locked
 pub mod Sessions
 pub mod Jobs
 pub mod Gathering
+pub mod Checkpoints

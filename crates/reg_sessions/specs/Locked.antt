@@ -10,31 +10,45 @@ use Rattle.reg_model.specs.declared.call.Query.{Query}
 use Rattle.reg_model.specs.declared.limits.TheConstants.{SESSIONS_LIMIT}
 use Rattle.reg_model.specs.declared.reply.ChangeReply.{ChangeReply}
 use Rattle.reg_model.specs.declared.statuses.TheConstants.{NOT_ENOUGH_MEMORY}
-use Rattle.reg_journal.specs.Kept.{Seat, IsCurrent, row_of}
+use Rattle.reg_journal.specs.Kept.{Seat, IsCurrent, total_of}
 use Rattle.reg_callbacks.specs.Asking.{Answers}
 use Rattle.reg_calls.specs.declared.hive.Hive.{Hive}
 use Rattle.reg_calls.specs.HiveView.{view_of, noted_of, asks_of}
 use Rattle.reg_calls.specs.Views.{View, Booked, next_of, state, IsApplied, IsHive, IsRead}
-use Rattle.reg_outbox.specs.Rings.{RingState, IsAhead}
+use Rattle.reg_model.specs.declared.notice.Notice.{Notice}
+use Rattle.reg_outbox.specs.Rings.{IsAhead, backlog_of}
 
 -- a hive with its book, without its callbacks
 abbrev pub booked_of : {C : Type 0} → Hive C → Booked
 booked_of h = record { view = view_of h; noted = noted_of h }
 
--- what is true of each value that a lock's type admits, and so whenever a lock is free: all that is true of every hive; its journal is whole,
--- and nobody was told of an entry before it; each session's row in the book is the number of its entries; and who has no seat has no entry
+-- what is true of each value that a lock's type admits, and so whenever a lock is free: all that is true of every hive; it has had as many
+-- entries as its sessions' rows count together; where none came before its journal, nobody was told anything before it; and who has no
+-- seat has no entry
 pub record IsAdmitted (b : Booked) : Type 0 where
   pub hive : IsHive b.view
-  pub base : b.view.base ≡ 0
-  pub before : b.view.before ≡ []
-  pub rows : (s : ℕ) → row_of b.noted b.view.journal s ≡ count_of s b.view.journal
+  pub total : next_of b.view ≡ total_of b.noted b.view.journal
+  pub began : b.view.base ≡ 0 → (s : ℕ) → slice_index_or b.view.before s [] ≡ []
   pub seated : (s : ℕ) → length b.noted ≤ s → count_of s b.view.journal ≡ 0
 
--- what is true of the rings that stand with a hive behind its lock, one for each session: what a session's ring was sent, followed by what
--- the hive keeps back for the session, is all that it was told
-pub record AreAhead (rings : List RingState) (hive : View) : Type 0 where
-  pub few : length rings ≤ SESSIONS_LIMIT
-  pub each : (s : ℕ) (d : RingState) → s < length rings → IsAhead (slice_index_or rings s d).sent s hive
+-- the end of a session's ring that stands with a hive: all that was sent into the ring, for how many notices it is known to have room, and
+-- how many the hive kept back for the session when it was last looked at
+pub record LineState : Type 0 where
+  pub sent : List Notice
+  pub free : ℕ
+  pub kept : ℕ
+
+-- what is true of it while the hive's lock is free: what was sent, followed by what the hive keeps back for the session, is all that the
+-- session was told; as many are kept back as then; and none, unless the ring was full
+pub record IsLine (line : LineState) (session : ℕ) (hive : View) : Type 0 where
+  pub ahead : IsAhead line.sent session hive
+  pub kept : line.kept ≡ length (backlog_of session hive)
+  pub full : (backlog_of session hive ≡ []) ⊎ (line.free ≡ 0)
+
+-- so are those of a hive
+pub record AreAhead (lines : List LineState) (hive : View) : Type 0 where
+  pub few : length lines ≤ SESSIONS_LIMIT
+  pub each : (s : ℕ) (d : LineState) → s < length lines → IsLine (slice_index_or lines s d) s hive
 
 -- a hive that a lock's type admits, at which a share is current, and which has had as many entries as a mark
 pub record IsInSight {C : Type 0} (share : Seat) (mark : ℕ) (h : Hive C) : Type 0 where

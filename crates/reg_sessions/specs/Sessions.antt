@@ -1,5 +1,5 @@
 -- Sessions, as their callers see them.
-use Rattle.std.specs.Prelude.{◌≡◌, ◌+◌, ◌<◌, ◌==◌, ℕ, Bool, true, false, List, [], ◌∷◌, Option, Some, None, length, nat_lt, slice_index_or, unwrap_or, if◌then◌else◌}
+use Rattle.std.specs.Prelude.{◌≡◌, ◌+◌, ◌<◌, ◌==◌, ◌&&◌, ℕ, Bool, true, false, List, [], ◌∷◌, Option, Some, None, length, nat_lt, slice_index_or, unwrap_or, if◌then◌else◌}
 use Rattle.reg_model.specs.declared.answer.Answer.{Answer}
 use Rattle.reg_model.specs.declared.answer.AnswerBody.{AnswerBody}
 use Rattle.reg_model.specs.declared.answer.AnswerBody.TheVariants.{Refused, Short, Value, Key, Member, Info, Security}
@@ -15,20 +15,28 @@ pub record Shape : Type 0 where
   pub hives : ℕ
   pub sessions : ℕ
 
--- what a session has at a hive: its seat, its receipts, and its mark; the notices that it took, and all that came out of its ring
+-- what a session has at a hive: its seat, its receipts since the hive's last checkpoint, how many a checkpoint dropped, and its mark; the
+-- notices that it took, and all that came out of its ring; how many of its handles are open there, and how many Notify calls were accepted
 pub record PlaceState : Type 0 where
   pub seat : Seat
   pub receipts : List Receipt
+  pub dropped : ℕ
   pub mark : ℕ
   pub taken : List Notice
   pub popped : List Notice
+  pub handles : ℕ
+  pub notifies : ℕ
 
 abbrev pub no_place : PlaceState
-no_place = record { seat = seat 0 0; receipts = []; mark = 0; taken = []; popped = [] }
+no_place = record { seat = seat 0 0; receipts = []; dropped = 0; mark = 0; taken = []; popped = []; handles = 0; notifies = 0 }
 
--- the seat, whose share counts the receipts
+-- the seat, whose share counts the receipts, dropped ones too
 abbrev pub seat_of : PlaceState → Seat
-seat_of p = seat p.seat.session (length p.receipts)
+seat_of p = seat p.seat.session (p.dropped + length p.receipts)
+
+-- the same without its receipts, which were dropped, and without an open handle
+abbrev pub without_receipts : PlaceState → PlaceState
+without_receipts p = record p { receipts = []; dropped = p.dropped + length p.receipts; handles = 0 }
 
 abbrev pub place_of : List PlaceState → ℕ → PlaceState
 place_of places hive = slice_index_or places hive no_place
@@ -37,16 +45,19 @@ pub record SessionState : Type 0 where
   pub number : ℕ
   pub places : List PlaceState
 
--- the receipts of a session at a hive, how many accepted changes its share counts there, and its mark
+-- the receipts of a session at a hive, how many were dropped, how many accepted changes its share counts there, and its mark
 abbrev pub receipts_at : ℕ → SessionState → List Receipt
 receipts_at hive s = (place_of s.places hive).receipts
+
+abbrev pub dropped_at : ℕ → SessionState → ℕ
+dropped_at hive s = (place_of s.places hive).dropped
 
 abbrev pub count_at : ℕ → SessionState → ℕ
 count_at hive s = (place_of s.places hive).seat.count
 
--- the session's seat at a hive, whose share counts its receipts there
+-- the session's seat at a hive, whose share counts its receipts there, dropped ones too
 abbrev pub seat_at : ℕ → SessionState → Seat
-seat_at hive s = seat s.number (length (receipts_at hive s))
+seat_at hive s = seat s.number (dropped_at hive s + length (receipts_at hive s))
 
 abbrev pub mark_at : ℕ → SessionState → ℕ
 mark_at hive s = (place_of s.places hive).mark
@@ -98,11 +109,34 @@ closes (SetSecurity h descriptor) = false
 closes (Notify h filter subtree) = false
 closes (Close h) = true
 
+-- the change sets a watch
+abbrev pub watches : Change → Bool
+watches (OpenRoot mask) = false
+watches (OpenKey h path mask) = false
+watches (CreateKey h path mask descriptor) = false
+watches (SetValue h name kind bytes) = false
+watches (DeleteValue h name) = false
+watches (DeleteKey h path) = false
+watches (DeleteTree h path) = false
+watches (SetSecurity h descriptor) = false
+watches (Notify h filter subtree) = true
+watches (Close h) = false
+
+-- how many Notify calls were accepted, after a change
+abbrev pub notifies_after : ℕ → Change → ChangeReply → ℕ
+notifies_after n change reply = if reply.status == 0 && watches change then n + 1 else n
+
 abbrev pub no_session : SessionState
 no_session = record { number = 0; places = [] }
 
 abbrev pub session_of : List SessionState → ℕ → SessionState
 session_of sessions s = slice_index_or sessions s no_session
+
+-- of a session the receipts at a hive were dropped, and nothing else changed
+pub record IsDropped (hive : ℕ) (old new : SessionState) : Type 0 where
+  pub number : new.number ≡ old.number
+  pub seats : length new.places ≡ length old.places
+  pub places : (h : ℕ) → place_of new.places h ≡ (if h == hive then without_receipts (place_of old.places h) else place_of old.places h)
 
 -- the sessions are those below n, in order
 abbrev pub AreInOrder : ℕ → List SessionState → Type 0
@@ -113,6 +147,7 @@ pub record IsFresh (number hives : ℕ) (s : SessionState) : Type 0 where
   pub is_number : s.number ≡ number
   pub seats : length s.places ≡ hives
   pub receipts : (h : ℕ) → receipts_at h s ≡ []
+  pub dropped : (h : ℕ) → dropped_at h s ≡ 0
   pub marks : (h : ℕ) → mark_at h s ≡ 0
   pub taken : (h : ℕ) → taken_at h s ≡ []
   pub popped : (h : ℕ) → popped_at h s ≡ []

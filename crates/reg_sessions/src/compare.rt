@@ -24,12 +24,7 @@ fn entry_at<C: Callback>(hive: &Hive<C>, place: usize) -> &Entry
     requires { place < length (view_of hive.now).journal }
     ensures { Some result.now ≡ slice_get (view_of hive.now).journal place }
 {
-    // Only for its clauses: the first entry has the number 0.
-    let _ = hive.len();
-    let Some(entry) = hive.entry(place) else {
-        unreachable!();
-    };
-    entry
+    &hive.entries()[place]
 }
 
 /// Whether the receipt at a place is that of an entry.
@@ -50,7 +45,7 @@ pub fn first_gap<C: Callback>(hive: &Hive<C>, number: u8, sessions: &[Session]) 
     ensures none { IfNone result (IsGathered (view_of hive.now).journal number sessions.now) }
 {
     let mut places = [0usize; SESSIONS_LIMIT];
-    for i in 0..hive.len() {
+    for i in 0..hive.entries().len() {
         let entry = entry_at(hive, i);
         let s = entry.session as usize;
         if s >= sessions.len() {

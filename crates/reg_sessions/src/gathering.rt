@@ -3,7 +3,7 @@ ghost use Rattle.reg_model.specs.declared.limits.TheConstants.{SESSIONS_LIMIT};
 ghost use Rattle.reg_sessions.specs.declared.registry.TheConstants.{HIVES_LIMIT};
 ghost use Rattle.reg_sessions.specs.Locked.{booked_of, IsAdmitted};
 ghost use Rattle.reg_sessions.specs.Sessions.{AreInOrder};
-ghost use Rattle.reg_sessions.specs.Gathering.{IsAudited, IsDue, IsMismatch, journal_at};
+ghost use Rattle.reg_sessions.specs.Gathering.{IsAudited, IsDue, IsMismatch, made_at, rows_at};
 
 use crate::compare::{Gap, first_gap, first_stray};
 use crate::locked::Locked;
@@ -81,8 +81,8 @@ impl<C: Callback> Audit<C> {
         self.hives.len()
     }
 
-    /// A hive, as its lock held it: whole, with a legal journal of which it is the replay, and with each session's row the number of its
-    /// entries (clause `admitted`).
+    /// A hive, as its lock held it: whole, with a legal journal of which it is the replay, and with as many entries as its sessions' rows
+    /// count together (clause `admitted`).
     pub fn hive(&self, hive: u8) -> &Hive<C>
         requires { hive < length self.now }
         ensures hive { slice_get self.now hive ≡ Some (booked_of result.now) }
@@ -91,17 +91,18 @@ impl<C: Callback> Audit<C> {
         self.hives[hive as usize].hive()
     }
 
-    /// How many changes a hive accepted: the length of its journal.
+    /// How many changes a hive accepted, before its last checkpoint and since: the sum of its book's rows (clause `rows`).
     pub fn entries(&self, hive: u8) -> u64
         requires { hive < length self.now }
-        ensures { result ≡ length (journal_at self.now hive) }
+        ensures made { result ≡ made_at self.now hive }
+        ensures rows { result ≡ rows_at self.now hive }
     {
         self.hive(hive).len() as u64
     }
 }
 
 /// Whether the sessions are those below `n`, in order.
-fn are_in_order(sessions: &[Session], n: u8) -> bool
+pub(crate) fn are_in_order(sessions: &[Session], n: u8) -> bool
     ensures { IsTrue result ↔ AreInOrder n sessions.now }
 {
     if sessions.len() != n as usize {
@@ -176,7 +177,7 @@ fn first_spot<C: Callback>(audit: &Audit<C>, sessions: &[Session]) -> Option<Spo
 }
 
 /// Takes the hives out of their locks, and compares each journal with the receipts of all sessions. Where it is Ok, each journal holds of
-/// each session just the accepted changes that the session has receipts of, in order, and no others. `Sessions` exactly where the list
+/// each session just the accepted changes since the last checkpoint that the session has receipts of, in order, and no others. `Sessions` exactly where the list
 /// isn't that of the sessions that were started, in order; it hands all back. Else `Mismatch` where a receipt and its entry differ, or one
 /// is missing, or where a notice that was taken isn't the one that was told. Where it is Ok, each session took the first of the notices
 /// that each hive told it, in order. Takes no memory.

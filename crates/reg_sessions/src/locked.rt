@@ -3,12 +3,12 @@ ghost use Rattle.std.specs.Prelude.{◌≡◌, ◌≢◌, ◌+◌, ◌<◌, ◌�
 ghost use Rattle.reg_model.specs.declared.answer.AnswerBody.TheVariants.{Refused};
 ghost use Rattle.reg_model.specs.declared.statuses.TheConstants.{BAD_DATABASE, NOT_ENOUGH_MEMORY};
 ghost use Rattle.reg_model.specs.Replies.{refusal};
-ghost use Rattle.reg_model.specs.declared.limits.TheConstants.{JOURNAL_LIMIT};
+ghost use Rattle.reg_model.specs.declared.limits.TheConstants.{JOURNAL_LIMIT, NUMBERS_LIMIT};
 ghost use Rattle.reg_calls.specs.HiveView.{asks_of};
 ghost use Rattle.reg_calls.specs.Views.{View, next_of, IsAccepted};
 ghost use Rattle.reg_sessions.specs.Locked.{booked_of, IsAdmitted, IsLawfulReply, IsLawfulOrLacks, IsLawfulAnswer};
 ghost use Rattle.reg_sessions.specs.Internal.Answered.{IsAnswered, IsCauseOf, IsAsked};
-ghost use Rattle.reg_sessions.specs.Internal.Moved.{AreMoved};
+ghost use Rattle.reg_sessions.specs.Internal.Moved.{AreHandedOut, AreMoved};
 
 use crate::lines::{Line, push_told, refill_of};
 use reg_callbacks::{Callback, CallbackFault, Cookie};
@@ -18,8 +18,8 @@ use reg_model::statuses::{BAD_DATABASE, NOT_ENOUGH_MEMORY};
 use reg_model::{Answer, AnswerBody, Change, ChangeReply, Query};
 use std::marker::Model;
 
-/// What stands behind a hive's lock: the hive, and an end of each session's ring. What is true of each value of this type (`IsAdmitted`,
-/// `AreAhead`) is true whenever the lock is free.
+/// What stands behind a hive's lock: the hive, and for each session that has a seat an end of its ring. What is true of each value of this
+/// type (`IsAdmitted`, `AreAhead`) is true whenever the lock is free.
 #[derive(Drop)]
 pub struct Locked<C = Box<dyn Callback + Send>> {
     pub(crate) hive: Hive<C>,
@@ -27,8 +27,9 @@ pub struct Locked<C = Box<dyn Callback + Send>> {
 }
 
 impl<C> Model for Locked<C> {
+    ghost use Rattle.std.specs.Prelude.{◌≡◌, length};
     ghost use Rattle.reg_calls.specs.Views.{Booked, coded_booked};
-    ghost use Rattle.reg_calls.specs.HiveView.{view_of};
+    ghost use Rattle.reg_calls.specs.HiveView.{view_of, noted_of};
     ghost use Rattle.reg_sessions.specs.Locked.{booked_of, AreAhead, IsAdmitted};
 
     ghost Value = { Booked };
@@ -37,7 +38,8 @@ impl<C> Model for Locked<C> {
 
     ghost view = { λ l. booked_of l.hive };
 
-    ghost invariant = { λ l. IsAdmitted (booked_of l.hive) × AreAhead l.lines.items (view_of l.hive) };
+    ghost invariant = { λ l. IsAdmitted (booked_of l.hive) × AreAhead l.lines.items (view_of l.hive)
+        × (length l.lines.items ≡ length (noted_of l.hive)) };
 }
 
 /// A reply that refuses.
@@ -96,7 +98,7 @@ impl<C: Callback> Locked<C> {
 
     /// Moves on what is kept back for a session, as far as its ring has room.
     pub(crate) fn refill(&mut self, session: u8)
-        ensures moved { AreMoved self.old.view self.new.view }
+        ensures moved { AreHandedOut session self.old.view self.new.view }
         ensures noted { self.new.noted ≡ self.old.noted }
     {
         refill_of(&mut self.hive, &mut self.lines, session);
@@ -105,7 +107,7 @@ impl<C: Callback> Locked<C> {
     /// Whether the hive has had fewer entries than a mark.
     fn is_behind(&self, mark: u64) -> bool
         ensures behind { IsTrue result ↔ (next_of self.now.view < mark) }
-        ensures few { next_of self.now.view ≤ JOURNAL_LIMIT }
+        ensures few { next_of self.now.view ≤ NUMBERS_LIMIT + JOURNAL_LIMIT }
     {
         (self.hive.len() as u64) < mark
     }
@@ -124,7 +126,7 @@ impl<C: Callback> Locked<C> {
             (mid : View) × IsAccepted self.old.view mid share.old.session moment change result × AreMoved mid self.new.view }
         ensures number { result.status ≡ 0 → result.number ≡ Some (next_of self.old.view) }
         ensures later { result.status ≡ 0 → (share.old.count ≤ next_of self.old.view) × (mark ≤ next_of self.old.view) }
-        ensures few { next_of self.old.view ≤ JOURNAL_LIMIT }
+        ensures few { next_of self.old.view ≤ NUMBERS_LIMIT + JOURNAL_LIMIT }
         ensures counted { result.status ≡ 0 → share.new.count ≡ share.old.count + 1 }
         ensures refused { result.status ≢ 0 → (self.new ≡ self.old) × (share.new ≡ share.old) }
         ensures lawful { result.status ≢ BAD_DATABASE → IsLawfulReply C.answers share.old mark moment change result }

@@ -1,9 +1,9 @@
 //! What a session has at one hive.
-ghost use Rattle.std.specs.Prelude.{◌≡◌, ◌≢◌, ◌+◌, ◌-◌, ◌^◌, ◌<◌, ◌≤◌, ◌==◌, [], ◌++◌, ℕ, length, max, Some, false, true, IfOk, OnOk, vec_len, vec_capacity};
+ghost use Rattle.std.specs.Prelude.{◌≡◌, ◌≢◌, ◌+◌, ◌-◌, ◌^◌, ◌<◌, ◌≤◌, ◌==◌, [], ◌++◌, ℕ, length, max, Some, false, true, IfOk, OnOk, vec_len, vec_capacity, if◌then◌else◌};
 ghost use Rattle.reg_model.specs.declared.answer.AnswerBody.TheVariants.{Refused};
 ghost use Rattle.reg_model.specs.declared.statuses.TheConstants.{BAD_DATABASE};
 ghost use Rattle.reg_sessions.specs.Locked.{IsLawfulOrLacks, IsLawfulAnswer};
-ghost use Rattle.reg_sessions.specs.Sessions.{PlaceState, notice_of, receipt_of, mark_after, mark_told, seat_of, status_told, closes as closes_of};
+ghost use Rattle.reg_sessions.specs.Sessions.{PlaceState, notice_of, receipt_of, mark_after, mark_told, seat_of, status_told, closes as closes_of, watches as watches_of, notifies_after as notifies_told, without_receipts};
 
 use crate::gate::HiveGate;
 use crate::locked::Locked;
@@ -15,7 +15,7 @@ use std::alloc::{AllocError, Global};
 use std::marker::Model;
 use std::sync::{Mutex, Wait};
 
-/// What a session has at one hive: its seat, a receipt of each of its accepted changes there, and its mark; its end of the ring by which
+/// What a session has at one hive: its seat, a receipt of each of its accepted changes there since the last checkpoint, and its mark; its end of the ring by which
 /// the hive's notices come, and those that it took. For the closing of each handle that it has open there is room for the receipt, so that
 /// a Close takes no memory; for the notice of each accepted Notify there is room, so that to take it takes none.
 #[derive(Drop)]
@@ -27,12 +27,12 @@ pub struct Place {
     handles: usize,
     inbox: Inbox,
     taken: Vec<Notice>,
-    // How many Notify calls of the session were accepted there.
+    // How many Notify calls of the session were accepted there: there is room for a notice of each.
     notifies: usize,
 }
 
 impl Model for Place {
-    ghost use Rattle.std.specs.Prelude.{◌≡◌, ◌≤◌, ◌+◌, length, vec_len, vec_capacity};
+    ghost use Rattle.std.specs.Prelude.{◌≤◌, ◌+◌, ◌-◌, length, vec_len, vec_capacity};
     ghost use Rattle.reg_sessions.specs.Sessions.{PlaceState};
 
     ghost Value = { PlaceState };
@@ -40,12 +40,16 @@ impl Model for Place {
     ghost view = { λ p. record {
       seat = p.share;
       receipts = p.receipts.items;
+      dropped = p.share.count - length p.receipts.items;
       mark = p.mark;
       taken = p.taken.items;
       popped = p.inbox;
+      handles = p.handles;
+      notifies = p.notifies;
     } };
 
-    ghost invariant = { λ p. (length p.receipts.items ≡ p.share.count) × (vec_len p.receipts + p.handles ≤ vec_capacity p.receipts) };
+    ghost invariant = { λ p. (length p.receipts.items ≤ p.share.count) × (vec_len p.receipts + p.handles ≤ vec_capacity p.receipts)
+        × (p.notifies ≤ vec_capacity p.taken) };
 }
 
 /// Whether a change closes a handle.
@@ -98,27 +102,36 @@ fn two_copies(alloc: Global, change: &Change) -> Result<(Change, Change), AllocE
     Ok((entered, kept))
 }
 
+/// Whether a change sets a watch.
+fn watches(change: &Change) -> bool
+    ensures { result ≡ watches_of change.now }
+{
+    matches!(change, Change::Notify { .. })
+}
+
 /// Makes room for the notice of a Notify, beside those of the accepted ones, so many.
 fn make_notice_room(
     taken: &mut Vec<Notice>,
     notifies: usize,
-    change: &Change,
+    is_notify: bool,
 ) -> Result<(), AllocError>
-    ensures { taken.new.items ≡ taken.old.items }
+    requires { notifies ≤ vec_capacity taken.old }
+    ensures taken { taken.new.items ≡ taken.old.items }
+    ensures kept { notifies ≤ vec_capacity taken.new }
+    ensures more { OnOk result (is_notify ≡ true → notifies + 1 ≤ vec_capacity taken.new) }
 {
-    if !matches!(change, Change::Notify { .. }) {
+    if !is_notify {
         return Ok(());
     }
-    taken.reserve(notifies.saturating_sub(taken.len()).saturating_add(1))
+    taken.reserve(notifies.saturating_sub(taken.len()) + 1)
 }
 
 /// How many Notify calls were accepted after an accepted change.
-fn notifies_after(notifies: usize, change: &Change) -> usize {
-    if matches!(change, Change::Notify { .. }) {
-        notifies.saturating_add(1)
-    } else {
-        notifies
-    }
+fn notifies_after(notifies: usize, is_notify: bool) -> usize
+    requires { notifies < 2 ^ 64 - 1 }
+    ensures { result ≡ (if is_notify then notifies + 1 else notifies) }
+{
+    if is_notify { notifies + 1 } else { notifies }
 }
 
 /// All that a change takes of memory here: room and copies.
@@ -130,16 +143,19 @@ fn prepared(
     notifies: usize,
     change: &Change,
 ) -> Result<(Change, Change), AllocError>
-    requires { vec_len receipts.old + handles ≤ vec_capacity receipts.old }
+    requires room { vec_len receipts.old + handles ≤ vec_capacity receipts.old }
+    requires notices { notifies ≤ vec_capacity taken.old }
     ensures receipts { receipts.new.items ≡ receipts.old.items }
     ensures taken { taken.new.items ≡ taken.old.items }
     ensures kept { vec_len receipts.new + handles ≤ vec_capacity receipts.new }
+    ensures notices { notifies ≤ vec_capacity taken.new }
+    ensures notice { OnOk result (watches_of change.now ≡ true → notifies + 1 ≤ vec_capacity taken.new) }
     ensures room { OnOk result (vec_len receipts.new < vec_capacity receipts.new) }
     ensures more { OnOk result (closes_of change.now ≡ false → vec_len receipts.new + handles + 2 ≤ vec_capacity receipts.new) }
     ensures copies { IfOk result (λ both. (both.0 ≡ change.now) × (both.1 ≡ change.now)) }
 {
     make_room(receipts, handles, closes(change))?;
-    make_notice_room(taken, notifies, change)?;
+    make_notice_room(taken, notifies, watches(change))?;
     two_copies(alloc, change)
 }
 
@@ -163,7 +179,7 @@ impl Place {
     pub fn new(alloc: Global, share: Share, inbox: Inbox) -> Place
         requires count { share.count ≡ 0 }
         requires empty { inbox ≡ [] }
-        ensures { result ≡ record { seat = share; receipts = []; mark = 0; taken = []; popped = [] } }
+        ensures { result ≡ record { seat = share; receipts = []; dropped = 0; mark = 0; taken = []; popped = []; handles = 0; notifies = 0 } }
     {
         Place {
             share,
@@ -176,12 +192,20 @@ impl Place {
         }
     }
 
-    /// The receipts, as many as the share counts.
+    /// The receipts, as many as the share has counted since the last checkpoint.
     pub fn receipts(&self) -> &[Receipt]
         ensures receipts { result.now ≡ self.now.receipts }
-        ensures counted { length self.now.receipts ≡ self.now.seat.count }
+        ensures counted { self.now.dropped + length self.now.receipts ≡ self.now.seat.count }
     {
         self.receipts.as_slice()
+    }
+
+    /// Drops the receipts, which a checkpoint compared, and gives their room back: no handle is open then. Takes no memory.
+    pub fn drop_receipts(&mut self, alloc: Global)
+        ensures { self.new ≡ without_receipts self.old }
+    {
+        self.receipts = Vec::new(alloc);
+        self.handles = 0;
     }
 
     /// The notices that were taken, in order.
@@ -196,6 +220,7 @@ impl Place {
         ensures taken { self.new.taken ≡ self.old.taken ++ notice_of result }
         ensures popped { self.new.popped ≡ self.old.popped ++ notice_of result }
         ensures kept { (self.new.seat ≡ self.old.seat) × (self.new.receipts ≡ self.old.receipts) × (self.new.mark ≡ self.old.mark) }
+        ensures dropped { self.new.dropped ≡ self.old.dropped }
     {
         if self.taken.len() >= self.taken.capacity() {
             return None;
@@ -217,10 +242,12 @@ impl Place {
         change: &Change,
     ) -> ChangeReply
         ensures receipts { self.new.receipts ≡ self.old.receipts ++ receipt_of moment change.now result }
+        ensures dropped { self.new.dropped ≡ self.old.dropped }
+        ensures notifies { self.new.notifies ≡ notifies_told self.old.notifies change.now result }
         ensures mark { self.new.mark ≡ mark_after self.old.mark result }
         ensures session { self.new.seat.session ≡ self.old.seat.session }
         ensures notices { (self.new.taken ≡ self.old.taken) × (self.new.popped ≡ self.old.popped) }
-        ensures accepted { result.status ≡ 0 → (n : ℕ) × (result.number ≡ Some n) × (length self.old.receipts ≤ n) × (self.old.mark ≤ n) }
+        ensures accepted { result.status ≡ 0 → (n : ℕ) × (result.number ≡ Some n) × (self.old.seat.count ≤ n) × (self.old.mark ≤ n) }
         ensures refused { result.status ≢ 0 → self.new ≡ self.old }
         ensures lawful { result.status ≢ BAD_DATABASE →
             IsLawfulOrLacks C.answers (seat_of self.old) self.old.mark moment change.now result }
@@ -234,6 +261,7 @@ impl Place {
             change,
         );
         let is_close = closes(change);
+        let is_notify = watches(change);
         let session = self.share.session();
         let mut guard = lock.lock(rt);
         gate.inside(session, hive);
@@ -252,7 +280,7 @@ impl Place {
                 unreachable!();
             };
             self.handles = handles_after(self.handles, is_close, &reply);
-            self.notifies = notifies_after(self.notifies, change);
+            self.notifies = notifies_after(self.notifies, is_notify);
             self.receipts.push_reserved(Receipt {
                 number,
                 moment,
@@ -273,11 +301,11 @@ impl Place {
         hive: u8,
         query: &Query,
     ) -> Answer
-        ensures kept { (self.new.receipts ≡ self.old.receipts) × (self.new.seat ≡ self.old.seat) }
+        ensures kept { (self.new.receipts ≡ self.old.receipts) × (self.new.dropped ≡ self.old.dropped) × (self.new.seat ≡ self.old.seat) }
         ensures notices { (self.new.taken ≡ self.old.taken) × (self.new.popped ≡ self.old.popped) }
         ensures mark { self.new.mark ≡ mark_told self.old.mark result }
         ensures refused { status_told result.body ≢ 0 → self.new ≡ self.old }
-        ensures later { result.body ≢ Refused BAD_DATABASE → (length self.old.receipts ≤ result.at) × (self.old.mark ≤ result.at) }
+        ensures later { result.body ≢ Refused BAD_DATABASE → (self.old.seat.count ≤ result.at) × (self.old.mark ≤ result.at) }
         ensures lawful { result.body ≢ Refused BAD_DATABASE → IsLawfulAnswer C.answers (seat_of self.old) self.old.mark query.now result }
     {
         let session = self.share.session();

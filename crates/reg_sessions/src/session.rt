@@ -1,8 +1,8 @@
-ghost use Rattle.std.specs.Prelude.{◌≡◌, ◌≢◌, ◌<◌, ◌≤◌, ◌==◌, ℕ, [], ◌∷◌, ◌++◌, length, Some, OnErr, OnOk, if◌then◌else◌};
+ghost use Rattle.std.specs.Prelude.{◌≡◌, ◌≢◌, ◌+◌, ◌<◌, ◌≤◌, ◌==◌, ℕ, [], ◌∷◌, ◌++◌, length, Some, OnErr, OnOk, if◌then◌else◌};
 ghost use Rattle.reg_model.specs.declared.answer.AnswerBody.TheVariants.{Refused};
 ghost use Rattle.reg_model.specs.declared.statuses.TheConstants.{BAD_DATABASE};
 ghost use Rattle.reg_sessions.specs.Locked.{IsLawfulOrLacks, IsLawfulAnswer};
-ghost use Rattle.reg_sessions.specs.Sessions.{SessionState, receipts_at, count_at, mark_at, seat_at, taken_at, popped_at, notice_of, receipt_of, mark_after, mark_told, status_told};
+ghost use Rattle.reg_sessions.specs.Sessions.{SessionState, IsDropped, receipts_at, dropped_at, count_at, mark_at, seat_at, taken_at, popped_at, notice_of, receipt_of, mark_after, mark_told, status_told};
 
 use crate::gate::HiveGate;
 use crate::place::Place;
@@ -13,9 +13,10 @@ use std::alloc::{AllocError, Global};
 use std::marker::Model;
 use std::sync::Wait;
 
-/// A session: who calls, one call after another, with its seat at each hive. It keeps a receipt of each of its accepted changes. Its mark
-/// on a hive is how many entries that hive has had at least, by all that the session was told of it: the greatest of `at` of its answers
-/// with status 0, and of the number after that of each of its accepted changes.
+/// A session: who calls, one call after another, with its seat at each hive. It keeps a receipt of each of its accepted changes since the
+/// hive's last checkpoint. Its mark on a hive is how many entries that hive has had at least, by all that the session was told of it: the
+/// greatest of `at` of its answers with status 0, and of the number after that of each of its accepted changes. What a hive tells it comes
+/// by its ring there, a queue of 64 notices. [`Session::take_notice`] takes the next one without the hive's lock.
 #[derive(Drop)]
 pub struct Session {
     alloc: Global,
@@ -71,14 +72,26 @@ impl Session {
         self.places.len()
     }
 
-    /// The receipts of the session's accepted changes at a hive, in order: as many as its share counts there. None at a hive that isn't there.
+    /// The receipts of the session's accepted changes at a hive since its last checkpoint, in order: as many as its share has counted there
+    /// since. None at a hive that isn't there.
     pub fn receipts(&self, hive: u8) -> &[Receipt]
         ensures receipts { result.now ≡ receipts_at hive self.now }
-        ensures counted { length (receipts_at hive self.now) ≡ count_at hive self.now }
+        ensures counted { dropped_at hive self.now + length (receipts_at hive self.now) ≡ count_at hive self.now }
     {
         match self.places.get(hive as usize) {
             Some(place) => place.receipts(),
             None => &[],
+        }
+    }
+
+    /// Drops the receipts at a hive, which a checkpoint compared. Takes no memory.
+    #[tactic(auto, using(crate::proofs::SessionPlaces::place_set))]
+    pub(crate) fn drop_receipts(&mut self, hive: u8)
+        ensures { IsDropped hive self.old self.new }
+    {
+        let alloc = self.alloc;
+        if (hive as usize) < self.places.len() {
+            self.places[hive as usize].drop_receipts(alloc);
         }
     }
 
@@ -111,9 +124,10 @@ impl Session {
         ensures receipts { (h : ℕ) → receipts_at h self.new ≡ receipts_at h self.old ++ (if h == hive then receipt_of moment change.now result else []) }
         ensures marks { (h : ℕ) → mark_at h self.new ≡ (if h == hive then mark_after (mark_at h self.old) result else mark_at h self.old) }
         ensures notices { (h : ℕ) → (taken_at h self.new ≡ taken_at h self.old) × (popped_at h self.new ≡ popped_at h self.old) }
+        ensures dropped { (h : ℕ) → dropped_at h self.new ≡ dropped_at h self.old }
         ensures kept { (self.new.number ≡ self.old.number) × (length self.new.places ≡ length self.old.places) }
         ensures refused { result.status ≢ 0 → self.new ≡ self.old }
-        ensures later { result.status ≡ 0 → (n : ℕ) × (result.number ≡ Some n) × (length (receipts_at hive self.old) ≤ n) × (mark_at hive self.old ≤ n) }
+        ensures later { result.status ≡ 0 → (n : ℕ) × (result.number ≡ Some n) × (count_at hive self.old ≤ n) × (mark_at hive self.old ≤ n) }
         ensures lawful { result.status ≢ BAD_DATABASE →
             IsLawfulOrLacks C.answers (seat_at hive self.old) (mark_at hive self.old) moment change.now result }
     {
@@ -138,9 +152,10 @@ impl Session {
         ensures receipts { (h : ℕ) → receipts_at h self.new ≡ receipts_at h self.old }
         ensures marks { (h : ℕ) → mark_at h self.new ≡ (if h == hive then mark_told (mark_at h self.old) result else mark_at h self.old) }
         ensures notices { (h : ℕ) → (taken_at h self.new ≡ taken_at h self.old) × (popped_at h self.new ≡ popped_at h self.old) }
+        ensures dropped { (h : ℕ) → dropped_at h self.new ≡ dropped_at h self.old }
         ensures kept { (self.new.number ≡ self.old.number) × (length self.new.places ≡ length self.old.places) }
         ensures refused { status_told result.body ≢ 0 → self.new ≡ self.old }
-        ensures later { result.body ≢ Refused BAD_DATABASE → (length (receipts_at hive self.old) ≤ result.at) × (mark_at hive self.old ≤ result.at) }
+        ensures later { result.body ≢ Refused BAD_DATABASE → (count_at hive self.old ≤ result.at) × (mark_at hive self.old ≤ result.at) }
         ensures lawful { result.body ≢ Refused BAD_DATABASE → IsLawfulAnswer C.answers (seat_at hive self.old) (mark_at hive self.old) query.now result }
     {
         let lock = registry.lock(hive);
@@ -157,6 +172,7 @@ impl Session {
         ensures popped { (h : ℕ) → popped_at h self.new ≡ popped_at h self.old ++ (if h == hive then notice_of result else []) }
         ensures receipts { (h : ℕ) → receipts_at h self.new ≡ receipts_at h self.old }
         ensures marks { (h : ℕ) → mark_at h self.new ≡ mark_at h self.old }
+        ensures dropped { (h : ℕ) → dropped_at h self.new ≡ dropped_at h self.old }
         ensures kept { (self.new.number ≡ self.old.number) × (length self.new.places ≡ length self.old.places) }
     {
         self.places[hive as usize].take_notice()

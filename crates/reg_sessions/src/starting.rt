@@ -1,10 +1,11 @@
-ghost use Rattle.std.specs.Prelude.{◌≡◌, ◌+◌, ◌<◌, ◌≤◌, ◌↔◌, ◌⊎◌, ℕ, [], map, IfOk, IsErrOf, IsTrue, OnOk, vec_len};
+ghost use Rattle.std.specs.Prelude.{◌≡◌, ◌+◌, ◌<◌, ◌≤◌, ◌↔◌, ◌⊎◌, ℕ, [], map, length, IfOk, IsErrOf, IsTrue, OnOk, vec_len};
 ghost use Rattle.reg_model.specs.declared.limits.TheConstants.{SESSIONS_LIMIT};
 ghost use Rattle.reg_sessions.specs.declared.registry.TheConstants.{HIVES_LIMIT};
 ghost use Rattle.std.specs.List.{range_with_len};
 ghost use Rattle.reg_journal.specs.Kept.{seat};
 ghost use Rattle.reg_calls.specs.HiveView.{view_of};
 ghost use Rattle.reg_calls.specs.Views.{told_in};
+ghost use Rattle.reg_sessions.specs.Internal.Moved.{AreSilent, HasSeats};
 ghost use Rattle.reg_sessions.specs.Locked.{booked_of, IsAdmitted, IsUnused, AreUnused};
 ghost use Rattle.reg_sessions.specs.Sessions.{IsFresh, AreFresh, AreInOrder, session_of};
 
@@ -63,13 +64,14 @@ fn fresh_sessions(alloc: Global, n: u8) -> Result<Vec<Session>, AllocError>
 }
 
 /// Gives the sessions below `n` seats at a hive, which has told nobody anything.
-#[tactic(auto, using(crate::proofs::Admitted::admitted_new, crate::proofs::Rings::nothing_told))]
+#[tactic(auto, using(crate::proofs::Admitted::admitted_new, crate::proofs::Admitted::has_seats, crate::proofs::Rings::nothing_told))]
 fn seats<C: Callback>(hive: &mut Hive<C>, n: u8) -> Result<Vec<Share>, AllocError>
     ensures shares { IfOk result (λ shares. shares.items ≡ map (λ s. seat s 0) (range_with_len 0 n)) }
     ensures admitted { OnOk result (IsAdmitted (booked_of hive.new)) }
     ensures silent { OnOk result ((s : ℕ) → told_in (view_of hive.new) s ≡ []) }
+    ensures seats { OnOk result (HasSeats hive.new n) }
 {
-    // Only for its clauses: what is true of every hive.
+    // Only for its clauses: what is true of every hive, and that no session was told anything before its first entry of all.
     let _ = hive.len();
     match hive.seat(n) {
         Ok(shares) => Ok(shares),
@@ -80,12 +82,40 @@ fn seats<C: Callback>(hive: &mut Hive<C>, n: u8) -> Result<Vec<Share>, AllocErro
 /// A ring, with its two ends.
 fn ring(alloc: Global) -> Result<(Line, Inbox), AllocError>
     ensures line { IfOk result (λ ends. ends.0.sent ≡ []) }
+    ensures kept { IfOk result (λ ends. ends.0.kept ≡ 0) }
     ensures inbox { IfOk result (λ ends. ends.1 ≡ []) }
 {
     match outbox(alloc) {
         Ok((outbox, inbox)) => Ok((Line::new(outbox), inbox)),
         Err(OutboxFault::Memory) => Err(AllocError),
     }
+}
+
+/// Gives each of so many sessions its seat at a hive, which gets this number, with its end of a ring. Answers the other ends, in order.
+fn rings(
+    alloc: Global,
+    shares: Vec<Share>,
+    n: usize,
+    number: u8,
+    sessions: &mut Vec<Session>,
+) -> Result<Vec<Line>, AllocError>
+    requires len { vec_len sessions.old ≡ n }
+    requires shares { shares.items ≡ map (λ s. seat s 0) (range_with_len 0 n) }
+    requires fresh { AreFresh number 0 sessions.old.items }
+    ensures len { vec_len sessions.new ≡ n }
+    ensures fresh { OnOk result (AreFresh (number + 1) 0 sessions.new.items) }
+    ensures silent { IfOk result (λ lines. AreSilent lines.items) }
+    ensures lines { IfOk result (λ lines. length lines.items ≡ n) }
+{
+    let mut lines = Vec::with_capacity(alloc, n)?;
+    let mut at = 0;
+    for share in shares {
+        let (line, inbox) = ring(alloc)?;
+        sessions[at].add(Place::new(alloc, share, inbox))?;
+        lines.push(line)?;
+        at += 1;
+    }
+    Ok(lines)
 }
 
 /// Seats all sessions at a hive, which gets this number, with a ring for each.
@@ -103,14 +133,7 @@ fn seated<C: Callback>(
     let mut hive = hive;
     let n = sessions.len();
     let shares = seats(&mut hive, n as u8)?;
-    let mut lines = Vec::with_capacity(alloc, n)?;
-    let mut at = 0;
-    for share in shares {
-        let (line, inbox) = ring(alloc)?;
-        sessions[at].add(Place::new(alloc, share, inbox))?;
-        lines.push(line)?;
-        at += 1;
-    }
+    let lines = rings(alloc, shares, n, number, sessions)?;
     Ok(Locked { hive, lines })
 }
 

@@ -16,6 +16,8 @@ mod causes;
 #[cfg(test)]
 mod copies;
 #[cfg(test)]
+mod cuts;
+#[cfg(test)]
 mod devices;
 #[cfg(test)]
 mod faults;

@@ -7,7 +7,8 @@ use reg_model::Change;
 use std::alloc::Global;
 use std::test::Fail;
 
-fn hive(alloc: Global) -> Result<Hive<NoCallback>, Fail> {
+/// A hive of a root.
+pub fn hive(alloc: Global) -> Result<Hive<NoCallback>, Fail> {
     Ok(Hive::new(alloc, b"ROOT", &[7; 20], 0)?)
 }
 

@@ -1,5 +1,5 @@
 -- Replies, one after another.
-use Rattle.std.proofs.Common.{◌≡◌, ◌+◌, ◌<◌, ◌≤◌, ◌&&◌, ℕ, zero, suc, Bool, true, false, List, [], ◌∷◌, ◌++◌, Some, codes, length, get_or, slice_get, drop, take, refl, sym, ap, subst, inl, inr, ◌∙◌, arith, append-nil, append_assoc, drop-cons, length-drop, add-one}
+use Rattle.std.proofs.Common.{◌≡◌, ◌+◌, ◌<◌, ◌≤◌, ◌&&◌, ℕ, zero, suc, Bool, true, false, List, [], ◌∷◌, ◌++◌, Option, Some, codes, length, get_or, slice_get, drop, take, refl, sym, ap, subst, inl, inr, ◌∙◌, arith, append-nil, append_assoc, drop-cons, length-drop, add-one}
 use Rattle.std.specs.Fmt.{decimal}
 use Rattle.std.proofs.lemmas.Bool.{cases_lt}
 use Rattle.std.proofs.lemmas.List.{take_more}
@@ -10,14 +10,13 @@ use Rattle.reg_sessions.specs.declared.job.Work.{Work}
 use Rattle.reg_sessions.specs.declared.job.Done.{Done}
 use Rattle.reg_sessions.specs.declared.job.Job.{Job}
 use Rattle.reg_sessions.specs.Jobs.{is_of_kind, are_of_kinds}
-use Rattle.reg_sessions.specs.Gathering.{journal_at}
-use Rattle.reg_sessions.specs.Locked.{IsAdmitted}
+use Rattle.reg_sessions.specs.Gathering.{journal_at, journal_of}
 use Rattle.reg_workers.specs.declared.part.Reply.{Reply}
 use Rattle.reg_workers.specs.declared.part.Reply.TheVariants.{Bad, Worked}
 use Rattle.reg_workers.specs.Texts.{reply_text, numbers_text, entries_text}
 use Rattle.reg_workers.specs.Internal.Parts.{PartState, part_at}
 use Rattle.reg_workers.specs.Internal.Working.{works_among, replies_by, session_by, work_at, done_at, sessions_by, IsWritten}
-use Rattle.reg_workers.specs.Workers.{entries_of, AreAdmitted}
+use Rattle.reg_workers.specs.Workers.{entries_of}
 
 -- ---- works and outcomes side by side
 
@@ -166,19 +165,24 @@ entries_at (b ∷ bs) (suc h) d below = entries_at bs h d (omega (arith, below))
 some_is : (x y : Booked) → Some x ≡ Some y → x ≡ y
 some_is x y e = cc
 
--- one hive more that a lock's type admits
-pub admitted_next : (hives : List Booked) (h : ℕ) (x : Booked) → ((k : ℕ) (b : Booked) → k < h → slice_get hives k ≡ Some b → IsAdmitted b) →
-    slice_get hives h ≡ Some x → IsAdmitted x → (k : ℕ) (b : Booked) → k < h + 1 → slice_get hives k ≡ Some b → IsAdmitted b
-admitted_next hives h x all is admitted k b below there =
+-- what is true of the hives before one, and of that one
+pub each_next : (P : Booked → Type 0) (hives : List Booked) (h : ℕ) (x : Booked) → ((k : ℕ) (b : Booked) → k < h → slice_get hives k ≡ Some b → P b) →
+    slice_get hives h ≡ Some x → P x → (k : ℕ) (b : Booked) → k < h + 1 → slice_get hives k ≡ Some b → P b
+each_next P hives h x all is one k b below there =
     elim (cases_lt k h) [
       | inl less ↦ all k b less there
       | inr past ↦ (let at : h ≡ k = omega (arith, below, past) in
-          subst IsAdmitted (some_is x b (sym is ∙ ap (λ (n : ℕ). slice_get hives n) at ∙ there)) admitted)
+          subst P (some_is x b (sym is ∙ ap (λ (n : ℕ). slice_get hives n) at ∙ there)) one)
     ]
 
-pub admitted_all : (hives : List Booked) (h : ℕ) → length hives ≤ h → ((k : ℕ) (b : Booked) → k < h → slice_get hives k ≡ Some b → IsAdmitted b) →
-    AreAdmitted hives
-admitted_all hives h whole all k b there = let within = slice_get_within hives k b there in all k b (omega (arith, within, whole)) there
+-- what is true of each hive that is there
+pub each_all : (P : Booked → Type 0) (hives : List Booked) (h : ℕ) → length hives ≤ h → ((k : ℕ) (b : Booked) → k < h → slice_get hives k ≡ Some b → P b) →
+    (k : ℕ) (b : Booked) → slice_get hives k ≡ Some b → P b
+each_all P hives h whole all k b there = let within = slice_get_within hives k b there in all k b (omega (arith, within, whole)) there
+
+-- how many entries a hive keeps, as code finds them there
+pub kept_at : (hives : List Booked) (h : ℕ) (b : Booked) → slice_get hives h ≡ Some b → length b.view.journal ≡ length (journal_at hives h)
+kept_at hives h b there = sym (ap (λ (o : Option Booked). length (journal_of o)) there)
 
 pub entries_long : (hives : List Booked) → length (entries_of hives) ≡ length hives
 entries_long [] = refl

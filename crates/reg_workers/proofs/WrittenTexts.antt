@@ -1,5 +1,5 @@
 -- What was written is a text of the lines' sessions.
-use Rattle.std.proofs.Common.{◌≡◌, ◌≢◌, ◌<◌, ◌≤◌, ℕ, zero, suc, Bool, true, false, List, [], ◌∷◌, ◌++◌, codes, length, map, get_or, take, sum_by, slice_get, refl, sym, ap, subst, ◌∙◌, inl, inr, arith, append_assoc, add-one}
+use Rattle.std.proofs.Common.{◌≡◌, ◌≢◌, ◌<◌, ◌≤◌, ℕ, zero, suc, Bool, true, false, IsTrue, List, [], ◌∷◌, ◌++◌, codes, length, map, get_or, take, sum_by, slice_get, refl, sym, ap, subst, ◌∙◌, inl, inr, arith, append_assoc, add-one}
 use Rattle.std.proofs.lemmas.List.{take_more, length-map}
 use Rattle.std.proofs.lemmas.Bool.{cases_lt}
 use Rattle.std.proofs.lemmas.List.Sums.{sum_by-append}
@@ -22,7 +22,7 @@ use Rattle.reg_sessions.specs.Gathering.{IsMismatch, IsAudited, IsStray, KeptDif
 use Rattle.reg_workers.specs.declared.part.Reply.{Reply}
 use Rattle.reg_workers.specs.Tasks.{first_settings, Task, bad_line, works, tasks_of, works_of, sessions_of}
 use Rattle.reg_workers.specs.Texts.{reply_text, replies_text, session_text, sessions_text, entries_text, end_text}
-use Rattle.reg_workers.specs.Workers.{accepted_at, entries_of, AreAdmitted, IsEnd, DiffersIn, fresh_session, no_answers, WritesWorkers}
+use Rattle.reg_workers.specs.Workers.{accepted_at, entries_of, AreAdmitted, AreWhole, HoldsAll, IsEnd, DiffersIn, fresh_session, no_answers, WritesWorkers}
 use Rattle.reg_workers.specs.Internal.Parts.{PartState, no_part, reply_of, part_of, part_at}
 use Rattle.reg_workers.specs.Internal.Working.{AreWorked, IsWorked, HaveReplies, works_among, replies_by, session_by, work_at, done_at, sessions_by, IsWritable, IsGatheredSo, IsTold, IsToldOf}
 use Rattle.reg_workers.proofs.WrittenReplies.{work_at_is, done_at_is}
@@ -199,22 +199,27 @@ module _ (hives : ℕ) (lines : List (List ℕ)) (parts kept : List PartState) (
   number_of_sessions : length sessions ≡ sessions_of hives lines
   number_of_sessions = length-map jobs (λ (j : Job). j.session) ∙ number_of_jobs
 
-  ends_so : (gathered : Bool) (booked : List Booked) → IsGatheredSo gathered booked sessions → IsEnd gathered booked tasks done (sessions_of hives lines)
-  ends_so true booked h = λ n below. record {
+  holds_so : (booked : List Booked) → ((h : ℕ) → h < length booked → IsAudited booked sessions h) → (h : ℕ) → h < length booked →
+      HoldsAll booked tasks done (sessions_of hives lines) h
+  holds_so booked h n below = record {
     entries = λ s. (h n below).gathered s ∙ receipts_are s n;
     total = (h n below).total
         ∙ ap (λ (xs : List SessionState). sum_by (λ s. length (receipts_at n s)) xs) (sym (take_whole sessions (sessions_of hives lines) number_of_sessions))
         ∙ sum_same n (sessions_of hives lines) (omega (arith, number_of_sessions));
     delivered = λ s. subst (λ (ns : List Told). take (length ns) (told_at booked n s) ≡ ns) (taken_are s n) ((h n below).delivered s);
   }
-  ends_so false booked h = record {
+
+  ends_so : (gathered : Bool) (booked : List Booked) → IsGatheredSo gathered booked sessions → IsEnd gathered booked tasks done (sessions_of hives lines)
+  ends_so true booked h = (h.0, holds_so booked h.1)
+  ends_so false booked (inr short) = inr short
+  ends_so false booked (inl h) = inl (record {
     hive = h.0;
     is_hive = h.4.within;
     session = h.1;
     place = h.2;
     kept = h.3;
     differ = differ_so h.3 booked h.0 h.1 h.2 h.4.differ;
-  }
+  })
 
   pub written : (old new : List ℕ) → IsToldOf hives kept jobs old new → (told : List ℕ) × WritesWorkers hives lines told × (new ≡ old ++ told)
   written old new h = (
@@ -238,17 +243,24 @@ module _ (hives : ℕ) (lines : List (List ℕ)) (parts kept : List PartState) (
 
 -- ---- what gathering answers
 
-pub told_gathered : (hives : ℕ) (all : List SessionState) (audit : List Booked) (old new : List ℕ) → length audit ≡ hives → AreAdmitted audit →
-    ((h : ℕ) → h < length audit → IsAudited audit all h) → new ≡ old ++ (entries_text (entries_of audit) ++ end_text true) →
-    IsTold hives all old new
-told_gathered hives all audit old new long admitted audited text = record {
+pub told_gathered : (hives : ℕ) (all : List SessionState) (audit : List Booked) (whole : Bool) (old new : List ℕ) → length audit ≡ hives → AreAdmitted audit →
+    ((h : ℕ) → h < length audit → IsAudited audit all h) → (IsTrue whole → AreWhole audit) → (AreWhole audit → IsTrue whole) →
+    new ≡ old ++ (entries_text (entries_of audit) ++ end_text whole) → IsTold hives all old new
+told_gathered hives all audit whole old new long admitted audited is_whole not_whole text = record {
   booked = audit;
   count = long;
   admitted = admitted;
-  gathered = true;
-  ends = audited;
+  gathered = whole;
+  ends = by whole is_whole not_whole;
   text = text;
 }
+  where
+    no_true : false ≡ true → ⊥
+    no_true e = cc
+
+    by : (b : Bool) → (IsTrue b → AreWhole audit) → (AreWhole audit → IsTrue b) → IsGatheredSo b audit all
+    by true f g = (f refl, audited)
+    by false f g = inr (λ all_whole. no_true (g all_whole))
 
 pub told_differs : (hives h s place : ℕ) (kept : Kept) (all : List SessionState) (audit : List Booked) (old new : List ℕ) → length audit ≡ hives → AreAdmitted audit →
     IsMismatch audit all h s place kept → new ≡ old ++ (entries_text (entries_of audit) ++ end_text false) → IsTold hives all old new
@@ -257,6 +269,6 @@ told_differs hives h s place kept all audit old new long admitted differ text = 
   count = long;
   admitted = admitted;
   gathered = false;
-  ends = (h, s, place, kept, differ);
+  ends = inl (h, s, place, kept, differ);
   text = text;
 }

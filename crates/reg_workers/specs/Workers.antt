@@ -1,5 +1,5 @@
 -- Scripts whose sessions work side by side on several hives (this project's own rules of the script).
-use Rattle.std.specs.Prelude.{◌≡◌, ◌≢◌, ℕ, zero, suc, ◌+◌, ◌<◌, Bool, true, false, List, [], ◌++◌, length, map, take, slice_get, Option, Some}
+use Rattle.std.specs.Prelude.{◌≡◌, ◌≢◌, ◌⊎◌, ℕ, zero, suc, ◌+◌, ◌<◌, Bool, true, false, List, [], ◌++◌, length, map, take, slice_get, Option, Some}
 use Rattle.std.specs.Io.KnownBytes.{Appends, Consumes, IsAtEnd}
 use Rattle.reg_callbacks.specs.Asking.{Answers}
 use Rattle.reg_callbacks.specs.declared.callback.NoCallback.{NoCallback}
@@ -32,6 +32,10 @@ entries_of hives = map (λ (b : Booked). length b.view.journal) hives
 abbrev pub AreAdmitted : List Booked → Type 0
 AreAdmitted hives = (h : ℕ) (b : Booked) → slice_get hives h ≡ Some b → IsAdmitted b
 
+-- the journal of each begins with its hive's first entry of all; so nobody was told anything before it (`began` of IsAdmitted)
+abbrev pub AreWhole : List Booked → Type 0
+AreWhole hives = (h : ℕ) (b : Booked) → slice_get hives h ≡ Some b → b.view.base ≡ 0
+
 -- of each session the hive's journal has just the entries of its accepted changes, in order, and there are no others; and the notices that
 -- it took are the first of those that the hive told it
 pub record HoldsAll (hives : List Booked) (tasks : ℕ → List Task) (done : ℕ → List Done) (n h : ℕ) : Type 0 where
@@ -54,10 +58,11 @@ pub record Differs (hives : List Booked) (tasks : ℕ → List Task) (done : ℕ
   pub kept : Kept
   pub differ : DiffersIn kept hives hive session (tasks session) (done session) place
 
--- what is told at the end is so: each hive holds just what its sessions were told, or one differs
+-- what is told at the end is so: each hive holds just what its sessions were told, from its first entry on; or one differs, or lacks its
+-- first entries
 abbrev pub IsEnd : Bool → List Booked → (ℕ → List Task) → (ℕ → List Done) → ℕ → Type 0
-IsEnd true hives tasks done n = (h : ℕ) → h < length hives → HoldsAll hives tasks done n h
-IsEnd false hives tasks done n = Differs hives tasks done
+IsEnd true hives tasks done n = AreWhole hives × ((h : ℕ) → h < length hives → HoldsAll hives tasks done n h)
+IsEnd false hives tasks done n = Differs hives tasks done ⊎ (AreWhole hives → ⊥)
 
 -- a session before its first line: without receipts, and with marks of 0
 abbrev pub fresh_session : ℕ → SessionState

@@ -1,12 +1,12 @@
 //! What is written of sessions that worked, and of the hives.
-ghost use Rattle.std.specs.Prelude.{◌≡◌, ◌+◌, ◌<◌, ◌≤◌, ℕ, true, [], ◌∷◌, ◌++◌, codes, drop, length, map, slice_index_or, string_bytes, IfOk, OnOk};
+ghost use Rattle.std.specs.Prelude.{◌≡◌, ◌+◌, ◌<◌, ◌≤◌, ◌↔◌, ℕ, true, IsTrue, [], ◌∷◌, ◌++◌, codes, drop, length, map, slice_index_or, string_bytes, IfOk, OnOk};
 ghost use Rattle.std.specs.Fmt.{decimal};
 ghost use Rattle.reg_sessions.specs.Jobs.{is_of_kind, are_of_kinds};
 ghost use Rattle.reg_sessions.specs.Sessions.{AreInOrder};
 ghost use Rattle.reg_workers.specs.Texts.{reply_text, entries_text, end_text};
 ghost use Rattle.reg_workers.specs.Internal.Parts.{part_at};
 ghost use Rattle.reg_workers.specs.Internal.Working.{works_among, replies_by, session_by, sessions_by, IsWritable, IsWritten, IsTold, IsToldOf};
-ghost use Rattle.reg_workers.specs.Workers.{entries_of, AreAdmitted};
+ghost use Rattle.reg_workers.specs.Workers.{entries_of, AreAdmitted, AreWhole};
 
 use crate::part::{Part, Reply};
 use reg_callbacks::Callback;
@@ -177,13 +177,24 @@ fn write_entries<C: Callback>(text: &mut String, audit: &Audit<C>) -> Result<(),
 {
     text.push_str("entries")?;
     for hive in 0..audit.hives() {
-        // Only for its clause: the hive is one that a lock's type admits.
-        let _ = audit.hive(hive as u8);
-        let entries = audit.entries(hive as u8);
-        write_number(text, entries)?;
+        let entries = audit.hive(hive as u8).entries();
+        write_number(text, entries.len() as u64)?;
     }
     writeln!(text)?;
     Ok(())
+}
+
+/// Whether each hive's journal begins with its first entry of all. It does unless a checkpoint cut entries, and these aren't compared.
+fn are_whole<C: Callback>(audit: &Audit<C>) -> bool
+    ensures { IsTrue result ↔ AreWhole audit.now }
+{
+    for hive in 0..audit.hives() {
+        let hive = audit.hive(hive as u8);
+        if hive.entries().len() < hive.len() {
+            return false;
+        }
+    }
+    true
 }
 
 /// How many entries each hive has, and whether all agrees.
@@ -215,7 +226,7 @@ fn write_gathered<C: Callback>(
 {
     match gather(registry, sessions) {
         Ok(audit) => {
-            write_end(text, &audit, true)?;
+            write_end(text, &audit, are_whole(&audit))?;
             Ok(())
         }
         Err(

@@ -1,5 +1,5 @@
 -- Jobs that were made of parts, and what is written of them.
-use Rattle.std.specs.Prelude.{◌≡◌, ℕ, zero, suc, ◌+◌, ◌<◌, Bool, true, false, List, [], ◌∷◌, ◌++◌, codes, length, map, slice_index_or}
+use Rattle.std.specs.Prelude.{◌≡◌, ◌⊎◌, ℕ, zero, suc, ◌+◌, ◌<◌, Bool, true, false, List, [], ◌∷◌, ◌++◌, codes, length, map, slice_index_or}
 use Rattle.std.specs.Fmt.{decimal}
 use Rattle.reg_text.specs.Texts.{line_feed}
 use Rattle.reg_callbacks.specs.Asking.{Answers}
@@ -14,7 +14,7 @@ use Rattle.reg_sessions.specs.Gathering.{IsAudited, IsMismatch}
 use Rattle.reg_workers.specs.declared.part.Reply.{Reply}
 use Rattle.reg_workers.specs.declared.part.Reply.TheVariants.{Bad, Worked}
 use Rattle.reg_workers.specs.Texts.{reply_text, entries_text, end_text}
-use Rattle.reg_workers.specs.Workers.{fresh_session, entries_of, AreAdmitted}
+use Rattle.reg_workers.specs.Workers.{fresh_session, entries_of, AreAdmitted, AreWhole}
 use Rattle.reg_workers.specs.Internal.Parts.{PartState, part_at}
 
 -- ---- jobs
@@ -89,10 +89,10 @@ pub record IsWritten (reply : Reply) (work : List Work) (done : List Done) (old 
 
 -- ---- what is written of hives
 
--- what is told at the end is what gathering answers
+-- what is told at the end is what gathering answers, where no hive lacks its first entries
 abbrev pub IsGatheredSo : Bool → List Booked → List SessionState → Type 0
-IsGatheredSo true hives sessions = (h : ℕ) → h < length hives → IsAudited hives sessions h
-IsGatheredSo false hives sessions = (h : ℕ) × (s : ℕ) × (place : ℕ) × (kept : Kept) × IsMismatch hives sessions h s place kept
+IsGatheredSo true hives sessions = AreWhole hives × ((h : ℕ) → h < length hives → IsAudited hives sessions h)
+IsGatheredSo false hives sessions = ((h : ℕ) × (s : ℕ) × (place : ℕ) × (kept : Kept) × IsMismatch hives sessions h s place kept) ⊎ (AreWhole hives → ⊥)
 
 -- the end was written
 pub record IsTold (hives : ℕ) (sessions : List SessionState) (old new : List ℕ) : Type 0 where

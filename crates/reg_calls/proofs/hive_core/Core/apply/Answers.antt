@@ -11,7 +11,7 @@ use Rattle.reg_calls.specs.declared.refusal.Refusal.TheVariants.{Memory}
 use Rattle.reg_calls.specs.Internal.Stores.{IsReady, IsCarriedOut, at}
 use Rattle.reg_calls.specs.Internal.Admissions.{IsClear}
 use Rattle.reg_calls.specs.Internal.QuietKeys.{AreUnhit}
-use Rattle.reg_calls.specs.Views.{Booked, View, view_with, IsApplied}
+use Rattle.reg_calls.specs.Views.{Booked, View, before_of, view_with, IsApplied}
 use Rattle.reg_calls.proofs.RefusalTests.{still-clear}
 use Rattle.reg_calls.proofs.KnownKeys.{unmade}
 use Rattle.reg_calls.proofs.QuietChanges.{unhit-same, unhit-at}
@@ -45,12 +45,12 @@ returns-in-Err-keep_room-clause-applied g c =
     let view_is = ap (λ (b : Booked). b.view) c.self.view_is in
     let is = state-view _ c.self.invariant.2 view_is ∙ ap (λ (n : JournalEnd). at n store) (sym end) in
     let clear = admits-clear c.end_of-end.result store c.session-session.result c.args.change c.in-Ok.admitted c.in-Ok.ensures.0 in
-    let new : View = view_with origin c.keep_room.new.journal.base [] c.keep_room.new.journal.entries store in
+    let new : View = view_with origin c.keep_room.new.journal.base c.self.inside.told.value.told c.keep_room.new.journal.entries store in
     subst (λ (s : ℕ). IsApplied k c.args.self.now.view new s c.args.moment c.args.change c.refuse-in-Err-keep_room.result) c.session-session.ensures.session
     (refused-as k c.args.self.now.view new c.session-session.result c.args.moment c.args.change
     c.refuse-in-Err-keep_room.result c.end_of-end.result store Memory
     is (clear, c.in-Err-keep_room.ensures.err, c.in-Ok.ensures.1) c.refuse-in-Err-keep_room.ensures
-    (view-at origin [] store c.in-Err-keep_room.ensures.base c.in-Err-keep_room.ensures.entries ∙ view_is))
+    (view-at origin c.self.inside.told.value.told store c.in-Err-keep_room.ensures.base c.in-Err-keep_room.ensures.entries ∙ view_is))
 
 pub carry_out-requires-clause-ready : goal.carry_out-requires-clause-ready
 carry_out-requires-clause-ready g c =
@@ -135,12 +135,12 @@ returns-in-Ok-carry_out-clause-applied g c =
     let all = (invariant_of-self-in-Ok-carry_out g c).2 in
     let view_is = ap (λ (b : Booked). b.view) c.self.view_is in
     let is = state-view _ c.self.invariant.2 view_is ∙ ap (λ (n : JournalEnd). at n store) (sym end) in
-    let new : View = view_with origin c.append.new.self.base [] c.append.new.self.entries c.carry_out.new.self in
+    let new : View = view_with origin c.append.new.self.base c.self.inside.told.value.told c.append.new.self.entries c.carry_out.new.self in
     subst (λ (s : ℕ). IsApplied k c.args.self.now.view new s c.args.moment c.args.change c.in-Ok-carry_out.reply) c.session-session.ensures.session
     (applied-by k c.args.self.now.view new c.session-session.result c.args.moment c.args.change c.in-Ok-carry_out.reply c.end_of-end.result store None is
     (sym (still-clear (at c.end_of-end.result store) c.session-session.result _ c.args.change clear c.in-Ok.ensures.1))
     (inl (accepted c.self.invariant.2 c.args.self.now.view new view_is c.session-session.result c.args.moment c.args.change c.in-Ok-carry_out.reply
-    done.reply entries refl bases refl done.watches.taken done.kept_keys done.kept done.grows all.hive)))
+    done.reply entries refl bases (ap (λ (n : ℕ). before_of n c.self.inside.told.value.told) bases) done.watches.taken done.kept_keys done.kept done.grows all.hive)))
 
 pub returns-in-Ok-carry_out-clause-current : goal.returns-in-Ok-carry_out-clause-current
 returns-in-Ok-carry_out-clause-current g c =
@@ -176,9 +176,9 @@ returns-in-Err-carry_out-clause-applied g c =
     let clear = admits-clear c.end_of-end.result store c.session-session.result c.args.change c.in-Ok.admitted c.in-Ok.ensures.0 in
     let made = c.in-Err-carry_out.ensures.carried c.args.change c.in-Ok.ensures.0 in
     let told = c.refuse-in-Err-carry_out.ensures ∙ ap refusal c.status-in-Err-carry_out.ensures in
-    let new : View = view_with origin c.keep_room.new.journal.base [] c.keep_room.new.journal.entries c.carry_out.new.self in
+    let new : View = view_with origin c.keep_room.new.journal.base c.self.inside.told.value.told c.keep_room.new.journal.entries c.carry_out.new.self in
     subst (λ (s : ℕ). IsApplied k c.args.self.now.view new s c.args.moment c.args.change c.refuse-in-Err-carry_out.result) c.session-session.ensures.session
-    (given-up k origin base [] es store c.carry_out.new.self c.session-session.result c.args.moment
+    (given-up k origin base c.self.inside.told.value.told es store c.carry_out.new.self c.session-session.result c.args.moment
     c.end_of-end.result c.args.change c.refuse-in-Err-carry_out.result c.in-Err-carry_out.lack
     is clear c.in-Ok.ensures.1 made told c.args.self.now.view new (ap (λ (b : Booked). b.view) c.self.view_is)
-    (view-at origin [] c.carry_out.new.self c.in-Ok-keep_room.ensures.base c.in-Ok-keep_room.ensures.entries))
+    (view-at origin c.self.inside.told.value.told c.carry_out.new.self c.in-Ok-keep_room.ensures.base c.in-Ok-keep_room.ensures.entries))

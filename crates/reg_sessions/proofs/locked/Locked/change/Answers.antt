@@ -1,19 +1,25 @@
-use Rattle.std.proofs.Common.{◌≡◌, ◌≤◌, ◌∙◌, Some, length, ap, subst, sym, arith}
+use Rattle.std.proofs.Common.{◌≡◌, ◌≤◌, ◌∙◌, ℕ, List, Some, length, ap, subst, sym, arith}
 use Rattle.reg_calls.specs.HiveView.{view_of}
 use Rattle.reg_calls.specs.Views.{View, Booked, IsAccepted, next_of}
 use Rattle.reg_sessions.specs.Locked.{booked_of}
 use Rattle.reg_sessions.proofs.Admitted.{admitted-changed, accepted, number-told, count-within, counted-more, left, lawful, not-behind, same-booked}
-use Rattle.reg_sessions.proofs.Rings.{admitted_moved, ahead_changed}
+use Rattle.reg_sessions.proofs.Rings.{admitted_moved, sent_changed, quiet_changed}
 use Rattle.reg_sessions.proofs.locked.Locked.change.Goals as goal
 
-pub push_told-requires : goal.push_told-requires
-push_told-requires g c = ahead_changed c.self.inside.lines.items c.apply-reply.ensures c.self.invariant.0 c.self.invariant.1
+pub push_told-requires-clause-sent : goal.push_told-requires-clause-sent
+push_told-requires-clause-sent g c = sent_changed c.self.inside.lines.items c.apply-reply.ensures c.self.invariant.0 c.self.invariant.1
+
+pub push_told-requires-clause-quiet : goal.push_told-requires-clause-quiet
+push_told-requires-clause-quiet g c = λ still.
+    quiet_changed c.self.inside.lines.items c.apply-reply.ensures c.self.invariant.0 c.self.invariant.1
+    (let before = c.pending-pending.ensures.number in omega (arith, still, before))
 
 pub invariant_of-self : goal.invariant_of-self
 invariant_of-self g c = (
   admitted_moved (booked_of c.apply-reply.new.hive) (booked_of c.push_told.new.hive) (admitted-changed c.apply-reply.ensures c.self.invariant.0) c.push_told.ensures.moved
       c.push_told.ensures.noted,
   c.push_told.ensures.ahead,
+  c.push_told.ensures.lines ∙ c.self.invariant.2 ∙ sym (ap (λ (l : List ℕ). length l) (c.push_told.ensures.noted ∙ c.apply-reply.ensures.noted)),
 )
 
 pub returns-clause-noted : goal.returns-clause-noted
