@@ -24,8 +24,12 @@ const CALLS: u32 = 100;
 /// The first seed: session 0 has it, and each other session the one after that of the session before.
 const SEED: u64 = 0;
 
-/// How often all is done, with seeds of its own each time. `tools/soak` has other numbers for these three.
+/// How often all is done, with seeds of its own each time. `tools/soak` has other numbers for these three, and `tools/refuse-memory` for
+/// that of sessions, too.
 const ROUNDS: u64 = 1;
+
+/// More entries than these are many.
+const MANY: u64 = 1_500;
 
 /// What is told where all is well.
 const WELL: &str = "16 hives, many entries true";
@@ -274,7 +278,7 @@ fn tell(alloc: Global, audit: &Audit) -> Result<String, Fail> {
         }
         entries = entries.saturating_add(audit.entries(hive as u8));
     }
-    Ok(format!(in alloc; "{same} hives, many entries {}", entries > 1_500)?)
+    Ok(format!(in alloc; "{same} hives, many entries {}", entries > MANY)?)
 }
 
 fn told<Rt: Threads + Wait + Sync>(rt: &Rt, alloc: Global, seed: u64) -> Result<String, Fail> {

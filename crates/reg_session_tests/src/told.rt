@@ -24,7 +24,8 @@ impl Callback for Refuses {
     }
 }
 
-fn boxed(alloc: Global, status: u32) -> Result<Box<dyn Callback + Send>, AllocError> {
+/// A callback that answers every call by a status.
+pub fn boxed(alloc: Global, status: u32) -> Result<Box<dyn Callback + Send>, AllocError> {
     Ok(Box::new(alloc, Refuses { status })?)
 }
 

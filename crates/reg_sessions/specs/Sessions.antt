@@ -1,5 +1,6 @@
 -- Sessions, as their callers see them.
-use Rattle.std.specs.Prelude.{◌≡◌, ◌+◌, ◌<◌, ◌==◌, ◌&&◌, ℕ, Bool, true, false, List, [], ◌∷◌, Option, Some, None, length, nat_lt, slice_index_or, unwrap_or, if◌then◌else◌}
+use Rattle.std.specs.Prelude.{◌≡◌, ◌+◌, ◌-◌, ◌<◌, ◌==◌, ◌&&◌, ℕ, Bool, true, false, List, [], ◌∷◌, Option, Some, None, length, nat_lt, slice_index_or, unwrap_or, if◌then◌else◌}
+use Rattle.std.specs.Option.{is_some}
 use Rattle.reg_model.specs.declared.answer.Answer.{Answer}
 use Rattle.reg_model.specs.declared.answer.AnswerBody.{AnswerBody}
 use Rattle.reg_model.specs.declared.answer.AnswerBody.TheVariants.{Refused, Short, Value, Key, Member, Info, Security}
@@ -125,6 +126,10 @@ watches (Close h) = false
 -- how many Notify calls were accepted, after a change
 abbrev pub notifies_after : ℕ → Change → ChangeReply → ℕ
 notifies_after n change reply = if reply.status == 0 && watches change then n + 1 else n
+
+-- how many handles are open after a change: behind a Close one less, behind a call that opens one, one more
+abbrev pub handles_after : ℕ → Change → ChangeReply → ℕ
+handles_after n change reply = if reply.status == 0 then (if closes change then n - 1 else if is_some reply.handle then n + 1 else n) else n
 
 abbrev pub no_session : SessionState
 no_session = record { number = 0; places = [] }

@@ -3,7 +3,8 @@ ghost use Rattle.std.specs.Prelude.{◌≡◌, ◌≢◌, ◌+◌, ◌-◌, ◌^
 ghost use Rattle.reg_model.specs.declared.answer.AnswerBody.TheVariants.{Refused};
 ghost use Rattle.reg_model.specs.declared.statuses.TheConstants.{BAD_DATABASE};
 ghost use Rattle.reg_sessions.specs.Locked.{IsLawfulOrLacks, IsLawfulAnswer};
-ghost use Rattle.reg_sessions.specs.Sessions.{PlaceState, notice_of, receipt_of, mark_after, mark_told, seat_of, status_told, closes as closes_of, watches as watches_of, notifies_after as notifies_told, without_receipts};
+ghost use Rattle.reg_sessions.specs.Sessions.{PlaceState, notice_of, receipt_of, mark_after, mark_told, seat_of, status_told, closes as closes_of, watches as watches_of, notifies_after as notifies_told, handles_after as handles_told, without_receipts};
+ghost use Rattle.std.specs.Option.{is_some};
 
 use crate::gate::HiveGate;
 use crate::locked::Locked;
@@ -80,6 +81,7 @@ fn make_room(receipts: &mut Vec<Receipt>, handles: usize, is_close: bool) -> Res
 /// How many handles are open after an accepted change.
 fn handles_after(handles: usize, is_close: bool, reply: &ChangeReply) -> usize
     requires { handles < 2 ^ 64 - 1 }
+    ensures count { result ≡ (if is_close then handles - 1 else if is_some reply.now.handle then handles + 1 else handles) }
     ensures closes { is_close ≡ true → result + 1 ≤ max handles 1 }
     ensures opens { is_close ≡ false → result ≤ handles + 1 }
 {
@@ -244,6 +246,7 @@ impl Place {
         ensures receipts { self.new.receipts ≡ self.old.receipts ++ receipt_of moment change.now result }
         ensures dropped { self.new.dropped ≡ self.old.dropped }
         ensures notifies { self.new.notifies ≡ notifies_told self.old.notifies change.now result }
+        ensures handles { self.new.handles ≡ handles_told self.old.handles change.now result }
         ensures mark { self.new.mark ≡ mark_after self.old.mark result }
         ensures session { self.new.seat.session ≡ self.old.seat.session }
         ensures notices { (self.new.taken ≡ self.old.taken) × (self.new.popped ≡ self.old.popped) }

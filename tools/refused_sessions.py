@@ -1,0 +1,71 @@
+"""Steps by sessions where memory is refused, and sessions on threads at random whose memory is refused by chance."""
+import random
+import re
+from collections import Counter
+
+from building import room_of
+from refusing import run, run_threads, tell_counts
+from repository import Untried, rt
+from soaking import CRATE, TEST, renumber
+
+STEPS = (
+    "refusals::a_checkpoint_refused_its_memory_changes_nothing",
+    "refusals::a_step_refused_its_memory_changes_nothing",
+    "refusals::a_step_refused_its_memory_is_answered_when_made_again",
+)
+SESSIONS, CALLS = 8, 200
+# What a test fails by where its own text, list or hive takes the allocation that is refused.
+OWN_WANTS = ("memory allocation failed", "no memory", "out of memory", "formatter error", "an error occurred when formatting")
+
+
+def tests_of(folder):
+    """The program of the tests, which is proved and built."""
+    said = rt(folder, "test", "--", "refusals").stdout
+    if not re.search(r"^test result: ok\. 3 passed", said, re.M):
+        raise Untried(f"the tests of {CRATE} don't pass:\n{said[-2000:]}")
+    return f"{folder}/out/{CRATE}_tests"
+
+
+def verdict(status, output, errors):
+    """What came of a test: all was as it should be, or the test itself had no memory."""
+    if status == 0 and b"1 passed; 0 failed" in output:
+        return "all as it was"
+    said = (output + errors).decode(errors="replace")
+    if status and any(it in said for it in OWN_WANTS):
+        return "the test itself lacked it, outside of a call"
+    return "WRONG"
+
+
+def refuse_test(library, program, test):
+    """Refuses each allocation of a test, and prints what came of it. Answers whether all went well."""
+    seen = Counter()
+    for number in range(1, 1_000_000):
+        status, output, errors, was_refused = run(library, [program, test], b"", number)
+        if not was_refused:
+            break
+        found = verdict(status, output, errors)
+        seen[found] += 1
+        if found == "WRONG":
+            print(f"{test}: allocation {number}: status {status}, {output[-300:]!r}, {errors[-300:]!r}", flush=True)
+    return tell_counts(test, number, seen) and seen["all as it was"] > 0
+
+
+def refuse_steps(library):
+    with room_of(CRATE) as folder:
+        program = tests_of(folder)
+        return [refuse_test(library, program, it) for it in STEPS]
+
+
+def soak(library, rounds):
+    """Has sessions on threads call at random for so many rounds, while their memory is refused by chance. Answers whether all went well."""
+    seed = random.SystemRandom().randrange(1, 1 << 40)
+    with room_of(CRATE) as folder:
+        renumber(folder, {"SEED": seed, "CALLS": CALLS, "SESSIONS": SESSIONS, "MANY": 100, "ROUNDS": rounds})
+        program = tests_of(folder)
+        status, output, errors = run_threads(library, [program, TEST], seed)
+    refused = re.search(rb"^refused (\d+)$", errors, re.M)
+    is_well = status == 0 and b"1 passed; 0 failed" in output and refused is not None and int(refused[1]) > 0
+    print(f"soak: {rounds} rounds of {SESSIONS} sessions with {CALLS} calls, seed {seed}: {refused[1].decode() if refused else 'no'} refusals")
+    if not is_well:
+        print(f"soak: status {status}, {output[-300:]!r}, {errors[-300:]!r}")
+    return is_well

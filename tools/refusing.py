@@ -1,0 +1,90 @@
+"""Runs a program whose memory is refused: one allocation of it, or some of its threads' by chance."""
+import os
+import subprocess
+
+# Loaded before the C library. REFUSE is the number of the one allocation that is refused, in any thread. REFUSE_THREADS is a number from
+# which it is drawn, in each thread but the first, which allocations are refused: the next one is the 10th to the 1,000th behind the last.
+COUNTING = r"""
+#define _GNU_SOURCE
+#include <errno.h>
+#include <stdio.h>
+#include <stdlib.h>
+#include <sys/syscall.h>
+#include <unistd.h>
+extern void *__libc_malloc(size_t);
+extern void *__libc_calloc(size_t, size_t);
+extern void *__libc_realloc(void *, size_t);
+extern void *__libc_memalign(size_t, size_t);
+static long left;
+static unsigned long drawn, refusals;
+static __thread unsigned long state __attribute__((tls_model("initial-exec")));
+static __thread long gap __attribute__((tls_model("initial-exec")));
+static __thread int kind __attribute__((tls_model("initial-exec")));
+__attribute__((constructor)) static void begin(void) {
+    const char *number = getenv("REFUSE"), *threads = getenv("REFUSE_THREADS");
+    left = number ? atol(number) : 0;
+    drawn = threads ? strtoul(threads, 0, 10) : 0;
+}
+__attribute__((destructor)) static void tell(void) {
+    char text[64];
+    int len = snprintf(text, sizeof text, "refused %lu\n", __atomic_load_n(&refusals, __ATOMIC_RELAXED));
+    if (drawn && write(2, text, len) < 0) _exit(99);
+}
+static unsigned long draw(void) {
+    state ^= state << 13;
+    state ^= state >> 7;
+    state ^= state << 17;
+    return state;
+}
+static int refused_in_thread(void) {
+    if (!kind) {
+        unsigned long thread = syscall(SYS_gettid);
+        kind = thread == (unsigned long)getpid() ? 1 : 2;
+        state = drawn * 0x9E3779B97F4A7C15ul ^ thread * 0xD1B54A32D192ED03ul;
+        gap = 10 + draw() % 991;
+    }
+    if (kind == 1 || --gap > 0) return 0;
+    gap = 10 + draw() % 991;
+    __atomic_add_fetch(&refusals, 1, __ATOMIC_RELAXED);
+    errno = ENOMEM;
+    return 1;
+}
+static int refused(void) {
+    if (drawn) return refused_in_thread();
+    if (__atomic_load_n(&left, __ATOMIC_RELAXED) <= 0 || __atomic_sub_fetch(&left, 1, __ATOMIC_RELAXED) != 0) return 0;
+    if (write(2, "refused\n", 8) < 0) _exit(99);
+    errno = ENOMEM;
+    return 1;
+}
+void *malloc(size_t size) { return refused() ? 0 : __libc_malloc(size); }
+void *calloc(size_t count, size_t size) { return refused() ? 0 : __libc_calloc(count, size); }
+void *realloc(void *old, size_t size) { return refused() ? 0 : __libc_realloc(old, size); }
+void *aligned_alloc(size_t align, size_t size) { return refused() ? 0 : __libc_memalign(align, size); }
+int posix_memalign(void **out, size_t align, size_t size) {
+    if (refused()) return ENOMEM;
+    *out = __libc_memalign(align, size);
+    return *out ? 0 : ENOMEM;
+}
+"""
+
+
+def run(library, words, given, number, folder=None):
+    """Status, output, errors of a run, and whether an allocation was refused."""
+    here = {"LD_PRELOAD": library, "REFUSE": str(number)}
+    ran = subprocess.run(words, input=given, capture_output=True, env=here, timeout=60, cwd=folder)
+    was_refused = b"refused\n" in ran.stderr
+    return ran.returncode, ran.stdout, ran.stderr.replace(b"refused\n", b"", 1), was_refused
+
+
+def run_threads(library, words, seed):
+    """Status, output, and errors of a run whose threads are refused memory by chance."""
+    ran = subprocess.run(words, stdin=subprocess.DEVNULL, capture_output=True, env={"LD_PRELOAD": library, "REFUSE_THREADS": str(seed)})
+    return ran.returncode, ran.stdout, ran.stderr
+
+
+def tell_counts(what, number, seen):
+    """Prints how many allocations there were, and what came of them. Answers whether all went well."""
+    print(f"{what}: {number - 1} allocations")
+    for found, times in sorted(seen.items()):
+        print(f"    {times}: {found}", flush=True)
+    return not seen["WRONG"]
