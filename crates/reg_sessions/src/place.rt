@@ -223,6 +223,7 @@ impl Place {
         ensures popped { self.new.popped ≡ self.old.popped ++ notice_of result }
         ensures kept { (self.new.seat ≡ self.old.seat) × (self.new.receipts ≡ self.old.receipts) × (self.new.mark ≡ self.old.mark) }
         ensures dropped { self.new.dropped ≡ self.old.dropped }
+        ensures counts { (self.new.handles ≡ self.old.handles) × (self.new.notifies ≡ self.old.notifies) }
     {
         if self.taken.len() >= self.taken.capacity() {
             return None;
@@ -306,6 +307,7 @@ impl Place {
     ) -> Answer
         ensures kept { (self.new.receipts ≡ self.old.receipts) × (self.new.dropped ≡ self.old.dropped) × (self.new.seat ≡ self.old.seat) }
         ensures notices { (self.new.taken ≡ self.old.taken) × (self.new.popped ≡ self.old.popped) }
+        ensures counts { (self.new.handles ≡ self.old.handles) × (self.new.notifies ≡ self.old.notifies) }
         ensures mark { self.new.mark ≡ mark_told self.old.mark result }
         ensures refused { status_told result.body ≢ 0 → self.new ≡ self.old }
         ensures later { result.body ≢ Refused BAD_DATABASE → (self.old.seat.count ≤ result.at) × (self.old.mark ≤ result.at) }
