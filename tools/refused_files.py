@@ -4,11 +4,13 @@ The last one is an edit after which most of the file's bins is free, so that the
 once the key `Big` went with its values. The step `rebuild` must be among those that were told.
 """
 import os
+import re
 import subprocess
 import tempfile
 from collections import Counter
 
 from refusing import run, tell_counts
+from repository import Untried
 
 KEYS, SIZE = 8, 2_000
 BEFORE = "root 983103\ncreate 0 =Software\\Zugmeled 983103\nset 1 =v 4 x01000000\nset 1 =text 1 x6100620000\n"
@@ -19,10 +21,17 @@ TEXT = b'Windows Registry Editor Version 5.00\r\n\r\n[ROOT\\New]\r\n"w"=dword:00
 COMMANDS = {
     "edit": (["edit", "a", "--at", "9"], SET),
     "import": (["import", "a", "--at", "9"], TEXT),
-    "export": (["export", "a"], b""),
+    "export": (["export", "a", "--as", "reg"], b""),
+    "export as JSON": (["export", "a", "--as", "json"], b""),
     "diff": (["diff", "a", "b"], b""),
     "find": (["find", "a", "text"], b""),
 }
+
+
+# What a command reports where memory is wanting: of a script or a text, that a call was refused for it.
+WANTS = re.compile(
+    rb"error (8|script 4: [^\n]+|rebuild a: [^\n]*memory[^\n]*|line \d+ of standard input: [^\n]*refused with status 8 \(not enough memory\))\n"
+)
 
 
 def files_of(folder):
@@ -52,7 +61,7 @@ def verdict(before, after, done, ran, whole):
         return "WRONG"
     # A reply of 8 is the last that a script is given.
     is_front = whole[1].startswith(output) or output.endswith(b"8\n") and whole[1].startswith(output[:-2])
-    if status == 1 and is_front and errors.startswith(b"error ") and errors.count(b"\n") == 1 and errors.endswith(b"\n"):
+    if status == 1 and is_front and WANTS.fullmatch(errors):
         return errors.partition(b":")[0].decode().strip()
     return "WRONG"
 
@@ -66,6 +75,8 @@ def refuse_one(tool, library, folder, before, what, words, given):
 
     seen = Counter()
     whole, _, done = ran(0)
+    if whole[0] != (what == "diff") or whole[2]:
+        raise Untried(f"{what}: status {whole[0]}, {whole[2]!r}, though no memory is refused")
     for number in range(1, 1_000_000):
         said, was_refused, after = ran(number)
         if not was_refused:

@@ -4,7 +4,7 @@ import re
 from collections import Counter
 
 from building import room_of
-from refusing import run, run_threads, tell_counts
+from refusing import run_as_one, run_threads, tell_counts
 from repository import Untried, rt
 from soaking import CRATE, TEST, renumber
 
@@ -14,8 +14,9 @@ STEPS = (
     "refusals::a_step_refused_its_memory_is_answered_when_made_again",
 )
 SESSIONS, CALLS = 8, 200
-# What a test fails by where its own text, list or hive takes the allocation that is refused.
-OWN_WANTS = ("memory allocation failed", "no memory", "out of memory", "formatter error", "an error occurred when formatting")
+# What a test ends with where its own text, list or hive takes the allocation that is refused.
+OWN_WANTS = (b"error: AllocError\n", b"error: Memory\n")
+FAILED = 101
 
 
 def tests_of(folder):
@@ -26,28 +27,35 @@ def tests_of(folder):
     return f"{folder}/out/{CRATE}_tests"
 
 
-def verdict(status, output, errors):
-    """What came of a test: all was as it should be, or the test itself had no memory."""
-    if status == 0 and b"1 passed; 0 failed" in output:
-        return "all as it was"
-    said = (output + errors).decode(errors="replace")
-    if status and any(it in said for it in OWN_WANTS):
+def refused_step(said):
+    """What the test said next before and after an allocation was refused."""
+    lines = [b"", *said.splitlines(), b""]
+    at = lines.index(b"refused")
+    return lines[at - 1], lines[at + 1]
+
+
+def verdict(status, said):
+    """What came of a test: the step that was refused its memory says so, or the test itself had none. Where a thread isn't started, its
+    job is done all the same."""
+    if status == FAILED and any(b"\n" + it in said for it in OWN_WANTS):
         return "the test itself lacked it, outside of a call"
-    return "WRONG"
+    before, after = refused_step(said)
+    is_told = after.endswith(b": no memory") or (before, after) == (b"drive", b"drive: answered")
+    return after.decode() if status == 0 and b"test result: ok\n" in said and is_told else "WRONG"
 
 
 def refuse_test(library, program, test):
     """Refuses each allocation of a test, and prints what came of it. Answers whether all went well."""
     seen = Counter()
     for number in range(1, 1_000_000):
-        status, output, errors, was_refused = run(library, [program, test], b"", number)
-        if not was_refused:
+        status, said = run_as_one(library, [program, test], number)
+        if b"refused\n" not in said:
             break
-        found = verdict(status, output, errors)
+        found = verdict(status, said)
         seen[found] += 1
         if found == "WRONG":
-            print(f"{test}: allocation {number}: status {status}, {output[-300:]!r}, {errors[-300:]!r}", flush=True)
-    return tell_counts(test, number, seen) and seen["all as it was"] > 0
+            print(f"{test}: allocation {number}: status {status}, {said[-400:]!r}", flush=True)
+    return tell_counts(test, number, seen) and any(it.endswith("no memory") for it in seen)
 
 
 def refuse_steps(library):
@@ -64,7 +72,7 @@ def soak(library, rounds):
         program = tests_of(folder)
         status, output, errors = run_threads(library, [program, TEST], seed)
     refused = re.search(rb"^refused (\d+)$", errors, re.M)
-    is_well = status == 0 and b"1 passed; 0 failed" in output and refused is not None and int(refused[1]) > 0
+    is_well = status == 0 and b"test result: ok\n" in output and refused is not None and int(refused[1]) > 0
     print(f"soak: {rounds} rounds of {SESSIONS} sessions with {CALLS} calls, seed {seed}: {refused[1].decode() if refused else 'no'} refusals")
     if not is_well:
         print(f"soak: status {status}, {output[-300:]!r}, {errors[-300:]!r}")

@@ -3,10 +3,12 @@ import os
 import subprocess
 
 # Loaded before the C library. REFUSE is the number of the one allocation that is refused, in any thread. REFUSE_THREADS is a number from
-# which it is drawn, in each thread but the first, which allocations are refused: the next one is the 10th to the 1,000th behind the last.
+# which it is drawn in each thread which allocations are refused: the next one is the 10th to the 1,000th behind the last. Of the first
+# thread none is, unless another one is at work.
 COUNTING = r"""
 #define _GNU_SOURCE
 #include <errno.h>
+#include <pthread.h>
 #include <stdio.h>
 #include <stdlib.h>
 #include <sys/syscall.h>
@@ -17,10 +19,16 @@ extern void *__libc_realloc(void *, size_t);
 extern void *__libc_memalign(size_t, size_t);
 static long left;
 static unsigned long drawn, refusals;
+static long at_work;
+static pthread_key_t key;
 static __thread unsigned long state __attribute__((tls_model("initial-exec")));
 static __thread long gap __attribute__((tls_model("initial-exec")));
 static __thread int kind __attribute__((tls_model("initial-exec")));
+static void leave(void *thread) {
+    __atomic_sub_fetch(&at_work, 1, __ATOMIC_SEQ_CST);
+}
 __attribute__((constructor)) static void begin(void) {
+    if (pthread_key_create(&key, leave)) _exit(98);
     const char *number = getenv("REFUSE"), *threads = getenv("REFUSE_THREADS");
     left = number ? atol(number) : 0;
     drawn = threads ? strtoul(threads, 0, 10) : 0;
@@ -42,8 +50,12 @@ static int refused_in_thread(void) {
         kind = thread == (unsigned long)getpid() ? 1 : 2;
         state = drawn * 0x9E3779B97F4A7C15ul ^ thread * 0xD1B54A32D192ED03ul;
         gap = 10 + draw() % 991;
+        if (kind == 2) {
+            __atomic_add_fetch(&at_work, 1, __ATOMIC_SEQ_CST);
+            if (pthread_setspecific(key, &key)) _exit(97);
+        }
     }
-    if (kind == 1 || --gap > 0) return 0;
+    if ((kind == 1 && !__atomic_load_n(&at_work, __ATOMIC_SEQ_CST)) || --gap > 0) return 0;
     gap = 10 + draw() % 991;
     __atomic_add_fetch(&refusals, 1, __ATOMIC_RELAXED);
     errno = ENOMEM;
@@ -74,6 +86,13 @@ def run(library, words, given, number, folder=None):
     ran = subprocess.run(words, input=given, capture_output=True, env=here, timeout=60, cwd=folder)
     was_refused = b"refused\n" in ran.stderr
     return ran.returncode, ran.stdout, ran.stderr.replace(b"refused\n", b"", 1), was_refused
+
+
+def run_as_one(library, words, number):
+    """Status of a run, and its output and errors in the order in which they were written."""
+    here = {"LD_PRELOAD": library, "REFUSE": str(number)}
+    ran = subprocess.run(words, stdin=subprocess.DEVNULL, stdout=subprocess.PIPE, stderr=subprocess.STDOUT, env=here, timeout=60)
+    return ran.returncode, ran.stdout
 
 
 def run_threads(library, words, seed):

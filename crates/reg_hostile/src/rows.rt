@@ -10,9 +10,9 @@ use reg_script::ScriptFault;
 use std::alloc::Global;
 use std::fmt;
 
-/// Scripts on a fresh hive, a row for each line with its reply; `*` and a number stand for so many bytes 0x2a. In the first each call is
-/// accepted; the others have notifications.
-const ROWS: [&str; 5] = [
+/// Scripts on a fresh hive, a row for each line with its reply; `*` and a number stand for so many bytes 0x2a, and `;` ends a line that has
+/// none. In the first each call is accepted, the next four have notifications, and the others are rows of the rules.
+const ROWS: [&str; 13] = [
     "\
 root 983103 -> 0 handle 0
 create 0 =Software\\Zugmeled 983103 -> 0 handle 1 disposition 1
@@ -91,7 +91,99 @@ notice -> notice 3 7 matched
 notice -> notice 4 7 matched
 notice -> notice 5 8 closed
 notice -> notice none",
+    "\
+root 983103 -> 0 handle 0
+set 0 = 4 x01000000 -> 0
+query 0 = 4 -> 0 type 4 size 4 x01000000
+set 0 = 3 x0102030405 -> 0
+delvalue 0 = -> 0
+delvalue 0 = -> 2
+set 0 =v 3 x0102030405 -> 0
+set 0 =w 3 *16344 -> 0
+set 0 =w 3 *16345 -> 0
+set 0 =e 3 x -> 0
+query 0 =e 0 -> 0 type 3 size 0 x
+query 0 =e - -> 0 type 3 size 0
+query 0 =f - -> 2
+set 0 =t 3 x00010203040506070809 -> 0
+query 0 =T 9 -> 234 type 3 size 10
+query 0 =t 10 -> 0 type 3 size 10 x00010203040506070809",
+    "\
+root 983103 -> 0 handle 0
+set 0 =b 4 x01 -> 0
+set 0 =a 1 x -> 0
+set 0 =B 3 x0203 -> 0
+enumvalue 0 0 1 - -> 0 =b type 3 size 2
+enumvalue 0 0 0 9 -> 234 type 3 size 2
+delvalue 0 =b -> 0
+enumvalue 0 0 1 - -> 0 =a type 1 size 0
+create 0 =a\\a\\a\\a\\a\\a\\a\\a\\a\\a\\a\\a\\a\\a\\a\\a\\a\\a\\a\\a\\a\\a\\a\\a\\a\\a\\a\\a\\a\\a\\a\\a 983103 -> 0 handle 5 disposition 1",
+    "\
+root 983103 -> 0 handle 0
+create 0 =A\\b\\C 983103 -> 0 handle 1 disposition 1
+create 0 =a\\B\\c 983103 -> 0 handle 2 disposition 2
+enumkey 0 0 255 -> 0 =A time 0
+enumkey 0 0 0 -> 234 size 1
+enumkey 0 1 255 -> 259
+info 0 -> 0 subkeys 1 longest 1 values 0 longest 0 largest 0 security 20 time 0",
+    "\
+root 983103 -> 0 handle 0
+create 0 =K 983103 -> 0 handle 1 disposition 1
+open 0 =K 983103 -> 0 handle 2
+set 1 =v 4 x07 -> 0
+delkey 0 =k -> 0
+create 0 =K 983103 -> 0 handle 5 disposition 1
+query 1 =v 4 -> 1018
+query 5 =v 4 -> 2
+close 1 -> 0
+query 1 =v 4 -> 6",
+    "\
+root 983103 -> 0 handle 0
+create 0 =P\\C 983103 -> 0 handle 1 disposition 1
+delkey 0 =P -> 5
+at 9;delkey 0 =P\\C -> 0
+enumkey 0 0 1 -> 0 =P time 9
+at 8;delkey 0 =P -> 0
+delkey 0 =P -> 2
+delkey 0 = -> 87
+delkey 0 =P\\ -> 87",
+    "\
+root 1 -> 0 handle 0
+set 0 =v 4 x01 -> 5
+create 0 =K 1 -> 0 handle 1 disposition 1
+root 1048576 -> 87
+query 9 = - -> 6",
+    "\
+root 983103 -> 0 handle 0
+setsec 0 x0102 -> 0
+getsec 0 1 -> 122 size 2
+create 0 =K 983103 -> 0 handle 2 disposition 1
+getsec 2 2 -> 0 x0102
+setsec 0 x -> 87
+create 0 =L 983103 x03 -> 0 handle 3 disposition 1
+setsec 3 x0102 -> 0",
+    "\
+root 983103 -> 0 handle 0
+create 0 =A\\B\\C 983103 -> 0 handle 1 disposition 1
+open 0 =A 131097 -> 0 handle 2
+deltree 2 =B -> 5
+open 0 =A 65547 -> 0 handle 3
+set 3 =v 4 x01 -> 0
+deltree 3 = -> 0
+enumvalue 3 0 9 - -> 259
+query 1 = - -> 1018
+deltree 0 =A -> 0
+query 3 = - -> 1018
+deltree 0 =A -> 2",
 ];
+
+/// What a list of 500 subkeys is asked, which parts at one more, and is one again once more were deleted.
+const PARTING: &str = "\
+create 0 =k500 983103 -> 0 handle 501 disposition 1
+enumkey 0 500 255 -> 0 =k500 time 0
+enumkey 0 501 255 -> 259
+delkey 0 =k500 -> 0
+deltree 0 = -> 0";
 
 /// What a hive holds: its image, how many entries its journal has, how many handles are open, and how many watches are pending.
 #[derive(Drop)]
@@ -143,10 +235,10 @@ fn take_snapshot<H: Subject>(alloc: Global, hive: &H) -> Result<Snapshot> {
     })
 }
 
-/// A row's line, with its bytes written out.
+/// A row's line, with its bytes written out, and those before it.
 fn line_of(alloc: Global, line: &str) -> Result<String> {
     let Some((head, count)) = line.split_once("*") else {
-        return Ok(line.to_string(alloc)?);
+        return Ok(line.replace(alloc, ';', "\n")?);
     };
     let mut text = head.to_string(alloc)?;
     text.push_str("x")?;
@@ -229,17 +321,48 @@ fn register<H: Subject>(alloc: Global, hive: &mut H, counts: &mut Counts) -> Res
     }
 }
 
+/// Gives a script's rows to a hive.
+fn check_rows<H: Subject>(
+    alloc: Global,
+    hive: &mut H,
+    script: &str,
+    counts: &mut Counts,
+) -> Result<()> {
+    for row in script.split('\n') {
+        if let Some((line, wanted)) = row.split_once(" -> ") {
+            let line = line_of(alloc, line)?;
+            check_row(alloc, hive, line.as_str(), wanted, counts)?;
+        }
+    }
+    Ok(())
+}
+
+/// Gives the root of a hive 500 subkeys. Where one of these is refused its memory, the rows have none to begin with.
+fn make_subkeys<H: Subject>(alloc: Global, hive: &mut H) -> Result<()> {
+    let mut script = String::from_str(alloc, "root 983103\n")?;
+    for number in 0..500 {
+        write!(script, "create 0 =k{number:03} 983103\n")?;
+    }
+    let mut replies = Vec::new(alloc);
+    match hive.ran(alloc, script.as_bytes(), &mut replies) {
+        Ok(()) if hive.len() == 501 => Ok(()),
+        _ => bail!("no memory"),
+    }
+}
+
+/// Gives rows to a hive whose root has 500 subkeys.
+fn check_parting<H: Subject>(alloc: Global, counts: &mut Counts) -> Result<()> {
+    let mut hive: H = fresh_hive(alloc)?;
+    make_subkeys(alloc, &mut hive)?;
+    check_rows(alloc, &mut hive, PARTING, counts)
+}
+
 /// Gives a script's rows to a fresh hive with a callback that lets every call go on. It is taken out at last: for that no memory is
 /// wanting.
 fn check_script<H: Subject>(alloc: Global, script: &str, counts: &mut Counts) -> Result<()> {
     let mut hive: H = fresh_hive(alloc)?;
     let cookie = register(alloc, &mut hive, counts)?;
-    for row in script.split('\n') {
-        if let Some((line, wanted)) = row.split_once(" -> ") {
-            let line = line_of(alloc, line)?;
-            check_row(alloc, &mut hive, line.as_str(), wanted, counts)?;
-        }
-    }
+    check_rows(alloc, &mut hive, script, counts)?;
     if !hive.take_callback(cookie) {
         bail!("a callback was not taken out");
     }
@@ -256,6 +379,7 @@ pub fn run_rows<H: Subject>(rt: &impl Print, alloc: Global) -> Result<()> {
     for script in ROWS {
         check_script::<H>(alloc, script, &mut counts)?;
     }
+    check_parting::<H>(alloc, &mut counts)?;
     println!(rt; "{counts}")?;
     Ok(())
 }

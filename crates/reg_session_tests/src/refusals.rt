@@ -1,5 +1,6 @@
-//! Calls by sessions where memory is refused: the one that is changes nothing, all others are answered as they are else, and it is answered
-//! so when it is made again. In the gate nothing is refused; `tools/refuse-memory` runs these tests once for each request for memory.
+//! Calls by sessions where memory is refused: a call that is refused it is answered 8, or the fault Memory, and changes nothing. It is answered
+//! when it is made again, and all others are answered as they are else. In the gate nothing is refused: `tools/refuse-memory` runs these
+//! tests once for each request for memory, and reads in what they print at which step it was refused, and what came of that step.
 use crate::jobs::{new_key, open, watch};
 use crate::stage::{Act, Came, Left, Stage, Step};
 use reg_calls::{Hive, SeatedHive};
@@ -48,6 +49,32 @@ fn first_steps(alloc: Global, steps: &mut Vec<Step>) -> Result<(), AllocError> {
     Ok(())
 }
 
+/// Changes of other kinds at hive 0.
+fn other_steps(alloc: Global, steps: &mut Vec<Step>) -> Result<(), AllocError> {
+    let path = Bytes::from_slice(alloc, b"K")?;
+    let opened = Change::OpenKey {
+        handle: 0,
+        path,
+        mask: 983_103,
+    };
+    let secured = Change::SetSecurity {
+        handle: 0,
+        descriptor: Bytes::from_slice(alloc, &[1, 2])?,
+    };
+    let emptied = Change::DeleteValue {
+        handle: 0,
+        name: Bytes::from_slice(alloc, b"V")?,
+    };
+    let deleted = Change::DeleteKey {
+        handle: 0,
+        path: Bytes::from_slice(alloc, b"k")?,
+    };
+    for change in [opened, secured, emptied, deleted] {
+        steps.push(step(0, 0, Act::Change(change)))?;
+    }
+    Ok(())
+}
+
 /// Threads at hive 1, and its checkpoint.
 fn driven_steps(alloc: Global, steps: &mut Vec<Step>) -> Result<(), AllocError> {
     steps.push(step(0, 1, Act::Drive(open())))?;
@@ -70,6 +97,7 @@ fn last_steps(alloc: Global, steps: &mut Vec<Step>) -> Result<(), AllocError> {
     steps.push(step(0, 0, Act::Change(tree)))?;
     steps.push(step(0, 0, Act::Unregister))?;
     steps.push(step(0, 0, close(4)))?;
+    steps.push(step(0, 0, close(6)))?;
     steps.push(step(0, 0, close(0)))?;
     steps.push(step(1, 0, close(2)))?;
     steps.push(step(0, 0, Act::Checkpoint))?;
@@ -80,32 +108,67 @@ fn last_steps(alloc: Global, steps: &mut Vec<Step>) -> Result<(), AllocError> {
 fn steps_of(alloc: Global) -> Result<Vec<Step>, AllocError> {
     let mut steps = Vec::new(alloc);
     first_steps(alloc, &mut steps)?;
+    other_steps(alloc, &mut steps)?;
     driven_steps(alloc, &mut steps)?;
     last_steps(alloc, &mut steps)?;
     Ok(steps)
 }
 
+/// Says that a step was refused its memory.
+fn tell_refusal<Rt: Print>(rt: &Rt, step: &str, is_refused: bool) -> Result<(), Fail> {
+    if is_refused {
+        println!(rt; "{step}: no memory")?;
+    }
+    Ok(())
+}
+
+/// Starts the sessions. None where that is refused its memory.
+fn start<Rt: Print>(rt: &Rt, alloc: Global) -> Result<Option<Stage>, Fail> {
+    let stage = Stage::start(alloc)?;
+    tell_refusal(rt, "start", stage.is_none())?;
+    Ok(stage)
+}
+
 /// Starts the sessions, and again where that was refused its memory.
-fn started(alloc: Global) -> Result<Stage, Fail> {
-    if let Some(stage) = Stage::start(alloc)? {
+fn started<Rt: Print>(rt: &Rt, alloc: Global) -> Result<Stage, Fail> {
+    if let Some(stage) = start(rt, alloc)? {
         return Ok(stage);
     }
-    match Stage::start(alloc)? {
+    match start(rt, alloc)? {
         Some(stage) => Ok(stage),
         None => Err("refused twice".into()),
     }
 }
 
+/// Takes a step. Of a drive it is said where it begins and that it was answered: a thread that isn't started leaves its job to another one.
+fn take<Rt: Print + Threads + Wait + Sync>(
+    rt: &Rt,
+    alloc: Global,
+    stage: &mut Stage,
+    step: &Step,
+) -> Result<Came, Fail> {
+    let is_drive = matches!(step.act, Act::Drive(_));
+    if is_drive {
+        println!(rt; "drive")?;
+    }
+    let came = stage.take(rt, alloc, step)?;
+    tell_refusal(rt, step.act.name(), came == Came::NoMemory)?;
+    if is_drive && came == Came::Answered {
+        println!(rt; "drive: answered")?;
+    }
+    Ok(came)
+}
+
 /// Takes steps up to one that is refused its memory. Answers how many were taken, and what they left.
-fn taken_until_refused<Rt: Threads + Wait + Sync>(
+fn taken_until_refused<Rt: Print + Threads + Wait + Sync>(
     rt: &Rt,
     alloc: Global,
     steps: &[Step],
 ) -> Result<(usize, Left), Fail> {
-    let mut stage = started(alloc)?;
+    let mut stage = started(rt, alloc)?;
     let mut taken = 0usize;
     for step in steps {
-        if stage.take(rt, alloc, step)? == Came::NoMemory {
+        if take(rt, alloc, &mut stage, step)? == Came::NoMemory {
             break;
         }
         taken = taken.saturating_add(1);
@@ -114,15 +177,15 @@ fn taken_until_refused<Rt: Threads + Wait + Sync>(
 }
 
 /// Takes all steps, one that is refused its memory once more.
-fn all_taken<Rt: Threads + Wait + Sync>(
+fn all_taken<Rt: Print + Threads + Wait + Sync>(
     rt: &Rt,
     alloc: Global,
     steps: &[Step],
 ) -> Result<Left, Fail> {
-    let mut stage = started(alloc)?;
+    let mut stage = started(rt, alloc)?;
     for step in steps {
-        if stage.take(rt, alloc, step)? == Came::NoMemory
-            && stage.take(rt, alloc, step)? == Came::NoMemory
+        if take(rt, alloc, &mut stage, step)? == Came::NoMemory
+            && take(rt, alloc, &mut stage, step)? == Came::NoMemory
         {
             return Err("refused twice".into());
         }
@@ -139,7 +202,10 @@ fn assert_same(one: &Left, other: &Left) -> Result<(), Fail> {
 }
 
 /// What steps up to a refusal leave is what those before it leave.
-fn refused_changes_nothing<Rt: Threads + Wait + Sync>(rt: &Rt, alloc: Global) -> Result<(), Fail> {
+fn refused_changes_nothing<Rt: Print + Threads + Wait + Sync>(
+    rt: &Rt,
+    alloc: Global,
+) -> Result<(), Fail> {
     let steps = steps_of(alloc)?;
     let (taken, left) = taken_until_refused(rt, alloc, steps.as_slice())?;
     let before = steps.as_slice().get(..taken).unwrap_or(&[]);
@@ -147,55 +213,89 @@ fn refused_changes_nothing<Rt: Threads + Wait + Sync>(rt: &Rt, alloc: Global) ->
 }
 
 /// What all steps leave is the same, where one was refused and made again and where none was.
-fn refused_is_made_again<Rt: Threads + Wait + Sync>(rt: &Rt, alloc: Global) -> Result<(), Fail> {
+fn refused_is_made_again<Rt: Print + Threads + Wait + Sync>(
+    rt: &Rt,
+    alloc: Global,
+) -> Result<(), Fail> {
     let steps = steps_of(alloc)?;
     let left = all_taken(rt, alloc, steps.as_slice())?;
     assert_same(&left, &all_taken(rt, alloc, steps.as_slice())?)
 }
 
 /// Makes a change on a hive, and again where there was no memory for it.
-fn apply(alloc: Global, hive: &mut SeatedHive, change: &Change) -> Result<(), Fail> {
-    let mut status = hive.apply(0, 1, change.try_clone(alloc)?).status;
-    if status == 8 {
-        status = hive.apply(0, 1, change.try_clone(alloc)?).status;
-    }
-    if status == 0 {
-        return Ok(());
+fn apply<Rt: Print>(
+    rt: &Rt,
+    alloc: Global,
+    hive: &mut SeatedHive,
+    change: &Change,
+) -> Result<(), Fail> {
+    for _time in 0..2 {
+        let change = change.try_clone(alloc)?;
+        let status = hive.apply(0, 1, change).status;
+        tell_refusal(rt, "change", status == 8)?;
+        if status == 0 {
+            return Ok(());
+        }
     }
     Err("a change was refused".into())
 }
 
-/// A checkpoint on one thread: where it is refused its memory, all entries stay. The image is the same by either way.
-fn checkpointed(alloc: Global, hive: &mut Hive) -> Result<(), Fail> {
+/// A checkpoint on one thread. None where it is refused its memory.
+fn cut<Rt: Print>(rt: &Rt, alloc: Global, hive: &mut Hive) -> Result<Option<Vec<u8>>, Fail> {
+    let made = match checkpoint(alloc, hive, 0, 0) {
+        Ok(image) => Some(image),
+        Err(CheckpointFault::Memory) => None,
+        Err(_) => return Err("a checkpoint was refused".into()),
+    };
+    tell_refusal(rt, "checkpoint", made.is_none())?;
+    Ok(made)
+}
+
+/// The image of a checkpoint. Where it is refused its memory all entries stay, and it is made again.
+fn cut_at_last<Rt: Print>(rt: &Rt, alloc: Global, hive: &mut Hive) -> Result<Vec<u8>, Fail> {
     let entries = hive.entries().len();
-    let before = image(alloc, hive, 0, 0)?;
-    let mut came = checkpoint(alloc, hive, 0, 0);
-    if let Err(CheckpointFault::Memory) = came {
-        if hive.entries().len() != entries {
-            return Err("a refused checkpoint cut entries".into());
-        }
-        came = checkpoint(alloc, hive, 0, 0);
+    if let Some(image) = cut(rt, alloc, hive)? {
+        return Ok(image);
     }
-    let made = came?;
+    if hive.entries().len() != entries {
+        return Err("a refused checkpoint cut entries".into());
+    }
+    match cut(rt, alloc, hive)? {
+        Some(image) => Ok(image),
+        None => Err("refused twice".into()),
+    }
+}
+
+fn checkpointed<Rt: Print>(rt: &Rt, alloc: Global, hive: &mut Hive) -> Result<(), Fail> {
+    let before = image(alloc, hive, 0, 0)?;
+    let made = cut_at_last(rt, alloc, hive)?;
     if made.as_slice() == before.as_slice() && hive.entries().is_empty() {
         return Ok(());
     }
     Err("a checkpoint changed the image, or left entries".into())
 }
 
-fn refused_checkpoint(alloc: Global, hive: &mut SeatedHive) -> Result<(), Fail> {
-    for change in [open(), new_key(alloc, 0)?, Change::Close { handle: 1 }] {
-        apply(alloc, hive, &change)?;
+fn refused_checkpoint<Rt: Print>(
+    rt: &Rt,
+    alloc: Global,
+    hive: &mut SeatedHive,
+) -> Result<(), Fail> {
+    for change in [open(), new_key(alloc, 0)?] {
+        apply(rt, alloc, hive, &change)?;
     }
-    apply(alloc, hive, &Change::Close { handle: 0 })?;
-    checkpointed(alloc, &mut hive.hive)
+    for handle in 0..2u64 {
+        if hive.apply(0, 1, Change::Close { handle }).status != 0 {
+            return Err("a Close was refused".into());
+        }
+    }
+    checkpointed(rt, alloc, &mut hive.hive)
 }
 
 #[test]
 fn a_checkpoint_refused_its_memory_changes_nothing(rt: HostRuntime) -> Result<(), Fail> {
     let alloc = rt.alloc();
     let mut hive = SeatedHive::new(Hive::new(alloc, b"ROOT", &[7; 20], 0)?)?;
-    refused_checkpoint(alloc, &mut hive)
+    refused_checkpoint(&rt, alloc, &mut hive)
 }
 
 #[test]

@@ -4,8 +4,8 @@ use crate::asserts::assert_report;
 use crate::jobs::{job_of, run};
 use reg_callbacks::NoCallback;
 use reg_calls::{Hive, SeatedHive};
-use reg_model::{Bytes, Call, Change, Query};
-use reg_sessions::{Ask, Audit, Job, OpenGate, Registry, Session, Work, gather, start};
+use reg_model::{Bytes, Call, Change, Outcome, Query};
+use reg_sessions::{Ask, Audit, Done, Job, OpenGate, Registry, Session, Work, gather, start};
 use reg_tree::Tree;
 use reg_tree_text::dump;
 use reg_workload::Chance;
@@ -25,7 +25,7 @@ const CALLS: u32 = 100;
 const SEED: u64 = 0;
 
 /// How often all is done, with seeds of its own each time. `tools/soak` has other numbers for these three, and `tools/refuse-memory` for
-/// that of sessions, too.
+/// all of `SESSIONS` to `MANY`.
 const ROUNDS: u64 = 1;
 
 /// More entries than these are many.
@@ -205,6 +205,15 @@ fn jobs<Rt: Wait>(
     Ok(jobs)
 }
 
+/// Whether a Close among a job's work was answered 8: it takes no memory.
+fn is_close_refused(job: &Job) -> bool {
+    job.work.iter().zip(job.outcomes.iter()).any(|(work, done)| match (&work.ask, done) {
+        (Ask::Call(Call::Change(Change::Close { .. })), Done::Outcome(Outcome::Changed(reply))) =>
+            reply.status == 8,
+        _ => false,
+    })
+}
+
 /// Runs the jobs, and takes the sessions out. Where one is lost, they won't be gathered.
 fn driven<Rt: Threads + Wait + Sync>(
     rt: &Rt,
@@ -216,11 +225,10 @@ fn driven<Rt: Threads + Wait + Sync>(
     run(rt, registry, &mut jobs, &OpenGate)?;
     let mut sessions = Vec::new(alloc);
     for job in jobs {
-        let Job {
-            session,
-            work: _,
-            outcomes: _,
-        } = job;
+        if is_close_refused(&job) {
+            return Err("a Close was answered 8".into());
+        }
+        let Job { session, .. } = job;
         let _ = sessions.push(session);
     }
     Ok(sessions)

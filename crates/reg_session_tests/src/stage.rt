@@ -37,6 +37,22 @@ pub enum Act {
     Checkpoint,
 }
 
+impl Act {
+    /// What the test says of it, where memory may be refused.
+    pub fn name(&self) -> &'static str {
+        match self {
+            Act::Change(Change::Close { .. }) => "close",
+            Act::Change(_) => "change",
+            Act::Ask(_) => "question",
+            Act::TakeNotice => "notice",
+            Act::Drive(_) => "drive",
+            Act::Register => "register",
+            Act::Unregister => "unregister",
+            Act::Checkpoint => "checkpoint",
+        }
+    }
+}
+
 /// A step, of a session at a hive.
 #[derive(Drop)]
 pub struct Step {
