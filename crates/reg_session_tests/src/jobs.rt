@@ -99,18 +99,30 @@ pub fn job_of(alloc: Global, session: Session, work: Result<Vec<Work>, AllocErro
     }
 }
 
-/// Runs jobs at a gate, each on a thread of its own.
+/// Runs jobs at a gate, each on a thread of its own. False where there is no memory for their outcomes.
+pub fn ran<Rt: Threads + Wait + Sync, G: HiveGate>(
+    rt: &Rt,
+    registry: &Registry,
+    jobs: &mut Vec<Job>,
+    gate: &G,
+) -> Result<bool, Fail> {
+    if !are_ready(jobs.as_slice(), registry.hives()) {
+        return Err("the jobs are not ready".into());
+    }
+    Ok(drive(rt, registry, jobs.as_mut_slice(), gate).is_ok())
+}
+
+/// Runs jobs at a gate, for whose outcomes there must be memory.
 pub fn run<Rt: Threads + Wait + Sync, G: HiveGate>(
     rt: &Rt,
     registry: &Registry,
     jobs: &mut Vec<Job>,
     gate: &G,
 ) -> Result<(), Fail> {
-    if !are_ready(jobs.as_slice(), registry.hives()) {
-        return Err("the jobs are not ready".into());
+    if ran(rt, registry, jobs, gate)? {
+        return Ok(());
     }
-    drive(rt, registry, jobs.as_mut_slice(), gate)?;
-    Ok(())
+    Err("no memory for the outcomes".into())
 }
 
 /// Writes a job's outcomes, one after another: the statuses of changes, that a question was answered, and notices.

@@ -3,8 +3,9 @@
 //! tests once for each request for memory, and reads in what they print at which step it was refused, and what came of that step.
 use crate::jobs::{new_key, open, watch};
 use crate::stage::{Act, Came, Left, Stage, Step};
-use reg_calls::{Hive, SeatedHive};
+use reg_calls::Hive;
 use reg_image::{CheckpointFault, checkpoint, image};
+use reg_journal::Share;
 use reg_model::{Bytes, Change, Query};
 use std::alloc::{AllocError, Global};
 use std::sync::Wait;
@@ -226,12 +227,13 @@ fn refused_is_made_again<Rt: Print + Threads + Wait + Sync>(
 fn apply<Rt: Print>(
     rt: &Rt,
     alloc: Global,
-    hive: &mut SeatedHive,
+    hive: &mut Hive,
+    share: &mut Share,
     change: &Change,
 ) -> Result<(), Fail> {
     for _time in 0..2 {
         let change = change.try_clone(alloc)?;
-        let status = hive.apply(0, 1, change).status;
+        let status = hive.apply(share, 1, change).status;
         tell_refusal(rt, "change", status == 8)?;
         if status == 0 {
             return Ok(());
@@ -275,27 +277,32 @@ fn checkpointed<Rt: Print>(rt: &Rt, alloc: Global, hive: &mut Hive) -> Result<()
     Err("a checkpoint changed the image, or left entries".into())
 }
 
+/// A checkpoint of a hive that got a key.
 fn refused_checkpoint<Rt: Print>(
     rt: &Rt,
     alloc: Global,
-    hive: &mut SeatedHive,
+    hive: &mut Hive,
+    share: &mut Share,
 ) -> Result<(), Fail> {
-    for change in [open(), new_key(alloc, 0)?] {
-        apply(rt, alloc, hive, &change)?;
-    }
+    apply(rt, alloc, hive, share, &open())?;
+    apply(rt, alloc, hive, share, &new_key(alloc, 0)?)?;
     for handle in 0..2u64 {
-        if hive.apply(0, 1, Change::Close { handle }).status != 0 {
+        if hive.apply(share, 1, Change::Close { handle }).status != 0 {
             return Err("a Close was refused".into());
         }
     }
-    checkpointed(rt, alloc, &mut hive.hive)
+    checkpointed(rt, alloc, hive)
 }
 
 #[test]
 fn a_checkpoint_refused_its_memory_changes_nothing(rt: HostRuntime) -> Result<(), Fail> {
     let alloc = rt.alloc();
-    let mut hive = SeatedHive::new(Hive::new(alloc, b"ROOT", &[7; 20], 0)?)?;
-    refused_checkpoint(&rt, alloc, &mut hive)
+    let mut hive = Hive::new(alloc, b"ROOT", &[7; 20], 0)?;
+    let mut shares = hive.seat(1)?;
+    let Some(share) = shares.get_mut(0) else {
+        return Err("no share".into());
+    };
+    refused_checkpoint(&rt, alloc, &mut hive, share)
 }
 
 #[test]

@@ -1,13 +1,13 @@
 //! Two sessions at two hives, and the steps that they take. A step that wants memory is answered 8 or the fault Memory; then it is not told.
-use crate::jobs::{fresh_hives, job_of};
+use crate::jobs::{fresh_hives, job_of, ran};
 use crate::told::boxed;
 use reg_callbacks::{CallbackFault, Cookie};
 use reg_calls::Hive;
 use reg_image::image;
 use reg_model::{AnswerBody, Call, Change, Outcome, Query};
 use reg_sessions::{
-    Ask, Audit, Done, Job, OpenGate, Registry, RegistryCutFault, Session, StartFault, Work,
-    are_ready, drive, gather, start,
+    Ask, Audit, Done, Job, OpenGate, Registry, RegistryCutFault, Session, StartFault, Work, gather,
+    start,
 };
 use std::alloc::{AllocError, Global};
 use std::mem;
@@ -266,13 +266,10 @@ impl Stage {
     ) -> Result<Came, Fail> {
         let sessions = mem::replace(&mut self.sessions, Vec::new(alloc));
         let mut jobs = jobs_of(alloc, sessions, session, hive, change)?;
-        if !are_ready(jobs.as_slice(), self.registry.hives()) {
-            return Err(astray("the jobs are not ready"));
-        }
-        let ran = drive(rt, &self.registry, jobs.as_mut_slice(), &OpenGate);
-        let mut came = match ran {
-            Ok(()) => Came::Answered,
-            Err(_) => Came::NoMemory,
+        let mut came = if ran(rt, &self.registry, &mut jobs, &OpenGate)? {
+            Came::Answered
+        } else {
+            Came::NoMemory
         };
         for job in jobs {
             if came_of(job.outcomes.as_slice(), &mut self.text)? == Came::NoMemory {

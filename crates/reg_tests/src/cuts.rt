@@ -4,6 +4,7 @@ use crate::seats::hive;
 use reg_callbacks::NoCallback;
 use reg_calls::{Hive, SeatedHive};
 use reg_image::checkpoint;
+use reg_journal::Share;
 use reg_model::{Bytes, Change, Query};
 use std::alloc::Global;
 use std::test::Fail;
@@ -83,14 +84,29 @@ fn tell_checkpoint(alloc: Global, hive: &mut Hive<NoCallback>, text: &mut String
     }
 }
 
+/// A checkpoint where the root's handle is open, and one where none is.
+fn tell_checkpoints(
+    alloc: Global,
+    hive: &mut Hive<NoCallback>,
+    share: &mut Share,
+    text: &mut String,
+) {
+    hive.apply(share, 0, OPEN_ROOT);
+    tell_checkpoint(alloc, hive, text);
+    hive.apply(share, 0, Change::Close { handle: 3 });
+    tell_checkpoint(alloc, hive, text);
+}
+
 fn told(alloc: Global) -> Result<String, Fail> {
     let mut text = String::new(alloc);
-    let mut hive = SeatedHive::new(hive(alloc)?)?;
-    tell_notices(&mut hive, &mut text);
-    hive.apply(0, 0, OPEN_ROOT);
-    tell_checkpoint(alloc, &mut hive.hive, &mut text);
-    hive.apply(0, 0, Change::Close { handle: 3 });
-    tell_checkpoint(alloc, &mut hive.hive, &mut text);
+    let mut seated = SeatedHive::new(hive(alloc)?)?;
+    tell_notices(&mut seated, &mut text);
+    let SeatedHive { hive, shares } = seated;
+    let mut hive = hive;
+    let mut shares = shares;
+    if let Some(share) = shares.get_mut(0) {
+        tell_checkpoints(alloc, &mut hive, share, &mut text);
+    }
     Ok(text)
 }
 
