@@ -2,9 +2,7 @@
 use crate::asserts::assert_report;
 use crate::seats::hive;
 use reg_callbacks::NoCallback;
-use reg_calls::{Hive, SeatedHive};
-use reg_image::checkpoint;
-use reg_journal::Share;
+use reg_calls::SeatedHive;
 use reg_model::{Bytes, Change, Query};
 use std::alloc::Global;
 use std::test::Fail;
@@ -71,42 +69,10 @@ fn tell_notices(hive: &mut SeatedHive<NoCallback>, text: &mut String) {
     let _ = write!(text, "row {:?}\n", hive.hive.row(0));
 }
 
-/// A checkpoint: how many bytes its image has, or why there is none.
-fn tell_checkpoint(alloc: Global, hive: &mut Hive<NoCallback>, text: &mut String) {
-    match checkpoint(alloc, hive, 0, 1) {
-        Ok(image) => {
-            let _ = write!(text, "{} bytes, len {}, ", image.len(), hive.len());
-            let _ = write!(text, "{:?}, row {:?}", hive.entry(4), hive.row(0));
-        }
-        Err(fault) => {
-            let _ = write!(text, "{fault:?}, ");
-        }
-    }
-}
-
-/// A checkpoint where the root's handle is open, and one where none is.
-fn tell_checkpoints(
-    alloc: Global,
-    hive: &mut Hive<NoCallback>,
-    share: &mut Share,
-    text: &mut String,
-) {
-    hive.apply(share, 0, OPEN_ROOT);
-    tell_checkpoint(alloc, hive, text);
-    hive.apply(share, 0, Change::Close { handle: 3 });
-    tell_checkpoint(alloc, hive, text);
-}
-
-fn told(alloc: Global) -> Result<String, Fail> {
+fn told_of_notices(alloc: Global) -> Result<String, Fail> {
     let mut text = String::new(alloc);
-    let mut seated = SeatedHive::new(hive(alloc)?)?;
-    tell_notices(&mut seated, &mut text);
-    let SeatedHive { hive, shares } = seated;
-    let mut hive = hive;
-    let mut shares = shares;
-    if let Some(share) = shares.get_mut(0) {
-        tell_checkpoints(alloc, &mut hive, share, &mut text);
-    }
+    let mut hive = SeatedHive::new(hive(alloc)?)?;
+    tell_notices(&mut hive, &mut text);
     Ok(text)
 }
 
@@ -133,8 +99,7 @@ fn a_journal_begins_anew_at_the_next_number(rt: HostRuntime) -> Result<(), Fail>
 #[test]
 fn a_notice_not_taken_stays_behind_cuts(rt: HostRuntime) -> Result<(), Fail> {
     assert_report(
-        told(rt.alloc()),
-        "Ok(3) Ok(0), Some(Notice { watch: 1, by: 2, reason: Closed }) None, row Some(3)\n\
-        HandlesOpen { count: 1 }, 8192 bytes, len 5, None, row Some(5)",
+        told_of_notices(rt.alloc()),
+        "Ok(3) Ok(0), Some(Notice { watch: 1, by: 2, reason: Closed }) None, row Some(3)\n",
     )
 }
