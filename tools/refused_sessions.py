@@ -15,7 +15,7 @@ STEPS = (
 )
 SESSIONS, CALLS = 8, 200
 # What a test ends with where its own text, list or hive takes the allocation that is refused.
-OWN_WANTS = (b"error: AllocError\n", b"error: Memory\n")
+OWN_WANTS = (b"error: AllocError\n", b"error: AllocFailed { .. }\n", b"error: Memory\n")
 FAILED = 101
 
 
@@ -35,12 +35,12 @@ def refused_step(said):
 
 
 def verdict(status, said):
-    """What came of a test: the step that was refused its memory says so, or the test itself had none. Where a thread isn't started, its
-    job is done all the same."""
+    """What came of a test: the step that was refused its memory says so, or the test itself had none. A step that may be answered all the
+    same says where it begins, and that it was."""
     if status == FAILED and any(b"\n" + it in said for it in OWN_WANTS):
         return "the test itself lacked it, outside of a call"
     before, after = refused_step(said)
-    is_told = after.endswith(b": no memory") or (before, after) == (b"drive", b"drive: answered")
+    is_told = after.endswith(b": no memory") or before and after == before + b": answered"
     return after.decode() if status == 0 and b"test result: ok\n" in said and is_told else "WRONG"
 
 

@@ -141,21 +141,22 @@ fn started<Rt: Print>(rt: &Rt, alloc: Global) -> Result<Stage, Fail> {
     }
 }
 
-/// Takes a step. Of a drive it is said where it begins and that it was answered: a thread that isn't started leaves its job to another one.
+/// Takes a step. Of one that may be answered all the same it is said where it begins, and that it was answered.
 fn take<Rt: Print + Threads + Wait + Sync>(
     rt: &Rt,
     alloc: Global,
     stage: &mut Stage,
     step: &Step,
 ) -> Result<Came, Fail> {
-    let is_drive = matches!(step.act, Act::Drive(_));
-    if is_drive {
-        println!(rt; "drive")?;
+    let name = step.act.name();
+    let is_told = step.act.is_answered_anyway();
+    if is_told {
+        println!(rt; "{name}")?;
     }
     let came = stage.take(rt, alloc, step)?;
-    tell_refusal(rt, step.act.name(), came == Came::NoMemory)?;
-    if is_drive && came == Came::Answered {
-        println!(rt; "drive: answered")?;
+    tell_refusal(rt, name, came == Came::NoMemory)?;
+    if is_told && came == Came::Answered {
+        println!(rt; "{name}: answered")?;
     }
     Ok(came)
 }
