@@ -9,7 +9,6 @@ COUNTING = r"""
 #define _GNU_SOURCE
 #include <errno.h>
 #include <pthread.h>
-#include <stdio.h>
 #include <stdlib.h>
 #include <sys/syscall.h>
 #include <unistd.h>
@@ -18,7 +17,7 @@ extern void *__libc_calloc(size_t, size_t);
 extern void *__libc_realloc(void *, size_t);
 extern void *__libc_memalign(size_t, size_t);
 static long left;
-static unsigned long drawn, refusals;
+static unsigned long drawn;
 static long at_work;
 static pthread_key_t key;
 static __thread unsigned long state __attribute__((tls_model("initial-exec")));
@@ -32,11 +31,6 @@ __attribute__((constructor)) static void begin(void) {
     const char *number = getenv("REFUSE"), *threads = getenv("REFUSE_THREADS");
     left = number ? atol(number) : 0;
     drawn = threads ? strtoul(threads, 0, 10) : 0;
-}
-__attribute__((destructor)) static void tell(void) {
-    char text[64];
-    int len = snprintf(text, sizeof text, "refused %lu\n", __atomic_load_n(&refusals, __ATOMIC_RELAXED));
-    if (drawn && write(2, text, len) < 0) _exit(99);
 }
 static unsigned long draw(void) {
     state ^= state << 13;
@@ -57,7 +51,7 @@ static int refused_in_thread(void) {
     }
     if ((kind == 1 && !__atomic_load_n(&at_work, __ATOMIC_SEQ_CST)) || --gap > 0) return 0;
     gap = 10 + draw() % 991;
-    __atomic_add_fetch(&refusals, 1, __ATOMIC_RELAXED);
+    if (write(2, "R", 1) < 0) _exit(99);
     errno = ENOMEM;
     return 1;
 }
@@ -96,7 +90,7 @@ def run_as_one(library, words, number):
 
 
 def run_threads(library, words, seed):
-    """Status, output, and errors of a run whose threads are refused memory by chance."""
+    """Status, output, and errors of a run whose threads are refused memory by chance, with an R for each refusal."""
     ran = subprocess.run(words, stdin=subprocess.DEVNULL, capture_output=True, env={"LD_PRELOAD": library, "REFUSE_THREADS": str(seed)})
     return ran.returncode, ran.stdout, ran.stderr
 
