@@ -38,8 +38,8 @@ pub enum Act {
 }
 
 impl Act {
-    /// Whether it may be answered though a request for memory is refused: a job whose thread isn't started is done by another one, and the cells
-    /// of a large value are carved in one piece where they can't be one by one.
+    /// Whether it may be answered though a request for memory is refused: a job whose thread isn't started is done by another one, and where the
+    /// list of spare pages can't grow, a page that a large value leaves over isn't kept in it; the value has its cells all the same.
     pub fn is_answered_anyway(&self) -> bool {
         self.name() == "drive" || self.name() == "large value"
     }

@@ -1,5 +1,4 @@
-use Rattle.std.proofs.Common.{◌≡◌, ◌++◌, ◌∙◌, ap, sym, subst}
-use Rattle.rtrb.specs.Ring.{sent}
+use Rattle.std.proofs.Common.{◌++◌, ◌∙◌, ap, subst}
 use Rattle.reg_calls.specs.HiveView.{view_of}
 use Rattle.reg_calls.specs.Views.{IsNoticeTaken}
 use Rattle.reg_outbox.specs.Rings.{backlog_of}
