@@ -9,7 +9,7 @@ import subprocess
 import tempfile
 from collections import Counter
 
-from refusing import run, tell_counts
+from refusing import numbers, run, tell_counts
 from repository import Untried
 
 KEYS, SIZE = 8, 2_000
@@ -74,8 +74,8 @@ def verdict(tool, before, after, done, ran, whole):
     return "WRONG"
 
 
-def refuse_one(tool, library, folder, before, what, words, given):
-    """Refuses each allocation of a command, and prints what came of it. Answers whether all went well, and what was told."""
+def refuse_one(tool, library, folder, before, every, what, words, given):
+    """Refuses allocations of a command, and prints what came of it. Answers whether all went well, and what was told."""
     def ran(number):
         restore(folder, before)
         *said, was_refused = run(library, [tool, *words], given, number, folder)
@@ -85,7 +85,7 @@ def refuse_one(tool, library, folder, before, what, words, given):
     whole, _, done = ran(0)
     if whole[0] != (what == "diff") or whole[2]:
         raise Untried(f"{what}: status {whole[0]}, {whole[2]!r}, though no memory is refused")
-    for number in range(1, 1_000_000):
+    for number in numbers(every):
         said, was_refused, after = ran(number)
         if not was_refused:
             break
@@ -93,7 +93,7 @@ def refuse_one(tool, library, folder, before, what, words, given):
         seen[found] += 1
         if found == "WRONG":
             print(f"{what}: allocation {number}: status {said[0]}, {said[1][:60]!r}, {said[2][:80]!r}, {sorted(after)}", flush=True)
-    return tell_counts(what, number, seen), seen
+    return tell_counts(what, seen), seen
 
 
 def made(tool, folder, scripts):
@@ -105,15 +105,16 @@ def made(tool, folder, scripts):
     return files_of(folder)
 
 
-def refuse_all(tool, library):
-    """Refuses each allocation of each command. Answers of each whether all went well."""
+def refuse_all(tool, library, every):
+    """Refuses allocations of each command: each, or one of so many. Answers of each whether all went well."""
     good = []
     with tempfile.TemporaryDirectory(prefix="refused-files-") as folder:
         before = made(tool, folder, {"a": BEFORE, "b": BEFORE + "delvalue 1 =v\n"})
         for what, (words, given) in COMMANDS.items():
-            good.append(refuse_one(tool, library, folder, before, what, words, given)[0])
+            good.append(refuse_one(tool, library, folder, before, every, what, words, given)[0])
     with tempfile.TemporaryDirectory(prefix="refused-files-") as folder:
         before = made(tool, folder, {"a": LARGE})
-        is_well, seen = refuse_one(tool, library, folder, before, "edit of a hive that is built anew", ["edit", "a", "--at", "9"], TREE)
-        good.append(is_well and seen["error rebuild a"] > 0)
+        words = ["edit", "a", "--at", "9"]
+        is_well, seen = refuse_one(tool, library, folder, before, every, "edit of a hive that is built anew", words, TREE)
+        good.append(is_well and (every > 1 or seen["error rebuild a"] > 0))
     return good

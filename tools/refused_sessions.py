@@ -1,11 +1,12 @@
 """Steps by sessions where memory is refused, and sessions on threads at random whose memory is refused by chance."""
+import os
 import random
 import re
 from collections import Counter
 
 from building import room_of
-from refusing import run_as_one, run_threads, tell_counts
-from repository import Untried, rt
+from refusing import numbers, run_as_one, run_threads, tell_counts
+from repository import Untried, folder_of, rt
 from soaking import CRATE, TEST, renumber
 
 STEPS = (
@@ -17,6 +18,14 @@ SESSIONS, CALLS = 8, 200
 # What a test ends with where its own text, list or hive takes the allocation that is refused.
 OWN_WANTS = (b"error: AllocError\n", b"error: AllocFailed { .. }\n", b"error: Memory\n")
 FAILED = 101
+
+
+def built_by_the_gate():
+    """The program of the tests as the gate built it."""
+    program = f"{folder_of(CRATE)}/out/{CRATE}_tests"
+    if not os.path.exists(program):
+        raise Untried(f"the gate left no program of the tests of {CRATE}")
+    return program
 
 
 def tests_of(folder):
@@ -44,10 +53,10 @@ def verdict(status, said):
     return after.decode() if status == 0 and b"test result: ok\n" in said and is_told else "WRONG"
 
 
-def refuse_test(library, program, test):
-    """Refuses each allocation of a test, and prints what came of it. Answers whether all went well."""
+def refuse_test(library, program, test, every):
+    """Refuses allocations of a test, and prints what came of it. Answers whether all went well."""
     seen = Counter()
-    for number in range(1, 1_000_000):
+    for number in numbers(every):
         status, said = run_as_one(library, [program, test], number)
         if b"refused\n" not in said:
             break
@@ -55,13 +64,16 @@ def refuse_test(library, program, test):
         seen[found] += 1
         if found == "WRONG":
             print(f"{test}: allocation {number}: status {status}, {said[-400:]!r}", flush=True)
-    return tell_counts(test, number, seen) and any(it.endswith("no memory") for it in seen)
+    return tell_counts(test, seen) and (every > 1 or any(it.endswith("no memory") for it in seen))
 
 
-def refuse_steps(library):
+def refuse_steps(library, every):
     with room_of(CRATE) as folder:
-        program = tests_of(folder)
-        return [refuse_test(library, program, it) for it in STEPS]
+        return refuse_steps_of(library, tests_of(folder), every)
+
+
+def refuse_steps_of(library, program, every):
+    return [refuse_test(library, program, it, every) for it in STEPS]
 
 
 def soak(library, rounds):
@@ -69,11 +81,14 @@ def soak(library, rounds):
     seed = random.SystemRandom().randrange(1, 1 << 40)
     with room_of(CRATE) as folder:
         renumber(folder, {"SEED": seed, "CALLS": CALLS, "SESSIONS": SESSIONS, "MANY": 100, "ROUNDS": rounds})
-        program = tests_of(folder)
-        status, output, errors = run_threads(library, [program, TEST], seed)
+        return soak_of(library, tests_of(folder), seed, f"{rounds} rounds of {SESSIONS} sessions with {CALLS} calls")
+
+
+def soak_of(library, program, seed, what):
+    status, output, errors = run_threads(library, [program, TEST], seed)
     refusals = errors.count(b"R")
     is_well = status == 0 and b"test result: ok\n" in output and refusals > 0
-    print(f"soak: {rounds} rounds of {SESSIONS} sessions with {CALLS} calls, seed {seed}: {refusals} refusals")
+    print(f"soak: {what}, seed {seed}: {refusals} refusals")
     if not is_well:
         print(f"soak: status {status}, {output[-300:]!r}, {errors[-300:]!r}")
     return is_well
