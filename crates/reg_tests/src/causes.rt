@@ -2,10 +2,11 @@
 //! isn't current.
 use crate::asserts::assert_report;
 use crate::questions::{Noting, register};
-use crate::seats::share_of;
+use crate::seats::{hive, share_of};
 use crate::support::{fresh, replies};
 use reg_callbacks::NoCallback;
 use reg_calls::{Hive, SeatedHive};
+use reg_fixtures::PlainHive;
 use reg_journal::Share;
 use reg_model::{Change, Query};
 use std::alloc::Global;
@@ -67,11 +68,26 @@ fn told_with(
     Ok(text)
 }
 
+/// What `told_with` tells of a fresh hive.
+fn told_of_fresh(
+    alloc: Global,
+    made: &Hive<NoCallback>,
+    lines: &str,
+    status: u32,
+) -> Result<String, Fail> {
+    let mut hive = fresh(alloc)?;
+    told_with(alloc, made, &mut hive, lines, status)
+}
+
+/// What `told_of_fresh` tells of a change of each kind, which are made at this hive.
+fn told_by(alloc: Global, made: &mut PlainHive, lines: &str, status: u32) -> Result<String, Fail> {
+    let _replies = replies(alloc, made, CHANGES)?;
+    told_of_fresh(alloc, &made.hive, lines, status)
+}
+
 fn told(alloc: Global, lines: &str, status: u32) -> Result<String, Fail> {
     let mut made = fresh(alloc)?;
-    let mut hive = fresh(alloc)?;
-    let _replies = replies(alloc, &mut made, CHANGES)?;
-    told_with(alloc, &made.hive, &mut hive, lines, status)
+    told_by(alloc, &mut made, lines, status)
 }
 
 /// What a hive with three callbacks tells a share of another hive that has counted a call, and which of them were asked.
@@ -88,15 +104,25 @@ fn told_strange(
     Ok(format!(in alloc; "{:?} {} {:?}, {} asked", cause, status, body, asked.get())?)
 }
 
-fn told_to_a_stranger(alloc: Global) -> Result<String, Fail> {
-    let mut own: Hive<NoCallback> = Hive::new(alloc, b"ROOT", &[7; 20], 0)?;
-    let mut share = share_of(&mut own)?;
-    let _opened = own.apply(&mut share, 0, Change::OpenRoot { mask: 983_103 });
-    let mut other = fresh(alloc)?;
+/// What `told_strange` tells of a fresh hive.
+fn told_by_another(alloc: Global, share: &mut Share) -> Result<String, Fail> {
     let asked = Rc::new(alloc, Cell::new(0))?;
+    let mut other = fresh(alloc)?;
     register(&mut other, 0, &asked)?;
     let mut hive = other.hive;
-    told_strange(alloc, &mut share, &mut hive, &asked)
+    told_strange(alloc, share, &mut hive, &asked)
+}
+
+/// What `told_by_another` tells a share that has counted a call.
+fn told_to_a_stranger(alloc: Global, own: &mut Hive<NoCallback>) -> Result<String, Fail> {
+    let mut share = share_of(own)?;
+    let _opened = own.apply(&mut share, 0, Change::OpenRoot { mask: 983_103 });
+    told_by_another(alloc, &mut share)
+}
+
+fn told_to_a_share_of_another(alloc: Global) -> Result<String, Fail> {
+    let mut own = hive(alloc)?;
+    told_to_a_stranger(alloc, &mut own)
 }
 
 #[test]
@@ -158,7 +184,7 @@ Some(87) 0, 87 0
 #[test]
 fn a_share_that_is_not_current_asks_nobody(rt: HostRuntime) -> Result<(), Fail> {
     assert_report(
-        told_to_a_stranger(rt.alloc()),
+        told_to_a_share_of_another(rt.alloc()),
         "Some(1009) 1009 Refused { status: 1009 }, 0 asked",
     )
 }

@@ -267,6 +267,12 @@ fn asked_in(
     Ok(format!(in alloc; "{} | {}", reply.as_str().trim_end(), asked.get())?)
 }
 
+/// The hive of an image.
+fn loaded(alloc: Global, image: &[u8]) -> Result<SeatedHive<Noting>, Fail> {
+    let mut input = image;
+    Ok(SeatedHive::new(load(alloc, &mut input)?)?)
+}
+
 /// What `asked_in` tells of the hive of a draft.
 fn asked_of(
     alloc: Global,
@@ -276,8 +282,7 @@ fn asked_of(
     status: u32,
 ) -> Result<String, Fail> {
     let image = drafted(alloc, 5, table)?;
-    let mut input = image.as_slice();
-    let mut hive = SeatedHive::new(load(alloc, &mut input)?)?;
+    let mut hive = loaded(alloc, image.as_slice())?;
     asked_in(alloc, &mut hive, setup, call, status)
 }
 

@@ -72,10 +72,15 @@ fn shared(
     )?)
 }
 
+/// What `shared` tells of a hive and another one.
+fn shared_with_another(alloc: Global, own: &mut Hive<NoCallback>) -> Result<String, Fail> {
+    let mut other = hive(alloc)?;
+    shared(alloc, own, &mut other)
+}
+
 fn told_of_shares(alloc: Global) -> Result<String, Fail> {
     let mut own = hive(alloc)?;
-    let mut other = hive(alloc)?;
-    shared(alloc, &mut own, &mut other)
+    shared_with_another(alloc, &mut own)
 }
 
 #[test]
