@@ -10,7 +10,6 @@ import tempfile
 from collections import Counter
 
 from refusing import numbers, run, tell_counts
-from repository import Untried
 
 KEYS, SIZE = 8, 2_000
 BEFORE = "root 983103\ncreate 0 =Software\\Zugmeled 983103\nset 1 =v 4 x01000000\nset 1 =text 1 x6100620000\n"
@@ -84,7 +83,8 @@ def refuse_one(tool, library, folder, before, every, what, words, given):
     seen = Counter()
     whole, _, done = ran(0)
     if whole[0] != (what == "diff") or whole[2]:
-        raise Untried(f"{what}: status {whole[0]}, {whole[2]!r}, though no memory is refused")
+        print(f"{what}: status {whole[0]}, {whole[2]!r}, though no memory is refused")
+        return False, seen
     for number in numbers(every):
         said, was_refused, after = ran(number)
         if not was_refused:

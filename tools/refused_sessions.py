@@ -81,11 +81,11 @@ def soak(library, rounds):
     seed = random.SystemRandom().randrange(1, 1 << 40)
     with room_of(CRATE) as folder:
         renumber(folder, {"SEED": seed, "CALLS": CALLS, "SESSIONS": SESSIONS, "MANY": 100, "ROUNDS": rounds})
-        return soak_of(library, tests_of(folder), seed, f"{rounds} rounds of {SESSIONS} sessions with {CALLS} calls")
+        return soak_of(library, tests_of(folder), seed, f"{rounds} rounds of {SESSIONS} sessions with {CALLS} calls", 60 + 2 * rounds)
 
 
-def soak_of(library, program, seed, what):
-    status, output, errors = run_threads(library, [program, TEST], seed)
+def soak_of(library, program, seed, what, limit=60):
+    status, output, errors = run_threads(library, [program, TEST], seed, limit)
     refusals = errors.count(b"R")
     is_well = status == 0 and b"test result: ok\n" in output and refusals > 0
     print(f"soak: {what}, seed {seed}: {refusals} refusals")
