@@ -12,7 +12,7 @@ use std::fmt;
 
 /// Scripts on a fresh hive, a row for each line with its reply; `*` and a number stand for so many bytes 0x2a, and `;` ends a line that has
 /// none. In the first each call is accepted, the next four have notifications, and the others are rows of the rules.
-const ROWS: [&str; 13] = [
+const ROWS: [&str; 14] = [
     "\
 root 983103 -> 0 handle 0
 create 0 =Software\\Zugmeled 983103 -> 0 handle 1 disposition 1
@@ -164,6 +164,13 @@ create 0 =L 983103 x03 -> 0 handle 3 disposition 1
 setsec 3 x0102 -> 0",
     "\
 root 983103 -> 0 handle 0
+create 0 =K 983103 x0102 -> 0 handle 1 disposition 1
+create 0 =L 983103 -> 0 handle 2 disposition 1
+setsec 0 x0102 -> 0
+setsec 2 x0102 -> 0
+getsec 2 2 -> 0 x0102",
+    "\
+root 983103 -> 0 handle 0
 create 0 =A\\B\\C 983103 -> 0 handle 1 disposition 1
 open 0 =A 131097 -> 0 handle 2
 deltree 2 =B -> 5
@@ -177,7 +184,7 @@ query 3 = - -> 1018
 deltree 0 =A -> 2",
 ];
 
-/// What a list of 500 subkeys is asked, which parts at one more, and is one again once more were deleted.
+/// What a list of 500 subkeys is asked, which parts at one more.
 const PARTING: &str = "\
 create 0 =k500 983103 -> 0 handle 501 disposition 1
 enumkey 0 500 255 -> 0 =k500 time 0
@@ -337,23 +344,60 @@ fn check_rows<H: Subject>(
     Ok(())
 }
 
-/// Gives the root of a hive 500 subkeys. Where one of these is refused its memory, the rows have none to begin with.
-fn make_subkeys<H: Subject>(alloc: Global, hive: &mut H) -> Result<()> {
+/// The line whose reply is 8, if there is one, counted from 0 on.
+fn refused_line(replies: &str) -> Option<u32> {
+    let mut line = 0u32;
+    for reply in replies.split('\n') {
+        if reply == "8" {
+            return Some(line);
+        }
+        line = line.saturating_add(1);
+    }
+    None
+}
+
+/// Runs a script, and hands out its replies.
+fn replies_to<H: Subject>(alloc: Global, hive: &mut H, script: &str) -> Result<String> {
+    let mut replies = Vec::new(alloc);
+    match hive.ran(alloc, script.as_bytes(), &mut replies) {
+        Ok(()) => Ok(String::from_utf8(replies)?),
+        Err(_) => bail!("no memory"),
+    }
+}
+
+/// Makes the subkey again that was refused its memory in this line, behind the root's.
+fn make_again<H: Subject>(alloc: Global, hive: &mut H, line: u32) -> Result<()> {
+    let number = line.saturating_sub(1);
+    let script = format!(in alloc; "create 0 =k{number:03} 983103\n")?;
+    let _reply = replies_to(alloc, hive, script.as_str())?;
+    if hive.len() != 501 {
+        bail!("a subkey was not made again");
+    }
+    Ok(())
+}
+
+/// Gives the root of a hive 500 subkeys. One that is refused its memory is made again behind the others.
+fn make_subkeys<H: Subject>(alloc: Global, hive: &mut H, counts: &mut Counts) -> Result<()> {
     let mut script = String::from_str(alloc, "root 983103\n")?;
     for number in 0..500 {
         write!(script, "create 0 =k{number:03} 983103\n")?;
     }
-    let mut replies = Vec::new(alloc);
-    match hive.ran(alloc, script.as_bytes(), &mut replies) {
-        Ok(()) if hive.len() == 501 => Ok(()),
-        _ => bail!("no memory"),
+    let replies = replies_to(alloc, hive, script.as_str())?;
+    match refused_line(replies.as_str()) {
+        Some(0) => bail!("no memory"),
+        Some(line) => {
+            counts.refused = counts.refused.saturating_add(1);
+            make_again(alloc, hive, line)
+        }
+        None if hive.len() == 501 => Ok(()),
+        None => bail!("the root has too few subkeys"),
     }
 }
 
 /// Gives rows to a hive whose root has 500 subkeys.
 fn check_parting<H: Subject>(alloc: Global, counts: &mut Counts) -> Result<()> {
     let mut hive: H = fresh_hive(alloc)?;
-    make_subkeys(alloc, &mut hive)?;
+    make_subkeys(alloc, &mut hive, counts)?;
     check_rows(alloc, &mut hive, PARTING, counts)
 }
 
