@@ -19,3 +19,5 @@ pub mod BestFits
 pub mod FreeSizes
 pub mod RelinkedCells
 pub mod ListedArenas
+pub mod TakenCells
+pub mod TakenBins

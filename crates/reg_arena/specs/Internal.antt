@@ -3,6 +3,7 @@ pub mod BinParts
 pub mod CellThreads
 pub mod CellWalks
 pub mod ListedCells
+pub mod TakenBins
 pub mod SizeTables
 pub mod Reserved
 pub mod Spares

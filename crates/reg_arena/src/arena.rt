@@ -5,15 +5,16 @@ ghost use Rattle.reg_heap.specs.declared.limits.TheConstants.{BINS_LIMIT, GROWTH
 ghost use Rattle.reg_heap.specs.Heaps.{AreNew, GivesUp, Writes};
 ghost use Rattle.reg_heap.specs.ByteWords.{splice, word};
 ghost use Rattle.reg_arena.specs.declared.TheConstants.{CARVE_LIMIT};
-ghost use Rattle.reg_arena.specs.Arena.{IsSound, empty_heads, heap_of};
+ghost use Rattle.reg_arena.specs.Arena.{IsArena, IsSound, empty_heads, heap_of};
 ghost use Rattle.reg_arena.specs.NewCells.{total_of, AreSizes};
 ghost use Rattle.reg_arena.specs.Carves.{AddsCells, CarvesExactly, NoFit};
 ghost use Rattle.reg_arena.specs.EachCell.{fresh_of, AreCarvable, CarvesChange, EachFalling, GrowsFor};
 ghost use Rattle.reg_arena.specs.NewBin.{PassesLimit};
 ghost use Rattle.reg_arena.specs.Frees.{Frees};
-ghost use Rattle.reg_arena.specs.Cells.{cells_of, size_in, IsInBin};
+ghost use Rattle.reg_arena.specs.Cells.{cell_at, cells_of, size_in, IsInBin};
 ghost use Rattle.reg_arena.specs.Stretches.{IsStretch};
 
+use crate::adopt::list_all_free;
 use crate::bin::{PAGE_SIZE, passes_limit};
 use crate::carve::{carve_bin, carve_found, sum_of};
 use crate::each::{Spare, carve_cells, fresh_within};
@@ -26,7 +27,7 @@ use crate::{ArenaFault, Cell};
 use byteorder::{ByteOrder, LittleEndian};
 use reg_bins::BinRow;
 use reg_heap::limits::{BINS_LIMIT, GROWTH_BOUND};
-use std::alloc::Global;
+use std::alloc::{AllocError, Global};
 use std::marker::Model;
 
 /// Bins of cells, at most 268,435,456 bytes of them, and 24 lists of the free cells by their sizes.
@@ -36,7 +37,7 @@ use std::marker::Model;
 #[derive(Drop)]
 pub struct Arena {
     alloc: Global,
-    /// The bytes of all bins, each bin in a vector of its own.
+    /// The bytes of all bins, each bin in one vector: those that were taken as they stand together, others in one of their own.
     bins: BinRow,
     /// The lists of the free cells.
     lists: FreeLists,
@@ -70,6 +71,31 @@ impl Arena {
             lists: FreeLists::new(alloc),
             kept: Vec::new(alloc),
         }
+    }
+
+    /// An arena of bins that are taken as they stand, in one piece. The cells are those of the bins and hold what they hold; free
+    /// ones come into the lists, for which their links are written anew.
+    ///
+    /// Its one fault is that memory was refused.
+    pub fn adopt(alloc: Global, bins: Vec<u8>) -> Result<Arena, AllocError>
+        requires arena { IsArena bins.items }
+        requires some { 0 < length bins.items }
+        ensures cells { IfOk result (λ arena. cells_of arena.bytes ≡ cells_of bins.items) }
+        ensures contents { IfOk result (λ arena. (offset : ℕ) → heap_of arena offset ≡ cell_at bins.items offset) }
+        ensures long { IfOk result (λ arena. length arena.bytes ≡ length bins.items) }
+    {
+        let mut row = BinRow::new(alloc);
+        let mut lists = FreeLists::new(alloc);
+        row.reserve(bins.len())?;
+        lists.make_room(bins.len() / 8)?;
+        row.push(bins);
+        list_all_free(&mut row, &mut lists);
+        Ok(Arena {
+            alloc,
+            bins: row,
+            lists,
+            kept: Vec::new(alloc),
+        })
     }
 
     /// How many bytes all bins have together: a multiple of 4096, at most 268,435,456.

@@ -121,6 +121,7 @@ fn spares_for(
     }
     lists.make_room((bins.len() + fresh as usize + 7) / 8)?;
     bins.reserve(fresh as usize)?;
+    make_kept_room(kept)?;
     make_spares(alloc, kept, sizes)
 }
 
@@ -134,7 +135,14 @@ fn is_page(spare: &Spare) -> bool
     }
 }
 
-// Keeps memory for a bin of one page that was not needed, as long as there is little of it. Else it is given back.
+// Room for all memory that is kept, so that none is asked for once a cell was carved.
+fn make_kept_room(kept: &mut Vec<Spare>) -> Result<(), AllocError>
+    ensures { kept.new.items ≡ kept.old.items }
+{
+    kept.reserve(KEPT.saturating_sub(kept.len()))
+}
+
+// Keeps memory for a bin of one page that was not needed, as long as there is little of it. Else it is given back. There is room for it.
 fn keep_page(kept: &mut Vec<Spare>, spare: Spare)
     ensures { ArePages kept.old.items → ArePages kept.new.items }
 {

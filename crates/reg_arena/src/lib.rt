@@ -12,11 +12,12 @@
 //! `carve` takes cells from a free one, or from a bin that `bin` appends, and `cut` cuts them; `each` carves those of one change each by
 //! itself; `free` merges a cell with its free neighbours. `free_lists` finds a cell's list and its neighbours: `classes` says which list a
 //! size has, `firsts` with `bitmap` which cell is the first of a size, `links` threads the lists, and `large` walks the last one. `walk`
-//! goes over all cells.
+//! goes over all cells, and `adopt` takes bins as they stand.
 //!
 //! Suhanov, Windows registry file format specification, sections "Hive bin" and "Cell".
 #![tactic(auto)]
 
+mod adopt;
 mod arena;
 mod bin;
 mod bitmap;

@@ -6,4 +6,5 @@ pub mod RingCounted
 pub mod HashedDescriptors
 pub mod OthersRestored
 pub mod TableCells
+pub mod RingNoted
 pub mod CellsRelinked

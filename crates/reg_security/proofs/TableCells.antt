@@ -192,10 +192,10 @@ none-some : {A : Type 0} (o : Option A) (x : A) → o ≡ None → o ≡ Some x 
 none-some None x e f = absurd (cc)
 none-some (Some y) x e f = absurd (cc)
 
-times-itself : (z : ℕ) → times z (z ∷ []) ≡ 1
+pub times-itself : (z : ℕ) → times z (z ∷ []) ≡ 1
 times-itself z = grind (arith, nat_tests)
 
-times-other : (z cell : ℕ) → z ≢ cell → times z (cell ∷ []) ≡ 0
+pub times-other : (z cell : ℕ) → z ≢ cell → times z (cell ∷ []) ≡ 0
 times-other z cell p = grind (arith, nat_tests, p)
 
 -- a table that notes nothing finds just what a ring of no security has

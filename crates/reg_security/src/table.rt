@@ -1,6 +1,6 @@
 //! A key security found by its descriptor.
 
-ghost use Rattle.std.specs.Prelude.{◌≡◌, ◌≢◌, ◌≤◌, ◌<◌, ◌+◌, ◌-◌, ℕ, List, [], Some, None, IsSome, true, length, IfOk, OnErr, MatchOption};
+ghost use Rattle.std.specs.Prelude.{◌≡◌, ◌≢◌, ◌≤◌, ◌<◌, ◌+◌, ◌-◌, ℕ, List, [], Some, None, IsSome, true, length, IfOk, OnErr, OnOk, MatchOption};
 ghost use Rattle.byteorder.specs.Endian.{little_bytes};
 ghost use Rattle.reg_heap.specs.declared.limits.TheConstants.{DESCRIPTOR_LIMIT};
 ghost use Rattle.reg_heap.specs.Heaps.{Heap};
@@ -46,6 +46,27 @@ impl SecurityTable {
         SecurityTable {
             cells: CellMap::new(alloc),
         }
+    }
+
+    /// The table of a ring as it stands in the cells, whose securities these are. Where memory is short, there is none.
+    pub fn of_ring(alloc: Global, arena: &Arena, ring: &[u32]) -> Result<SecurityTable, AllocError>
+        requires { IsRing (heap_of arena.now) ring.now }
+        ensures { IfOk result (λ table. Finds table (heap_of arena.now) ring.now) }
+    {
+        let mut table = SecurityTable::new(alloc);
+        for cell in ring {
+            table.note(alloc, descriptor_in(arena, *cell), *cell)?;
+        }
+        Ok(table)
+    }
+
+    /// Notes the cell of a security by its descriptor.
+    fn note(&mut self, alloc: Global, descriptor: &[u8], cell: u32) -> Result<(), AllocError>
+        ensures { OnOk result (Notes (cell_of self.old) descriptor.now (Some cell) (cell_of self.new)) }
+    {
+        self.cells.expect(alloc, descriptor)?;
+        self.cells.set(descriptor, cell);
+        Ok(())
     }
 
     /// The cell of the ring's security that has an equal descriptor, byte for byte, or `None` where none has.

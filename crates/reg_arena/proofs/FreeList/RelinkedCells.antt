@@ -1,7 +1,7 @@
 -- Cells after the link of a free cell was set: they stay, and so does what they hold.
 use Rattle.std.proofs.Common.{◌≡◌, ℕ, ◌+◌, ◌-◌, ◌<◌, ◌≤◌, Bool, true, false, cond, ◌&&◌, ◌⊎◌, inl, inr, List, ◌∷◌, ◌++◌, length, get_or, take, drop, refl, sym, ap, ◌∙◌, subst, arith, eqb, Some}
 use Rattle.byteorder.specs.Endian.{little_bytes}
-use Rattle.reg_heap.specs.ByteWords.{splice, SameOutside}
+use Rattle.reg_heap.specs.ByteWords.{word, splice, SameOutside}
 use Rattle.reg_arena.specs.declared.Cell.{Cell}
 use Rattle.reg_arena.specs.Cells.{Bin, AreBins, cells_in, content_in}
 use Rattle.reg_arena.specs.Carves.{or_else, IsInNoFree}
@@ -37,6 +37,31 @@ free-content bytes c ys offset unused = by (eqb c.offset offset) c.allocated unu
 relinked-none : (old : List ℕ) (layout : List Bin) → AreBins old 0 layout → Relinked old old layout
 relinked-none old layout tiled = record { long = refl; tiled = tiled; blank = λ h. h; contents = λ offset. refl; kept = λ k h. refl }
 
+-- bytes of a free cell were changed, and its size field stays
+pub relinked-within : (old new : List ℕ) (layout : List Bin) (xs : List Cell) (c : Cell) (ys : List Cell) → AreBins old 0 layout → cells_in layout ≡ xs ++ c ∷ ys → c.allocated ≡ false →
+    SameOutside c.offset (c.offset + c.size) old new → word new c.offset ≡ word old c.offset → Relinked old new layout
+relinked-within old new layout xs c ys tiled e free s field =
+    let st = stands old layout xs c ys tiled e in
+    let eight : 8 ≤ c.size = omega (arith, st.cell.positive, st.cell.eights) in
+    let ordered : AreOrdered 0 (xs ++ c ∷ ys) = subst (AreOrdered 0) e (AreOrdered-AreBins old 0 layout tiled) in
+    let before = besides-before 0 c.offset (c.offset + c.size) xs c ys refl ordered in
+    let after = besides-after 0 c.offset (c.offset + c.size) xs c ys (omega arith) ordered in
+    record {
+      long = s.long;
+      tiled = layout-same s layout xs c ys st refl refl field tiled;
+      blank = blank-same s layout xs c ys st refl refl tiled;
+      contents = λ offset.
+          ap (λ cs. content_in new cs offset) e ∙ content_in-append new xs (c ∷ ys) offset
+          ∙ ap (or_else (content_in new xs offset)) (free-content new c ys offset free)
+          ∙ ap (λ o. or_else o (content_in new ys offset)) (content_in-beside s xs offset before)
+          ∙ ap (or_else (content_in old xs offset)) (content_in-beside s ys offset after)
+          ∙ sym (ap (λ cs. content_in old cs offset) e ∙ content_in-append old xs (c ∷ ys) offset ∙
+          ap (or_else (content_in old xs offset)) (free-content old c ys offset free));
+      kept = λ k h.
+          let at = all-at (λ (d : Cell). d.allocated ≡ false → (k < d.offset) ⊎ (d.offset + d.size ≤ k)) xs c ys (subst (IsInNoFree k) e h) in
+          same-beside s k (at free);
+    }
+
 relinked-one : (old : List ℕ) (layout : List Bin) (p v : ℕ) → AreBins old 0 layout → 0 < free_size (cells_in layout) p → Relinked old (splice (p + 4) (little_bytes 4 v) old) layout
 relinked-one old layout p v tiled some =
     let f = free_at (cells_in layout) p some in
@@ -48,24 +73,7 @@ relinked-one old layout p v tiled some =
     let new : List ℕ = splice (p + 4) (little_bytes 4 v) old in
     let s : SameOutside c.offset (c.offset + c.size) old new = same-splice (p + 4) c.offset (c.offset + c.size) (little_bytes 4 v) old (omega arith) (omega arith) within in
     let s' : SameOutside (p + 4) (c.offset + c.size) old new = same-splice (p + 4) (p + 4) (c.offset + c.size) (little_bytes 4 v) old (omega arith) (omega arith) within in
-    let ordered : AreOrdered 0 (f.xs ++ c ∷ f.ys) = subst (AreOrdered 0) f.cells_are (AreOrdered-AreBins old 0 layout tiled) in
-    let before = besides-before 0 c.offset (c.offset + c.size) f.xs c f.ys refl ordered in
-    let after = besides-after 0 c.offset (c.offset + c.size) f.xs c f.ys (omega arith) ordered in
-    record {
-      long = s.long;
-      tiled = layout-same s layout f.xs c f.ys st refl refl (word-same_below s' c.offset (omega arith)) tiled;
-      blank = blank-same s layout f.xs c f.ys st refl refl tiled;
-      contents = λ offset.
-          ap (λ cs. content_in new cs offset) f.cells_are ∙ content_in-append new f.xs (c ∷ f.ys) offset
-          ∙ ap (or_else (content_in new f.xs offset)) (free-content new c f.ys offset f.free)
-          ∙ ap (λ o. or_else o (content_in new f.ys offset)) (content_in-beside s f.xs offset before)
-          ∙ ap (or_else (content_in old f.xs offset)) (content_in-beside s f.ys offset after)
-          ∙ sym (ap (λ cs. content_in old cs offset) f.cells_are ∙ content_in-append old f.xs (c ∷ f.ys) offset ∙
-          ap (or_else (content_in old f.xs offset)) (free-content old c f.ys offset f.free));
-      kept = λ k h.
-          let at = all-at (λ (d : Cell). d.allocated ≡ false → (k < d.offset) ⊎ (d.offset + d.size ≤ k)) f.xs c f.ys (subst (IsInNoFree k) f.cells_are h) in
-          same-beside s k (at f.free);
-    }
+    relinked-within old new layout f.xs c f.ys tiled f.cells_are f.free s (word-same_below s' c.offset (omega arith))
 
 -- some of the free cells' links were set
 pub relinked : (old new : List ℕ) (layout : List Bin) (sizes : ℕ → ℕ) → AreBins old 0 layout → ((p : ℕ) → 0 < sizes p → 0 < free_size (cells_in layout) p) →

@@ -1,19 +1,20 @@
 -- The vectors in which the bins stand have the sizes that the headers tell: what lies in one bin lies in one vector.
 use Rattle.std.proofs.Common.{◌≡◌, ℕ, ◌+◌, ◌-◌, ◌<◌, ◌≤◌, zero, suc, ◌⊎◌, inl, inr, true, List, [], ◌∷◌, ◌++◌, length, take, drop, get_or, length-take, length-drop}
-use Rattle.std.proofs.Common.{refl, sym, ap, ◌∙◌, subst, arith, Option, Some, is_some}
-use Rattle.std.specs.Prelude.{Contains, unwrap_or}
-use Rattle.std.proofs.lemmas.List.{get_or-take, get_or-drop}
+use Rattle.std.proofs.Common.{refl, sym, ap, ◌∙◌, subst, arith, Option, Some, is_some, append_assoc, add_assoc}
+use Rattle.std.specs.Prelude.{Contains, flat_map, map, unwrap_or}
+use Rattle.std.proofs.lemmas.Grind.{flat_map-append}
+use Rattle.std.proofs.lemmas.List.{append-nil, get_or-take, get_or-drop, map-append}
 use Rattle.std.proofs.lemmas.Bool.{cases_lt, lt-ltb, le-ltb}
 use Rattle.std.proofs.lemmas.Option.{same_Some}
 use Rattle.reg_heap.specs.ByteWords.{word}
 use Rattle.reg_bins.specs.Rows.{end_from, IsInPart}
 use Rattle.reg_arena.specs.declared.Cell.{Cell}
 use Rattle.reg_arena.specs.declared.free_lists.FreeLists.{FreeLists}
-use Rattle.reg_arena.specs.Cells.{Bin, BinPlace, AreBins, IsInBin, cells_in, cell_at, size_in}
+use Rattle.reg_arena.specs.Cells.{Bin, BinPlace, AreBins, IsInBin, bins_of, cells_in, cell_at, size_in}
 use Rattle.reg_arena.specs.Arena.{IsArena}
-use Rattle.reg_arena.specs.Internal.BinParts.{places_of, IsSplit}
+use Rattle.reg_arena.specs.Internal.BinParts.{sum_of, IsSplit}
 use Rattle.reg_arena.specs.Internal.ListedCells.{LacksCell}
-use Rattle.reg_arena.proofs.Tiling.Tilings.{places, bins_of-AreBins, AreBins-start}
+use Rattle.reg_arena.proofs.Tiling.Tilings.{places, bins_of-AreBins}
 use Rattle.reg_arena.proofs.Tiling.CellPositions.{stands, looked}
 use Rattle.reg_arena.proofs.Tiling.Tilings.{cell_at-AreBins}
 use Rattle.reg_arena.proofs.FreeList.FreeSizes.{free_at}
@@ -21,64 +22,120 @@ use Rattle.reg_arena.proofs.Contents.ByteSplices.{word-at}
 use Rattle.reg_arena.proofs.Contents.CellWrites.{found}
 use Rattle.reg_arena.proofs.Contents.CellCopies.{part-of}
 
+-- ---- bins in vectors
+
+-- the bins stand one behind the other, from a place on
+abbrev pub AreInRow : ℕ → List BinPlace → Type 0
+AreInRow at [] = Unit {0}
+AreInRow at (bin ∷ bins) = (bin.start ≡ at) × AreInRow (at + bin.size) bins
+
+pub places-in-row : (bytes : List ℕ) (at : ℕ) (layout : List Bin) → AreBins bytes at layout → AreInRow at (places layout)
+places-in-row bytes at [] h = tt
+places-in-row bytes at (b ∷ layout) h = (h.0, places-in-row bytes (at + b.size) layout h.3)
+
+-- the bins behind some
+row-behind : (at : ℕ) (xs ys : List BinPlace) → AreInRow at (xs ++ ys) → AreInRow (at + sum_of xs) ys
+row-behind at [] ys r = let e : at + 0 ≡ at = omega arith in rw e r
+row-behind at (x ∷ xs) ys r = rw (← add_assoc at x.size (sum_of xs)) (row-behind (at + x.size) xs ys r.1)
+
+sum-append : (xs ys : List BinPlace) → sum_of (xs ++ ys) ≡ sum_of xs + sum_of ys
+sum-append [] ys = omega arith
+sum-append (x ∷ xs) ys = let e = sum-append xs ys in omega arith
+
+-- where a bin stands that is one of two rows
+data Half (xs ys gs hs : List BinPlace) (b : BinPlace) : Type 0 where
+  InFirst : (mid : List BinPlace) → gs ≡ xs ++ b ∷ mid → Half xs ys gs hs b
+  InSecond : (mid : List BinPlace) → xs ≡ gs ++ mid → mid ++ b ∷ ys ≡ hs → Half xs ys gs hs b
+
+head-of : {x y : BinPlace} {xs ys : List BinPlace} → x ∷ xs ≡ y ∷ ys → x ≡ y
+head-of e = cc (e)
+
+tail-of : {x y : BinPlace} {xs ys : List BinPlace} → x ∷ xs ≡ y ∷ ys → xs ≡ ys
+tail-of e = cc (e)
+
+half : (xs ys gs hs : List BinPlace) (b : BinPlace) → xs ++ b ∷ ys ≡ gs ++ hs → Half xs ys gs hs b
+half xs ys [] hs b e = InSecond xs refl e
+half [] ys (g ∷ gs) hs b e = InFirst gs (ap (λ (p : BinPlace). p ∷ gs) (sym (head-of e)))
+half (x ∷ xs) ys (g ∷ gs) hs b e = by (half xs ys gs hs b (tail-of e))
+  where
+    by : Half xs ys gs hs b → Half (x ∷ xs) ys (g ∷ gs) hs b
+    by (InFirst mid f) = InFirst mid (ap (λ (p : BinPlace). p ∷ gs) (sym (head-of e)) ∙ ap (λ (ps : List BinPlace). x ∷ ps) f)
+    by (InSecond mid f k) = InSecond mid (ap (λ (p : BinPlace). p ∷ xs) (head-of e) ∙ ap (λ (ps : List BinPlace). g ∷ ps) f) k
+
+-- a byte's vector goes on to the end of its bin, or further
+part-reaches : (start : ℕ) (held : List (List BinPlace)) (xs ys : List BinPlace) (b : BinPlace) → xs ++ b ∷ ys ≡ flat_map (λ bins. bins) held →
+    AreInRow start (xs ++ b ∷ ys) → (at : ℕ) → b.start ≤ at → at < b.start + b.size → b.start + b.size ≤ end_from start (map sum_of held) at
+part-reaches start [] [] ys b e r at l m = absurd (cc (e))
+part-reaches start [] (x ∷ xs) ys b e r at l m = absurd (cc (e))
+part-reaches start (gs ∷ held) xs ys b e r at l m =
+    by (half xs ys gs (flat_map (λ bins. bins) held) b e) (λ mid k rest. part-reaches (start + sum_of gs) held mid ys b k rest at l m)
+  where
+    place : b.start ≡ start + sum_of xs
+    place = (row-behind start xs (b ∷ ys) r).0
+
+    by : Half xs ys gs (flat_map (λ bins. bins) held) b →
+        ((mid : List BinPlace) → mid ++ b ∷ ys ≡ flat_map (λ bins. bins) held → AreInRow (start + sum_of gs) (mid ++ b ∷ ys) →
+        b.start + b.size ≤ end_from (start + sum_of gs) (map sum_of held) at) → b.start + b.size ≤ end_from start (sum_of gs ∷ map sum_of held) at
+    by (InFirst mid f) more =
+        let all : sum_of gs ≡ sum_of xs + (b.size + sum_of mid) = ap sum_of f ∙ sum-append xs (b ∷ mid) in
+        rw (lt-ltb at (start + sum_of gs) (omega (arith, all, place, m))) (omega (arith, all, place))
+    by (InSecond mid f k) more =
+        let all : sum_of xs ≡ sum_of gs + sum_of mid = ap sum_of f ∙ sum-append gs mid in
+        let same : gs ++ (mid ++ b ∷ ys) ≡ xs ++ b ∷ ys = sym (append_assoc gs mid (b ∷ ys)) ∙ ap (λ (ps : List BinPlace). ps ++ b ∷ ys) (sym f) in
+        let rest : AreInRow (start + sum_of gs) (mid ++ b ∷ ys) = row-behind start gs (mid ++ b ∷ ys) (subst (AreInRow start) (sym same) r) in
+        rw (le-ltb at (start + sum_of gs) (omega (arith, all, place, l))) (more mid k rest)
+
 -- ---- a bin more
 
-heads : {x y : BinPlace} {xs ys : List BinPlace} → x ∷ xs ≡ y ∷ ys → x ≡ y
-heads e = cc (e)
+-- what the vectors have are the bins
+held-are : (bytes parts : List ℕ) (layout : List Bin) (held : List (List BinPlace)) → AreBins bytes 0 layout → bins_of bytes ≡ Some (flat_map (λ bins. bins) held) →
+    places layout ≡ flat_map (λ bins. bins) held
+held-are bytes parts layout held h split = same_Some _ _ (sym (bins_of-AreBins bytes layout h) ∙ split)
 
-tails : {x y : BinPlace} {xs ys : List BinPlace} → x ∷ xs ≡ y ∷ ys → xs ≡ ys
-tails e = cc (e)
-
-places-more : (bytes : List ℕ) (at : ℕ) (layout : List Bin) (parts : List ℕ) (bin : Bin) → AreBins bytes at layout → places layout ≡ places_of at parts →
-    bin.start ≡ length bytes → places (layout ++ bin ∷ []) ≡ places_of at (parts ++ bin.size ∷ [])
-places-more bytes at [] [] bin h e s = let start : bin.start ≡ at = s ∙ sym h in rw start refl
-places-more bytes at [] (n ∷ parts) bin h e s = absurd (cc (e))
-places-more bytes at (b ∷ layout) [] bin h e s = absurd (cc (e))
-places-more bytes at (b ∷ layout) (n ∷ parts) bin h e s =
-    let head : record { start = b.start; size = b.size } ≡ record { start = at; size = n } = heads e in
-    let size : b.size ≡ n = ap (λ (p : BinPlace). p.size) head in
-    let rest : places layout ≡ places_of (at + n) parts = tails e in
-    let more = places-more bytes (at + n) layout parts bin (subst (λ (k : ℕ). AreBins bytes (at + k) layout) size h.3) rest s in
-    rw (head, more) refl
-
--- the sizes of the vectors are those of the bins
-parts-are : (bytes parts : List ℕ) (layout : List Bin) → AreBins bytes 0 layout → IsSplit bytes parts → places layout ≡ places_of 0 parts
-unfolding IsSplit
-parts-are bytes parts layout h split = same_Some _ _ (sym (bins_of-AreBins bytes layout h) ∙ split)
+places-append : (xs ys : List Bin) → places (xs ++ ys) ≡ places xs ++ places ys
+places-append [] ys = refl
+places-append (x ∷ xs) ys = ap (λ (ps : List BinPlace). record { start = x.start; size = x.size } ∷ ps) (places-append xs ys)
 
 pub split-more : (old new parts : List ℕ) (layout : List Bin) (bin : Bin) → AreBins old 0 layout → IsSplit old parts → bin.start ≡ length old →
     AreBins new 0 (layout ++ bin ∷ []) → IsSplit new (parts ++ bin.size ∷ [])
 unfolding IsSplit
 split-more old new parts layout bin h split s g =
-    bins_of-AreBins new (layout ++ bin ∷ []) g ∙ ap Some (places-more old 0 layout parts bin h (parts-are old parts layout h split) s)
+    let held = split.0 in
+    let one : List (List BinPlace) = (record { start = bin.start; size = bin.size } ∷ []) ∷ [] in
+    let none : bin.size + 0 ≡ bin.size = omega arith in (
+      held ++ one,
+      bins_of-AreBins new (layout ++ bin ∷ []) g ∙ ap Some (places-append layout (bin ∷ []) ∙ ap (λ (ps : List BinPlace). ps ++ record { start = bin.start; size = bin.size } ∷ [])
+          (held-are old parts layout held h split.1) ∙ sym (flat_map-append (λ bins. bins) held one)),
+      map-append sum_of held one ∙ ap (λ (ns : List ℕ). ns ++ (bin.size + 0) ∷ []) split.2 ∙ ap (λ (n : ℕ). parts ++ n ∷ []) none,
+    )
+
+-- bins that are taken as they stand, in one vector
+pub split-whole : (bytes : List ℕ) (layout : List Bin) → AreBins bytes 0 layout → IsSplit bytes (length bytes ∷ [])
+unfolding IsSplit
+split-whole bytes layout h =
+    let one : List (List BinPlace) = places layout ∷ [] in (
+      one,
+      bins_of-AreBins bytes layout h ∙ ap Some (sym (append-nil (places layout))),
+      ap (λ (n : ℕ). n ∷ []) (let s = all-sum 0 layout h in omega (arith, s)),
+    )
+  where
+    all-sum : (at : ℕ) (bins : List Bin) → AreBins bytes at bins → at + sum_of (places bins) ≡ length bytes
+    all-sum at [] k = omega (arith, k)
+    all-sum at (b ∷ bins) k = let r = all-sum (at + b.size) bins k.3 in omega (arith, r)
 
 -- ---- what lies in one bin
-
-part-end : (bytes : List ℕ) (start : ℕ) (ps : List Bin) (b : Bin) (qs : List Bin) (parts : List ℕ) → AreBins bytes start (ps ++ b ∷ qs) →
-    places (ps ++ b ∷ qs) ≡ places_of start parts → (at : ℕ) → b.start ≤ at → at < b.start + b.size → end_from start parts at ≡ b.start + b.size
-part-end bytes start [] b qs [] h e at l m = absurd (cc (e))
-part-end bytes start [] b qs (n ∷ parts) h e at l m =
-    let head : record { start = b.start; size = b.size } ≡ record { start = start; size = n } = heads e in
-    let size : b.size ≡ n = ap (λ (p : BinPlace). p.size) head in
-    let first : b.start ≡ start = h.0 in
-    rw (lt-ltb at (start + n) (omega (arith, m, size, first))) (omega (arith, size, first))
-part-end bytes start (p ∷ ps) b qs [] h e at l m = absurd (cc (e))
-part-end bytes start (p ∷ ps) b qs (n ∷ parts) h e at l m =
-    let head : record { start = p.start; size = p.size } ≡ record { start = start; size = n } = heads e in
-    let size : p.size ≡ n = ap (λ (q : BinPlace). q.size) head in
-    let rest : places (ps ++ b ∷ qs) ≡ places_of (start + n) parts = tails e in
-    let bins : AreBins bytes (start + n) (ps ++ b ∷ qs) = subst (λ (k : ℕ). AreBins bytes (start + k) (ps ++ b ∷ qs)) size h.3 in
-    let past = AreBins-start bytes (start + n) ps b qs bins in
-    rw (le-ltb at (start + n) (omega (arith, past, l))) (part-end bytes (start + n) ps b qs parts bins rest at l m)
 
 -- so many bytes in one bin are in one vector
 pub bin-part : (bytes parts : List ℕ) (layout ps : List Bin) (b : Bin) (qs : List Bin) → AreBins bytes 0 layout → IsSplit bytes parts → layout ≡ ps ++ b ∷ qs →
     (at len : ℕ) → b.start ≤ at → at + len ≤ b.start + b.size → IsInPart parts at len
+unfolding IsSplit
 bin-part bytes parts layout ps b qs h split e at len from to some =
-    let all : AreBins bytes 0 (ps ++ b ∷ qs) = subst (AreBins bytes 0) e h in
-    let same : places (ps ++ b ∷ qs) ≡ places_of 0 parts = ap places (sym e) ∙ parts-are bytes parts layout h split in
-    let end = part-end bytes 0 ps b qs parts all same at from (omega (arith, to, some)) in
-    omega (arith, end, to)
+    let place : BinPlace = record { start = b.start; size = b.size } in
+    let there : places ps ++ place ∷ places qs ≡ places layout = sym (ap places e ∙ places-append ps (b ∷ qs)) in
+    let row : AreInRow 0 (places ps ++ place ∷ places qs) = subst (AreInRow 0) (sym there) (places-in-row bytes 0 layout h) in
+    let end = part-reaches 0 split.0 (places ps) (places qs) place (there ∙ held-are bytes parts layout split.0 h split.1) row at from (omega (arith, to, some)) in
+    let same : end_from 0 (map sum_of split.0) at ≡ end_from 0 parts at = ap (λ (ns : List ℕ). end_from 0 ns at) split.2 in
+    omega (arith, end, same, to)
 
 -- so is what one cell has
 pub cell-part : (bytes parts : List ℕ) (layout : List Bin) (xs : List Cell) (c : Cell) (ys : List Cell) → AreBins bytes 0 layout → IsSplit bytes parts →

@@ -2,7 +2,7 @@
 use Rattle.std.proofs.Common.{◌≡◌, ℕ, List, [], ◌∷◌, ◌++◌, refl, sym, ap, ◌∙◌, Some}
 use Rattle.reg_arena.specs.declared.Cell.{Cell}
 use Rattle.reg_arena.specs.Cells.{Bin, AreBins, bins_of}
-use Rattle.reg_arena.specs.Internal.BinParts.{places_of, IsSplit}
+use Rattle.reg_arena.specs.Internal.BinParts.{IsSplit}
 use Rattle.reg_arena.proofs.Tiling.Tilings.{places, with_cells, bins_of-AreBins}
 
 places-edit : (ps : List Bin) (b : Bin) (qs : List Bin) (cells : List Cell) → places (ps ++ with_cells b cells ∷ qs) ≡ places (ps ++ b ∷ qs)
@@ -21,4 +21,4 @@ places-edited old new layout ps b qs cells e h g =
 
 pub split-kept : (old new parts parts' : List ℕ) → bins_of new ≡ bins_of old → parts' ≡ parts → IsSplit old parts → IsSplit new parts'
 unfolding IsSplit
-split-kept old new parts parts' e p h = e ∙ h ∙ ap (λ (sizes : List ℕ). Some (places_of 0 sizes)) (sym p)
+split-kept old new parts parts' e p h = (h.0, e ∙ h.1, h.2 ∙ sym p)

@@ -89,7 +89,7 @@ pub record AtBin (bins : List ℕ) (at size : ℕ) : Type 0 where
   pub page : 4096 ≤ size
   pub within : at + size ≤ length bins
 
-at_bin-by : (bins : List ℕ) (at : ℕ) (rest : List Bin) → at < length bins → AreBins bins at rest → AtBin bins at (word bins (at + 8))
+pub at_bin-by : (bins : List ℕ) (at : ℕ) (rest : List Bin) → at < length bins → AreBins bins at rest → AtBin bins at (word bins (at + 8))
 at_bin-by bins at [] l h = absurd (omega arith)
 at_bin-by bins at (b ∷ rest) l h =
     let size : word bins (at + 8) ≡ b.size = subst (λ (k : ℕ). word bins (k + 8) ≡ b.size) h.0 h.1.size in

@@ -9,4 +9,4 @@ fresh lists listed = record { arena = record { layout = []; tiled = refl; blank 
 
 pub fresh-split : IsSplit [] []
 unfolding IsSplit
-fresh-split = refl
+fresh-split = ([], refl, refl)

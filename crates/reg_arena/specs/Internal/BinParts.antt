@@ -1,12 +1,12 @@
 -- What ties the vectors in which the bins stand to their headers.
-use Rattle.std.specs.Prelude.{◌≡◌, ℕ, ◌+◌, List, [], ◌∷◌, Some}
+use Rattle.std.specs.Prelude.{◌≡◌, ℕ, ◌+◌, List, [], ◌∷◌, map, flat_map, Some}
 use Rattle.reg_arena.specs.Cells.{BinPlace, bins_of}
 
--- bins of these sizes, from a place on
-abbrev pub places_of : ℕ → List ℕ → List BinPlace
-places_of at [] = []
-places_of at (size ∷ sizes) = record { start = at; size = size } ∷ places_of (at + size) sizes
+-- the bytes of some bins
+abbrev pub sum_of : List BinPlace → ℕ
+sum_of [] = 0
+sum_of (bin ∷ bins) = bin.size + sum_of bins
 
--- the bins have these sizes, as their headers say
+-- each vector has bins, one behind the other, and all of each: one where the bin was appended, several where they were taken as they stand
 unfoldable pub IsSplit : List ℕ → List ℕ → Type 0
-IsSplit bytes parts = bins_of bytes ≡ Some (places_of 0 parts)
+IsSplit bytes parts = (held : List (List BinPlace)) × (bins_of bytes ≡ Some (flat_map (λ bins. bins) held)) × (map sum_of held ≡ parts)

@@ -37,6 +37,12 @@ returns-in_err-reserve-clause-arena c =
     record { arena = c.requires.arena.arena; listed = c.make_room.ensures.listed _ _ (c.best_fit.ensures.listed _ c.requires.arena.listed) } in
     rw c.reserve.ensures.items now
 
+pub returns-in_err-make_kept_room-clause-arena : goal.returns-in_err-make_kept_room-clause-arena
+returns-in_err-make_kept_room-clause-arena c =
+    let now : IsIndexed c.args.bins.now.items c.make_room.new.self =
+    record { arena = c.requires.arena.arena; listed = c.make_room.ensures.listed _ _ (c.best_fit.ensures.listed _ c.requires.arena.listed) } in
+    rw c.reserve.ensures.items now
+
 pub returns-clause-arena : goal.returns-clause-arena
 returns-clause-arena c =
     let now : IsIndexed c.args.bins.now.items c.make_room.new.self =

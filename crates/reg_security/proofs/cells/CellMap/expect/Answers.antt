@@ -1,4 +1,4 @@
-use Rattle.std.proofs.Common.{None, IsSome, refl, sym, subst, ◌∙◌}
+use Rattle.std.proofs.Common.{IsSome, refl, sym, subst}
 use Rattle.reg_security.proofs.OthersRestored.{copied-none, copied-some}
 use Rattle.reg_security.proofs.TableCells.{cell-behind, cell-first, free-here, if-ok, ready-behind, ready-first}
 use Rattle.reg_security.proofs.cells.CellMap.expect.Goals as goal

@@ -1,4 +1,3 @@
-use Rattle.std.proofs.Common.{sym, ap}
 use Rattle.std.proofs.lemmas.List.Elements.{same_from_all_zip}
 use Rattle.reg_security.proofs.HashedDescriptors.{none-stands, put, free-none}
 use Rattle.reg_security.proofs.hashed.HashedCells.expect.Goals as goal

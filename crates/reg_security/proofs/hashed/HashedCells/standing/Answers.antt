@@ -1,4 +1,4 @@
-use Rattle.std.proofs.Common.{None, Some, IsSome, refl, sym, subst, ◌∙◌}
+use Rattle.std.proofs.Common.{Some, IsSome, refl, sym, subst, ◌∙◌}
 use Rattle.reg_security.proofs.HashedDescriptors.{found, cell-same, cell-other, hash-taken, hash-free, other-stands}
 use Rattle.reg_security.proofs.hashed.HashedCells.standing.Goals as goal
 
