@@ -14,10 +14,13 @@ STEPS = (
     "refusals::a_step_refused_its_memory_changes_nothing",
     "refusals::a_step_refused_its_memory_is_answered_when_made_again",
 )
-SESSIONS, CALLS = 8, 200
+# So many calls each of few sessions makes, and of many.
+CALLS, FEWEST = 1_600, 100
 # What a test ends with where its own text, list or hive takes the allocation that is refused.
 OWN_WANTS = (b"error: AllocError\n", b"error: AllocFailed { .. }\n", b"error: Memory\n")
 FAILED = 101
+# What a test says of a `drive` that is done, and how many allocations the start of its one thread takes.
+ANSWERED, OF_A_START = b"drive: answered", 2
 
 
 def built_by_the_gate():
@@ -54,8 +57,10 @@ def verdict(status, said):
 
 
 def refuse_test(library, program, test, every):
-    """Refuses allocations of a test, and prints what came of it. Answers whether all went well."""
+    """Refuses allocations of a test, and prints what came of it. Answers whether all went well: of what a `drive` takes, only the start of
+    its thread may be refused and passed over."""
     seen = Counter()
+    drives = run_as_one(library, [program, test], 0)[1].count(ANSWERED)
     for number in numbers(every):
         status, said = run_as_one(library, [program, test], number)
         if b"refused\n" not in said:
@@ -64,6 +69,9 @@ def refuse_test(library, program, test, every):
         seen[found] += 1
         if found == "WRONG":
             print(f"{test}: allocation {number}: status {status}, {said[-400:]!r}", flush=True)
+    if seen[ANSWERED.decode()] > OF_A_START * drives:
+        seen["WRONG"] += 1
+        print(f"{test}: more is passed over than {drives} starts of threads")
     return tell_counts(test, seen) and (every > 1 or any(it.endswith("no memory") for it in seen))
 
 
@@ -76,12 +84,21 @@ def refuse_steps_of(library, program, every):
     return [refuse_test(library, program, it, every) for it in STEPS]
 
 
-def soak(library, rounds):
-    """Has sessions on threads call at random for so many rounds, while their memory is refused by chance. Answers whether all went well."""
-    seed = random.SystemRandom().randrange(1, 1 << 40)
+def run_callbacks():
+    """Has callbacks refuse each kind of call by itself. Answers whether all went well."""
     with room_of(CRATE) as folder:
-        renumber(folder, {"SEED": seed, "CALLS": CALLS, "SESSIONS": SESSIONS, "MANY": 100, "ROUNDS": rounds})
-        return soak_of(library, tests_of(folder), seed, f"{rounds} rounds of {SESSIONS} sessions with {CALLS} calls", 60 + 2 * rounds)
+        said = rt(folder, "test", "--", "alone").stdout
+    told = re.search(r"^test result: ok\. [1-9].*$", said, re.M)
+    print(f"callbacks: {told[0] if told else said[-2000:]}", flush=True)
+    return bool(told)
+
+
+def soak(library, rounds, sessions):
+    """Has sessions on threads call at random for so many rounds, while their memory is refused by chance. Answers whether all went well."""
+    seed, calls = random.SystemRandom().randrange(1, 1 << 40), max(FEWEST, CALLS // sessions)
+    with room_of(CRATE) as folder:
+        renumber(folder, {"SEED": seed, "CALLS": calls, "SESSIONS": sessions, "MANY": 100, "ROUNDS": rounds})
+        return soak_of(library, tests_of(folder), seed, f"{rounds} rounds of {sessions} sessions with {calls} calls", 60 + 2 * rounds)
 
 
 def soak_of(library, program, seed, what, limit=60):

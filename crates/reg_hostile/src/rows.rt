@@ -9,6 +9,7 @@ use reg_callbacks::{CallbackFault, Cookie};
 use reg_script::ScriptFault;
 use std::alloc::Global;
 use std::fmt;
+use std::ops::Range;
 
 /// Scripts on a fresh hive, a row for each line with its reply; `*` and a number stand for so many bytes 0x2a, and `;` ends a line that has
 /// none. In the first each call is accepted, the next four have notifications, and the others are rows of the rules.
@@ -188,8 +189,17 @@ deltree 0 =A -> 2",
 const PARTING: &str = "\
 create 0 =k500 983103 -> 0 handle 501 disposition 1
 enumkey 0 500 255 -> 0 =k500 time 0
-enumkey 0 501 255 -> 259
-delkey 0 =k500 -> 0
+enumkey 0 501 255 -> 259";
+
+/// What three lists of 250, 250 and 251 subkeys are asked, which the ones behind those are in.
+const PARTED: &str = "\
+enumkey 0 750 255 -> 0 =k750 time 0
+enumkey 0 751 255 -> 259";
+
+/// What the one list is asked that is left of them without the first 500.
+const JOINED: &str = "\
+enumkey 0 250 255 -> 0 =k750 time 0
+enumkey 0 251 255 -> 259
 deltree 0 = -> 0";
 
 /// What a hive holds: its image, how many entries its journal has, how many handles are open, and how many watches are pending.
@@ -212,12 +222,14 @@ enum Outcome {
     Ended,
 }
 
-/// How many rows were answered, and how many of them not at once.
+/// How many rows were answered, how many of them not at once, and how many images were made again for want of memory. One allocation that is
+/// refused is told in one of these, or ends the run: else it was passed over.
 #[derive(Clone, Copy)]
 struct Counts {
     rows: u32,
     refused: u32,
     ended: u32,
+    images: u32,
 }
 
 impl fmt::Display for Counts {
@@ -225,14 +237,21 @@ impl fmt::Display for Counts {
         let rows = self.rows;
         let refused = self.refused;
         let ended = self.ended;
-        write!(f, "{rows} rows, 8 to {refused}, {ended} ended")
+        let images = self.images;
+        write!(
+            f,
+            "{rows} rows, 8 to {refused}, {ended} ended, {images} images again"
+        )
     }
 }
 
-fn take_snapshot<H: Subject>(alloc: Global, hive: &H) -> Result<Snapshot> {
+fn take_snapshot<H: Subject>(alloc: Global, hive: &H, counts: &mut Counts) -> Result<Snapshot> {
     let image = match image_of(alloc, hive) {
         Ok(image) => image,
-        Err(_) => image_of(alloc, hive)?,
+        Err(_) => {
+            counts.images = counts.images.saturating_add(1);
+            image_of(alloc, hive)?
+        }
     };
     Ok(Snapshot {
         image,
@@ -288,9 +307,9 @@ fn check_row<H: Subject>(
     wanted: &str,
     counts: &mut Counts,
 ) -> Result<()> {
-    let before = take_snapshot(alloc, hive)?;
+    let before = take_snapshot(alloc, hive, counts)?;
     let outcome = ask(alloc, hive, line, wanted)?;
-    let after = take_snapshot(alloc, hive)?;
+    let after = take_snapshot(alloc, hive, counts)?;
     counts.rows = counts.rows.saturating_add(1);
     if outcome == Outcome::NoMemory && (line.starts_with("close") || line.starts_with("notice")) {
         bail!("a Close or a notice was answered 8");
@@ -311,14 +330,14 @@ fn check_row<H: Subject>(
 
 /// Registers a callback, and again where memory was wanting, which must have left the hive as it was.
 fn register<H: Subject>(alloc: Global, hive: &mut H, counts: &mut Counts) -> Result<Cookie> {
-    let before = take_snapshot(alloc, hive)?;
+    let before = take_snapshot(alloc, hive, counts)?;
     counts.rows = counts.rows.saturating_add(1);
     match hive.add_callback() {
         Ok(cookie) => return Ok(cookie),
         Err(CallbackFault::Memory(_)) => counts.refused = counts.refused.saturating_add(1),
         Err(_) => bail!("a callback was refused"),
     }
-    let after = take_snapshot(alloc, hive)?;
+    let after = take_snapshot(alloc, hive, counts)?;
     if !is_same(&before, &after) {
         bail!("a registration that was refused changed the hive");
     }
@@ -344,18 +363,6 @@ fn check_rows<H: Subject>(
     Ok(())
 }
 
-/// The line whose reply is 8, if there is one, counted from 0 on.
-fn refused_line(replies: &str) -> Option<u32> {
-    let mut line = 0u32;
-    for reply in replies.split('\n') {
-        if reply == "8" {
-            return Some(line);
-        }
-        line = line.saturating_add(1);
-    }
-    None
-}
-
 /// Runs a script, and hands out its replies.
 fn replies_to<H: Subject>(alloc: Global, hive: &mut H, script: &str) -> Result<String> {
     let mut replies = Vec::new(alloc);
@@ -365,40 +372,92 @@ fn replies_to<H: Subject>(alloc: Global, hive: &mut H, script: &str) -> Result<S
     }
 }
 
-/// Makes the subkey again that was refused its memory in this line, behind the root's.
-fn make_again<H: Subject>(alloc: Global, hive: &mut H, line: u32) -> Result<()> {
-    let number = line.saturating_sub(1);
-    let script = format!(in alloc; "create 0 =k{number:03} 983103\n")?;
-    let _reply = replies_to(alloc, hive, script.as_str())?;
-    if hive.len() != 501 {
-        bail!("a subkey was not made again");
+/// The line for a key of this number.
+fn line_for(alloc: Global, verb: &str, number: u32, rest: &str) -> Result<String> {
+    Ok(format!(in alloc; "{verb} 0 =k{number:03}{rest}\n")?)
+}
+
+/// Gives a hive a line. Tells whether it is accepted; where memory was wanting, that is counted.
+fn is_accepted<H: Subject>(
+    alloc: Global,
+    hive: &mut H,
+    line: &str,
+    counts: &mut Counts,
+) -> Result<bool> {
+    let mut output = Vec::with_capacity(alloc, 256)?;
+    match hive.ran(alloc, line.as_bytes(), &mut output) {
+        Ok(()) => {
+            let reply = String::from_utf8(output)?;
+            if reply.as_str().starts_with("0") {
+                return Ok(true);
+            }
+            if reply.as_str() != "8\n" {
+                bail!("{reply} in place of 0");
+            }
+            counts.refused = counts.refused.saturating_add(1);
+        }
+        Err(ScriptFault::Memory) => counts.ended = counts.ended.saturating_add(1),
+        Err(fault) => bail!("{fault}"),
+    }
+    Ok(false)
+}
+
+/// Fails where a hive isn't as these lines leave a fresh one.
+fn check_like<H: Subject>(alloc: Global, hive: &H, lines: &str, counts: &mut Counts) -> Result<()> {
+    let mut twin: H = fresh_hive(alloc)?;
+    let _replies = replies_to(alloc, &mut twin, lines)?;
+    let wanted = take_snapshot(alloc, &twin, counts)?;
+    if !is_same(&wanted, &take_snapshot(alloc, hive, counts)?) {
+        bail!("a refusal changed the hive");
     }
     Ok(())
 }
 
-/// Gives the root of a hive 500 subkeys. One that is refused its memory is made again behind the others.
-fn make_subkeys<H: Subject>(alloc: Global, hive: &mut H, counts: &mut Counts) -> Result<()> {
-    let mut script = String::from_str(alloc, "root 983103\n")?;
-    for number in 0..500 {
-        write!(script, "create 0 =k{number:03} 983103\n")?;
-    }
-    let replies = replies_to(alloc, hive, script.as_str())?;
-    match refused_line(replies.as_str()) {
-        Some(0) => bail!("no memory"),
-        Some(line) => {
-            counts.refused = counts.refused.saturating_add(1);
-            make_again(alloc, hive, line)
+/// Gives a hive a line for the key of each number, and the one again that is refused its memory. That must leave the hive as the lines
+/// before it leave a fresh one. `lines` has these, and gets each that was accepted.
+fn check_each<H: Subject>(
+    alloc: Global,
+    hive: &mut H,
+    verb: &str,
+    numbers: Range<u32>,
+    rest: &str,
+    lines: &mut String,
+    counts: &mut Counts,
+) -> Result<()> {
+    for number in numbers {
+        let line = line_for(alloc, verb, number, rest)?;
+        if !is_accepted(alloc, hive, line.as_str(), counts)? {
+            check_like(alloc, hive, lines.as_str(), counts)?;
+            if !is_accepted(alloc, hive, line.as_str(), counts)? {
+                bail!("a line was not answered again");
+            }
         }
-        None if hive.len() == 501 => Ok(()),
-        None => bail!("the root has too few subkeys"),
+        lines.push_str(line.as_str())?;
     }
+    Ok(())
 }
 
-/// Gives rows to a hive whose root has 500 subkeys.
-fn check_parting<H: Subject>(alloc: Global, counts: &mut Counts) -> Result<()> {
+/// Gives a hive a root with 500 subkeys, 501, 751, and then the last 251 of these, and rows to each.
+fn check_lists<H: Subject>(alloc: Global, counts: &mut Counts) -> Result<()> {
     let mut hive: H = fresh_hive(alloc)?;
-    make_subkeys(alloc, &mut hive, counts)?;
-    check_rows(alloc, &mut hive, PARTING, counts)
+    let made = " 983103";
+    let mut lines = String::from_str(alloc, "root 983103\n")?;
+    check_rows(alloc, &mut hive, "root 983103 -> 0 handle 0", counts)?;
+    check_each(alloc, &mut hive, "create", 0..500, made, &mut lines, counts)?;
+    check_rows(alloc, &mut hive, PARTING, counts)?;
+    lines.push_str("create 0 =k500 983103\n")?;
+    check_each(
+        alloc,
+        &mut hive,
+        "create",
+        501..751,
+        made,
+        &mut lines,
+        counts,
+    )?;
+    check_rows(alloc, &mut hive, PARTED, counts)?;
+    check_each(alloc, &mut hive, "delkey", 0..500, "", &mut lines, counts)?;
+    check_rows(alloc, &mut hive, JOINED, counts)
 }
 
 /// Gives a script's rows to a fresh hive with a callback that lets every call go on. It is taken out at last: for that no memory is
@@ -419,11 +478,12 @@ pub fn run_rows<H: Subject>(rt: &impl Print, alloc: Global) -> Result<()> {
         rows: 0,
         refused: 0,
         ended: 0,
+        images: 0,
     };
     for script in ROWS {
         check_script::<H>(alloc, script, &mut counts)?;
     }
-    check_parting::<H>(alloc, &mut counts)?;
+    check_lists::<H>(alloc, &mut counts)?;
     println!(rt; "{counts}")?;
     Ok(())
 }

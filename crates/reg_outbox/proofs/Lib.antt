@@ -1,1 +1,2 @@
 pub mod MovedNotices
+pub mod RowsOfLimits

@@ -9,6 +9,11 @@ pub record RingState : Type 0 where
   pub sent : List Notice
   pub free : ℕ
 
+-- all that came out of a ring, and the notices that are known to wait in it, which come next
+pub record InboxState : Type 0 where
+  pub received : List Notice
+  pub waiting : List Notice
+
 -- what a hive keeps back for a session: of all that it was told, what wasn't handed out yet
 abbrev pub backlog_of : ℕ → View → List Notice
 backlog_of session hive = drop (taken_by hive.watches session) (told_in hive session)

@@ -1,6 +1,7 @@
 //! The two ends of a ring.
 ghost use Rattle.std.specs.Prelude.{◌≡◌, ◌≢◌, ◌⊎◌, ℕ, [], ◌∷◌, ◌++◌, IfSome, IfNone};
-ghost use Rattle.rtrb.specs.Ring.{sent, known_free, received};
+ghost use mathlib.Core.List.{IsPrefix};
+ghost use Rattle.rtrb.specs.Ring.{sent, known_free, received, known_items};
 ghost use Rattle.reg_calls.specs.HiveView.{view_of, noted_of, callbacks_of};
 ghost use Rattle.reg_outbox.specs.Rings.{IsAhead, IsHandedOut, backlog_of};
 
@@ -35,13 +36,12 @@ pub struct Inbox {
 }
 
 impl Model for Inbox {
-    ghost use Rattle.std.specs.Prelude.{List};
-    ghost use Rattle.rtrb.specs.Ring.{received};
-    ghost use Rattle.reg_model.specs.declared.notice.Notice.{Notice};
+    ghost use Rattle.rtrb.specs.Ring.{received, known_items};
+    ghost use Rattle.reg_outbox.specs.Rings.{InboxState};
 
-    ghost Value = { List Notice };
+    ghost Value = { InboxState };
 
-    ghost view = { λ i. received i.consumer };
+    ghost view = { λ i. record { received = received i.consumer; waiting = known_items i.consumer } };
 }
 
 impl Outbox {
@@ -99,15 +99,16 @@ impl Outbox {
 impl Inbox {
     /// The end of a ring.
     pub(crate) fn new(consumer: Consumer<Notice>) -> Inbox
-        ensures { result ≡ received consumer }
+        ensures { result ≡ record { received = received consumer; waiting = known_items consumer } }
     {
         Inbox { consumer }
     }
 
-    /// The oldest notice in the ring; `None` where it is empty. Takes no lock and no memory.
+    /// The oldest notice in the ring; `None` where it is empty, and so never where one is known to wait. Takes no lock and no memory.
     pub fn pop(&mut self) -> Option<Notice>
-        ensures some { IfSome result (λ notice. self.new ≡ self.old ++ notice ∷ []) }
-        ensures none { IfNone result (self.new ≡ self.old) }
+        ensures some { IfSome result (λ notice. self.new.received ≡ self.old.received ++ notice ∷ []) }
+        ensures next { IfSome result (λ notice. IsPrefix self.old.waiting (notice ∷ self.new.waiting)) }
+        ensures none { IfNone result ((self.new ≡ self.old) × (self.old.waiting ≡ [])) }
     {
         self.consumer.pop().ok()
     }

@@ -28,7 +28,7 @@ impl From<AllocError> for OutboxFault {
 /// The two ends of a ring of 64 notices, into which nothing was sent. Its one fault is that memory was refused.
 pub fn outbox(alloc: Global) -> Result<(Outbox, Inbox), OutboxFault>
     ensures outbox { IfOk result (λ ends. ends.0 ≡ record { sent = []; free = RING_ROOM }) }
-    ensures inbox { IfOk result (λ ends. ends.1 ≡ []) }
+    ensures inbox { IfOk result (λ ends. ends.1 ≡ record { received = []; waiting = [] }) }
 {
     let (producer, consumer) = RingBuffer::new(alloc, RING_ROOM)?;
     Ok((Outbox::new(producer), Inbox::new(consumer)))

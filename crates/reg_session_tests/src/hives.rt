@@ -7,7 +7,8 @@ use std::alloc::Global;
 use std::sync::Wait;
 use std::test::Fail;
 
-/// Two callbacks come to two hives, and go, the second first. Both have the first cookie of their hive.
+/// Two callbacks come to two hives, and go, the second first. Both have the first cookie of their hive. Between a third comes to the first
+/// hive at a higher altitude, so that it is asked first.
 fn guarded<Rt: Wait>(
     rt: &Rt,
     alloc: Global,
@@ -15,15 +16,18 @@ fn guarded<Rt: Wait>(
     all: &mut Vec<Session>,
 ) -> String {
     let mut text = String::new(alloc);
-    let first = register(rt, alloc, registry, 0, 5);
+    let first = register(rt, alloc, registry, 0, 7, 5);
     tell_change(rt, registry, all.get_mut(0), 0, &open(), &mut text);
     tell_change(rt, registry, all.get_mut(0), 1, &open(), &mut text);
-    let second = register(rt, alloc, registry, 1, 87);
+    let second = register(rt, alloc, registry, 1, 7, 87);
     tell_change(rt, registry, all.get_mut(0), 0, &open(), &mut text);
     tell_change(rt, registry, all.get_mut(0), 1, &open(), &mut text);
     unregister(rt, registry, 1, second, &mut text);
     tell_change(rt, registry, all.get_mut(0), 0, &open(), &mut text);
     tell_change(rt, registry, all.get_mut(0), 1, &open(), &mut text);
+    let third = register(rt, alloc, registry, 0, 8, 87);
+    tell_change(rt, registry, all.get_mut(0), 0, &open(), &mut text);
+    unregister(rt, registry, 0, third, &mut text);
     unregister(rt, registry, 0, first, &mut text);
     tell_change(rt, registry, all.get_mut(0), 0, &open(), &mut text);
     text
@@ -67,7 +71,7 @@ fn told_of_notices<Rt: Wait>(rt: &Rt, alloc: Global) -> Result<String, Fail> {
 fn a_callback_guards_the_hive_on_which_it_was_registered(rt: HostRuntime) -> Result<(), Fail> {
     assert_report(
         told_of_guards(&rt, rt.alloc()),
-        "5 number None\n0 number Some(0)\n5 number None\n87 number None\nthe box answers 87\n5 number None\n0 number Some(1)\nthe box answers 5\n0 number Some(0)\n1 entries\n2 entries\n",
+        "5 number None\n0 number Some(0)\n5 number None\n87 number None\nthe box answers 87\n5 number None\n0 number Some(1)\n87 number None\nthe box answers 87\nthe box answers 5\n0 number Some(0)\n1 entries\n2 entries\n",
     )
 }
 

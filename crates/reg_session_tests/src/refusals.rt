@@ -89,19 +89,19 @@ fn driven_steps(alloc: Global, steps: &mut Vec<Step>) -> Result<(), AllocError> 
     Ok(())
 }
 
-/// What ends at hive 0, its checkpoint, and a call behind that.
+/// What ends at hive 0, its checkpoint, and behind that its callback and a call.
 fn last_steps(alloc: Global, steps: &mut Vec<Step>) -> Result<(), AllocError> {
     let tree = Change::DeleteTree {
         handle: 0,
         path: Bytes::from_slice(alloc, b"")?,
     };
     steps.push(step(0, 0, Act::Change(tree)))?;
-    steps.push(step(0, 0, Act::Unregister))?;
     steps.push(step(0, 0, close(4)))?;
     steps.push(step(0, 0, close(6)))?;
     steps.push(step(0, 0, close(0)))?;
     steps.push(step(1, 0, close(2)))?;
     steps.push(step(0, 0, Act::Checkpoint))?;
+    steps.push(step(0, 0, Act::Unregister))?;
     steps.push(step(1, 0, Act::Change(open())))?;
     Ok(())
 }
@@ -257,11 +257,13 @@ fn cut<Rt: Print>(rt: &Rt, alloc: Global, hive: &mut Hive) -> Result<Option<Vec<
 /// The image of a checkpoint. Where it is refused its memory all entries stay, and it is made again.
 fn cut_at_last<Rt: Print>(rt: &Rt, alloc: Global, hive: &mut Hive) -> Result<Vec<u8>, Fail> {
     let entries = hive.entries().len();
+    let before = image(alloc, hive, 0, 0)?;
     if let Some(image) = cut(rt, alloc, hive)? {
         return Ok(image);
     }
-    if hive.entries().len() != entries {
-        return Err("a refused checkpoint cut entries".into());
+    let after = image(alloc, hive, 0, 0)?;
+    if hive.entries().len() != entries || after.as_slice() != before.as_slice() {
+        return Err("a refused checkpoint changed the hive".into());
     }
     match cut(rt, alloc, hive)? {
         Some(image) => Ok(image),

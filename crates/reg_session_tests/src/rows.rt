@@ -69,7 +69,7 @@ fn guarded<Rt: Wait>(
         &first_key(),
         &mut text,
     );
-    let cookie = register(rt, alloc, registry, 0, 5);
+    let cookie = register(rt, alloc, registry, 0, 7, 5);
     tell_change(rt, registry, sessions.get_mut(0), 0, &open(), &mut text);
     tell_answer(
         rt,

@@ -261,7 +261,16 @@ fn text_of(alloc: Global, tree: &Tree) -> Result<Vec<u8>, Fail> {
     Ok(output)
 }
 
-/// Whether a hive's journal, run again, leaves its tree.
+/// Whether two hives told each session the same, and have as many handles open and watches pending.
+fn is_told_alike(hive: &Hive, again: &Hive<NoCallback>) -> bool {
+    let mut same = hive.open_handles() == again.open_handles() && hive.pending() == again.pending();
+    for session in 0..SESSIONS {
+        same = same && hive.fired(session) == again.fired(session);
+    }
+    same
+}
+
+/// Whether a hive's journal, run again, leaves its tree, its notices, and as many handles and watches.
 fn is_its_journals(
     alloc: Global,
     hive: &Hive,
@@ -272,7 +281,7 @@ fn is_its_journals(
     }
     let tree = text_of(alloc, hive.tree())?;
     let run = text_of(alloc, again.hive.tree())?;
-    Ok(tree.as_slice() == run.as_slice())
+    Ok(tree.as_slice() == run.as_slice() && is_told_alike(hive, &again.hive))
 }
 
 /// How many hives are those of their journals, and whether there are many entries.

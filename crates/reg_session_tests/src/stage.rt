@@ -38,18 +38,15 @@ pub enum Act {
 }
 
 impl Act {
-    /// Whether it may be answered though a request for memory is refused: a job whose thread isn't started is done by another one, and where the
-    /// list of spare pages can't grow, a page that a large value leaves over isn't kept in it; the value has its cells all the same.
+    /// Whether it may be answered though a request for memory is refused: a job whose thread isn't started is done by another one.
     pub fn is_answered_anyway(&self) -> bool {
-        self.name() == "drive" || self.name() == "large value"
+        self.name() == "drive"
     }
 
     /// What the test says of it, where memory may be refused.
     pub fn name(&self) -> &'static str {
         match self {
             Act::Change(Change::Close { .. }) => "close",
-            Act::Change(Change::SetValue { bytes, .. }) if bytes.as_slice().len() > 16_344 =>
-                "large value",
             Act::Change(_) => "change",
             Act::Ask(_) => "question",
             Act::TakeNotice => "notice",

@@ -100,12 +100,13 @@ pub fn tell_notice(
     };
 }
 
-/// Registers a callback that answers a status on a hive, and tells its cookie.
+/// Registers a callback that answers a status on a hive at an altitude, and tells its cookie.
 pub fn register<Rt: Wait>(
     rt: &Rt,
     alloc: Global,
     registry: &Registry,
     hive: u8,
+    altitude: u32,
     status: u32,
 ) -> Option<Cookie> {
     if hive as usize >= registry.hives() {
@@ -114,7 +115,7 @@ pub fn register<Rt: Wait>(
     let Ok(callback) = boxed(alloc, status) else {
         return None;
     };
-    match registry.register(rt, hive, callback, 7) {
+    match registry.register(rt, hive, callback, altitude) {
         Ok(cookie) => Some(cookie),
         Err(_) => None,
     }

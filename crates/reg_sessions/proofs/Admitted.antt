@@ -158,7 +158,7 @@ counted-more {k} {old} {new} {share} {after} {moment} {change} {reply} p z =
     let row = was.0.counted in
     omega (arith, here, more, row)
 
-pub same-booked : (b c : Booked) → b.view ≡ c.view → b.noted ≡ c.noted → b ≡ c
+same-booked : (b c : Booked) → b.view ≡ c.view → b.noted ≡ c.noted → b ≡ c
 same-booked b c v n = ap (λ (x : View). record { view = x; noted = b.noted }) v ∙ ap (λ (x : List ℕ). record { view = c.view; noted = x }) n
 
 same-seat : (s t : Seat) → s.session ≡ t.session → s.count ≡ t.count → s ≡ t

@@ -1,5 +1,5 @@
 -- Work that is done, one after another.
-use Rattle.std.proofs.Common.{◌≡◌, ◌+◌, ◌==◌, ◌<◌, ◌⊎◌, ◌&&◌, ℕ, zero, suc, Bool, true, false, List, [], ◌∷◌, ◌++◌, Some, length, get_or, slice_get, set, take, refl, sym, ap, ◌∙◌, subst, inl, inr, arith, if◌then◌else◌, append_assoc, append-nil}
+use Rattle.std.proofs.Common.{◌≡◌, ◌+◌, ◌-◌, ◌==◌, ◌<◌, ◌≤◌, ◌⊎◌, ◌&&◌, ℕ, zero, suc, Bool, true, false, List, [], ◌∷◌, ◌++◌, Some, None, length, length-append, get_or, slice_get, set, take, refl, sym, ap, ◌∙◌, subst, inl, inr, arith, if◌then◌else◌, append_assoc, append-nil}
 use Rattle.std.proofs.lemmas.List.{get_or-set_same, get_or-set_other, take-append-le, take_more}
 use Rattle.std.proofs.Math.Seq.{take-append_seam}
 use Rattle.std.proofs.lemmas.Bool.{cases_eq}
@@ -7,11 +7,12 @@ use Rattle.reg_callbacks.specs.Asking.{Answers}
 use Rattle.reg_journal.specs.Kept.{seat}
 use Rattle.reg_model.specs.declared.notice.Notice.{Notice}
 use Rattle.reg_model.specs.declared.reply.Receipt.{Receipt}
-use Rattle.reg_sessions.specs.Sessions.{SessionState, receipts_at, dropped_at, mark_at, seat_at, taken_at, popped_at}
+use Rattle.reg_sessions.specs.Sessions.{SessionState, receipts_at, dropped_at, mark_at, seat_at, taken_at, popped_at, waiting_at, notifies_at}
 use Rattle.reg_sessions.specs.declared.job.Work.{Work}
 use Rattle.reg_sessions.specs.declared.job.Done.{Done}
+use Rattle.reg_sessions.specs.declared.job.Done.TheVariants.{Outcome, Notice as Told}
 use Rattle.reg_sessions.specs.declared.job.Job.{Job}
-use Rattle.reg_sessions.specs.Jobs.{AreDone, AreLawful, AreWithin, IsLawfulDone, is_of_kind, are_of_kinds, receipts_by, receipts_of_one, notices_by, notices_of_one, mark_by, mark_by_one, IsSameJob, HasRoom, IsReady, IsDone}
+use Rattle.reg_sessions.specs.Jobs.{AreDone, AreLawful, AreMissed, MayMiss, AreWithin, IsLawfulDone, is_of_kind, are_of_kinds, receipts_by, receipts_of_one, notices_by, notices_of_one, mark_by, mark_by_one, notifies_by, notifies_by_one, IsSameJob, HasRoom, IsReady, IsDone}
 
 and_right : (a b : Bool) → (a && b) ≡ true → b ≡ true
 and_right true b h = h
@@ -71,6 +72,18 @@ mark_more h mark [] w (e ∷ ds) d same = absurd cc
 mark_more h mark (v ∷ ws) w [] d same = absurd cc
 mark_more h mark (v ∷ ws) w (e ∷ ds) d same = mark_more h (moved h mark v e) ws w ds d (and_right _ _ same)
 
+-- what one work and its outcome make of how many Notify calls were accepted at hive h
+counted : ℕ → ℕ → Work → Done → ℕ
+counted h n w d = if h == w.hive then notifies_by_one n w.ask d else n
+
+notifies_more : (h n : ℕ) (ws : List Work) (w : Work) (ds : List Done) (d : Done) → are_of_kinds ws ds ≡ true
+    → notifies_by h n (ws ++ w ∷ []) (ds ++ d ∷ []) ≡ counted h (notifies_by h n ws ds) w d
+unfolding counted
+notifies_more h n [] w [] d same = refl
+notifies_more h n [] w (e ∷ ds) d same = absurd cc
+notifies_more h n (v ∷ ws) w [] d same = absurd cc
+notifies_more h n (v ∷ ws) w (e ∷ ds) d same = notifies_more h (counted h n v e) ws w ds d (and_right _ _ same)
+
 as_many : (ws : List Work) (ds : List Done) → are_of_kinds ws ds ≡ true → length ds ≡ length ws
 as_many [] [] same = refl
 as_many [] (d ∷ ds) same = absurd cc
@@ -94,6 +107,29 @@ there_or_last (a ∷ xs) x y (suc i) h =
       | inr p ↦ inr (ap (λ (n : ℕ). suc n) p.0, p.1)
     ]
 
+-- what holds of each work and its outcome, by the works before it and theirs, holds with one work more
+each_more : (P : List Work → List Done → Work → Done → Type 0) (ws : List Work) (w : Work) (ds : List Done) (d : Done) → are_of_kinds ws ds ≡ true →
+    ((i : ℕ) (x : Work) (y : Done) → slice_get ws i ≡ Some x → slice_get ds i ≡ Some y → P (take i ws) (take i ds) x y) → P ws ds w d →
+    (i : ℕ) (x : Work) (y : Done) → slice_get (ws ++ w ∷ []) i ≡ Some x → slice_get (ds ++ d ∷ []) i ≡ Some y → P (take i (ws ++ w ∷ [])) (take i (ds ++ d ∷ [])) x y
+each_more P ws w ds d same all one i x y is told =
+    let long = as_many ws ds same in
+    elim (there_or_last ws w x i is) [
+      | inl p ↦ elim (there_or_last ds d y i told) [
+        | inl q ↦ (let below = p.0 in
+            subst (λ (l : List Work). P l (take i (ds ++ d ∷ [])) x y) (sym (take-append-le i ws (w ∷ []) (omega (arith, below))))
+            (subst (λ (l : List Done). P (take i ws) l x y) (sym (take-append-le i ds (d ∷ []) (omega (arith, below, long)))) (all i x y p.1 q.1)))
+        | inr q ↦ (let below = p.0 in let at = q.0 in absurd (omega (arith, below, at, long)))
+      ]
+      | inr p ↦ elim (there_or_last ds d y i told) [
+        | inl q ↦ (let below = q.0 in let at = p.0 in absurd (omega (arith, below, at, long)))
+        | inr q ↦ (let works : take i (ws ++ w ∷ []) ≡ ws = ap (λ (n : ℕ). take n (ws ++ w ∷ [])) p.0 ∙ take-append_seam ws (w ∷ []) in
+            let told_so : take i (ds ++ d ∷ []) ≡ ds = ap (λ (n : ℕ). take n (ds ++ d ∷ [])) q.0 ∙ take-append_seam ds (d ∷ []) in
+            subst (λ (l : List Work). P l (take i (ds ++ d ∷ [])) x y) (sym works)
+            (subst (λ (l : List Done). P ws l x y) (sym told_so)
+            (subst (λ (v : Work). P ws ds v y) p.1 (subst (λ (v : Done). P ws ds w v) q.1 one))))
+      ]
+    ]
+
 -- what is lawful of a work by the works before it
 lawful_after : {C : Type 0} → (C → Answers) → SessionState → List Work → List Done → Work → Done → Type 0
 lawful_after answers s ws ds w d =
@@ -102,24 +138,43 @@ lawful_after answers s ws ds w d =
 lawful_more : {C : Type 0} (answers : C → Answers) (s : SessionState) (ws : List Work) (w : Work) (ds : List Done) (d : Done) → are_of_kinds ws ds ≡ true → AreLawful answers s ws ds
     → lawful_after answers s ws ds w d → AreLawful answers s (ws ++ w ∷ []) (ds ++ d ∷ [])
 unfolding lawful_after
-lawful_more answers s ws w ds d same all one i x y is told =
-    let long = as_many ws ds same in
-    elim (there_or_last ws w x i is) [
-      | inl p ↦ elim (there_or_last ds d y i told) [
-        | inl q ↦ (let below = p.0 in
-            subst (λ (l : List Work). lawful_after answers s l (take i (ds ++ d ∷ [])) x y) (sym (take-append-le i ws (w ∷ []) (omega (arith, below))))
-            (subst (λ (l : List Done). lawful_after answers s (take i ws) l x y) (sym (take-append-le i ds (d ∷ []) (omega (arith, below, long)))) (all i x y p.1 q.1)))
-        | inr q ↦ (let below = p.0 in let at = q.0 in absurd (omega (arith, below, at, long)))
-      ]
-      | inr p ↦ elim (there_or_last ds d y i told) [
-        | inl q ↦ (let below = q.0 in let at = p.0 in absurd (omega (arith, below, at, long)))
-        | inr q ↦ (let works : take i (ws ++ w ∷ []) ≡ ws = ap (λ (n : ℕ). take n (ws ++ w ∷ [])) p.0 ∙ take-append_seam ws (w ∷ []) in
-            let told_so : take i (ds ++ d ∷ []) ≡ ds = ap (λ (n : ℕ). take n (ds ++ d ∷ [])) q.0 ∙ take-append_seam ds (d ∷ []) in
-            subst (λ (l : List Work). lawful_after answers s l (take i (ds ++ d ∷ [])) x y) (sym works)
-            (subst (λ (l : List Done). lawful_after answers s ws l x y) (sym told_so)
-            (subst (λ (v : Work). lawful_after answers s ws ds v y) p.1 (subst (λ (v : Done). lawful_after answers s ws ds w v) q.1 one))))
-      ]
-    ]
+lawful_more answers s ws w ds d same all one = each_more (lawful_after answers s) ws w ds d same all one
+
+-- what may be missed of a work by the works before it
+missed_after : SessionState → List Work → List Done → Work → Done → Type 0
+missed_after s ws ds w d =
+    MayMiss (length (waiting_at w.hive s) - length (notices_by w.hive ws ds)) (notifies_by w.hive (notifies_at w.hive s) ws ds)
+    (length (taken_at w.hive s ++ notices_by w.hive ws ds)) d
+
+missed_more : (s : SessionState) (ws : List Work) (w : Work) (ds : List Done) (d : Done) → are_of_kinds ws ds ≡ true → AreMissed s ws ds → missed_after s ws ds w d →
+    AreMissed s (ws ++ w ∷ []) (ds ++ d ∷ [])
+unfolding missed_after
+missed_more s ws w ds d same all one = each_more (missed_after s) ws w ds d same all one
+
+-- fewer are known to wait
+fewer_wait : (before took waiting notifies taken : ℕ) (d : Done) → before ≤ waiting + took → MayMiss waiting notifies taken d → MayMiss (before - took) notifies taken d
+fewer_wait before took waiting notifies taken (Outcome outcome) few miss = tt
+fewer_wait before took waiting notifies taken (Told (Some notice)) few miss = tt
+fewer_wait before took waiting notifies taken (Told None) few (inl none) = inl (omega (arith, few, none))
+fewer_wait before took waiting notifies taken (Told None) few (inr all) = inr all
+
+missed_next : (old mid : SessionState) (ws : List Work) (ds : List Done) (w : Work) (d : Done) →
+    length (waiting_at w.hive old) ≤ length (waiting_at w.hive mid) + length (notices_by w.hive ws ds) →
+    notifies_at w.hive mid ≡ notifies_by w.hive (notifies_at w.hive old) ws ds → taken_at w.hive mid ≡ taken_at w.hive old ++ notices_by w.hive ws ds →
+    MayMiss (length (waiting_at w.hive mid)) (notifies_at w.hive mid) (length (taken_at w.hive mid)) d → missed_after old ws ds w d
+unfolding missed_after
+missed_next old mid ws ds w d few notifies taken miss =
+    fewer_wait _ _ (length (waiting_at w.hive mid)) _ _ d few
+    (subst (λ (n : ℕ). MayMiss (length (waiting_at w.hive mid)) n (length (taken_at w.hive old ++ notices_by w.hive ws ds)) d) notifies
+    (subst (λ (l : List Notice). MayMiss (length (waiting_at w.hive mid)) (notifies_at w.hive mid) (length l) d) taken miss))
+
+-- as many were taken, or wait yet
+still_wait : (h before mid after : ℕ) (ws : List Work) (w : Work) (ds : List Done) (d : Done) → are_of_kinds ws ds ≡ true → before ≤ mid + length (notices_by h ws ds) →
+    mid ≤ after + length (fetched h w d) → before ≤ after + length (notices_by h (ws ++ w ∷ []) (ds ++ d ∷ []))
+still_wait h before mid after ws w ds d same one other =
+    let more = ap (λ (l : List Notice). length l) (notices_more h ws w ds d same) in
+    let long = length-append (notices_by h ws ds) (fetched h w d) in
+    omega (arith, one, other, more, long)
 
 -- the seat and the mark that a session has after works are those by these works
 lawful_next : {C : Type 0} (answers : C → Answers) (old mid : SessionState) (ws : List Work) (ds : List Done) (w : Work) (d : Done) → mid.number ≡ old.number
@@ -144,6 +199,9 @@ done_none answers s b = record {
   marks = λ h. refl;
   taken = λ h. sym (append-nil (taken_at h s));
   popped = λ h. sym (append-nil (popped_at h s));
+  notifies = λ h. refl;
+  missed = λ i w d is told. absurd (none_there w i is);
+  waiting = λ h. omega arith;
   number = refl;
   hives = refl;
 }
@@ -155,10 +213,13 @@ done_more : {C : Type 0} (answers : C → Answers) (old : SessionState) (ws : Li
     → ((h : ℕ) → mark_at h new ≡ (if h == w.hive then mark_by_one (mark_at h mid) w.ask d else mark_at h mid))
     → ((h : ℕ) → taken_at h new ≡ taken_at h mid ++ (if h == w.hive then notices_of_one w.ask d else []))
     → ((h : ℕ) → popped_at h new ≡ popped_at h mid ++ (if h == w.hive then notices_of_one w.ask d else []))
+    → ((h : ℕ) → notifies_at h new ≡ (if h == w.hive then notifies_by_one (notifies_at h mid) w.ask d else notifies_at h mid))
+    → MayMiss (length (waiting_at w.hive mid)) (notifies_at w.hive mid) (length (taken_at w.hive mid)) d
+    → ((h : ℕ) → length (waiting_at h mid) ≤ length (waiting_at h new) + length (if h == w.hive then notices_of_one w.ask d else []))
     → new.number ≡ mid.number → length new.places ≡ length mid.places
     → AreDone answers old (ws ++ w ∷ []) b new (a ++ d ∷ [])
-unfolding given fetched moved
-done_more answers old ws w b a mid new d p kind lawful receipt dropped mark taken popped number hives = record {
+unfolding given fetched moved counted
+done_more answers old ws w b a mid new d p kind lawful receipt dropped mark taken popped notify miss wait number hives = record {
   done = p.done ++ d ∷ [];
   outcomes = ap (λ (l : List Done). l ++ d ∷ []) p.outcomes ∙ append_assoc b p.done (d ∷ []);
   kinds = kinds_more ws w p.done d p.kinds kind;
@@ -172,6 +233,9 @@ done_more answers old ws w b a mid new d p kind lawful receipt dropped mark take
       ∙ ap (λ (l : List Receipt). receipts_at h old ++ l) (sym (receipts_more h ws w p.done d p.kinds)));
   taken = λ h. taken h ∙ fetched_more h (taken_at h old) (taken_at h mid) ws w p.done d p.kinds (p.taken h);
   popped = λ h. popped h ∙ fetched_more h (popped_at h old) (popped_at h mid) ws w p.done d p.kinds (p.popped h);
+  missed = missed_more old ws w p.done d p.kinds p.missed (missed_next old mid ws p.done w d (p.waiting w.hive) (p.notifies w.hive) (p.taken w.hive) miss);
+  waiting = λ h. still_wait h _ _ _ ws w p.done d p.kinds (p.waiting h) (wait h);
+  notifies = λ h. notify h ∙ ap (λ (n : ℕ). counted h n w d) (p.notifies h) ∙ sym (notifies_more h (notifies_at h old) ws w p.done d p.kinds);
   number = number ∙ p.number;
   hives = hives ∙ p.hives;
 }
@@ -185,12 +249,15 @@ pub done_next : {C : Type 0} (answers : C → Answers) (old : SessionState) (ws 
     → ((h : ℕ) → mark_at h new ≡ (if h == w.hive then mark_by_one (mark_at h mid) w.ask d else mark_at h mid))
     → ((h : ℕ) → taken_at h new ≡ taken_at h mid ++ (if h == w.hive then notices_of_one w.ask d else []))
     → ((h : ℕ) → popped_at h new ≡ popped_at h mid ++ (if h == w.hive then notices_of_one w.ask d else []))
+    → ((h : ℕ) → notifies_at h new ≡ (if h == w.hive then notifies_by_one (notifies_at h mid) w.ask d else notifies_at h mid))
+    → MayMiss (length (waiting_at w.hive mid)) (notifies_at w.hive mid) (length (taken_at w.hive mid)) d
+    → ((h : ℕ) → length (waiting_at h mid) ≤ length (waiting_at h new) + length (if h == w.hive then notices_of_one w.ask d else []))
     → new.number ≡ mid.number → length new.places ≡ length mid.places
     → AreDone answers old (take (i + 1) ws) b new (a ++ d ∷ [])
-done_next answers old ws i w b a mid new d below is p kind lawful receipt dropped mark taken popped number hives =
+done_next answers old ws i w b a mid new d below is p kind lawful receipt dropped mark taken popped notify miss wait number hives =
     let Q : List Work → Type 0 = λ l. AreDone answers old l b new (a ++ d ∷ []) in
     subst Q (sym (take_more ws i w below ∙ ap (λ x. take i ws ++ x ∷ []) (sym is)))
-    (done_more answers old (take i ws) w b a mid new d p kind lawful receipt dropped mark taken popped number hives)
+    (done_more answers old (take i ws) w b a mid new d p kind lawful receipt dropped mark taken popped notify miss wait number hives)
 
 -- ---- jobs
 

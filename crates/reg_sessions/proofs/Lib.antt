@@ -9,5 +9,6 @@ pub mod Crossings
 pub mod RowsOfLimits
 pub mod QuietChanges
 pub mod Rings
+pub mod HeldHives
 pub mod Dropped
 pub mod RegistryCuts

@@ -12,7 +12,7 @@ use Rattle.reg_sessions.specs.Sessions.{PlaceState, SessionState, IsFresh, AreFr
 -- ---- sessions without a seat
 
 pub fresh_new : (n : ℕ) → IsFresh n 0 (record { number = n; places = [] })
-fresh_new n = record { is_number = refl; seats = refl; receipts = λ h. refl; dropped = λ h. refl; marks = λ h. refl; taken = λ h. refl; popped = λ h. refl }
+fresh_new n = record { is_number = refl; seats = refl; receipts = λ h. refl; dropped = λ h. refl; marks = λ h. refl; taken = λ h. refl; popped = λ h. refl; waiting = λ h. refl; notifies = λ h. refl }
 
 not_below_0 : (n : ℕ) → nat_lt n 0 ≡ false
 not_below_0 n = grind (arith, nat_tests)
@@ -36,8 +36,9 @@ by_place P (q ∷ ps) p all one none (suc h) = by_place P ps p (λ i. all (suc i
 
 -- the seat that a session gets at the next hive
 place_more : (n k : ℕ) (x : SessionState) (p : PlaceState) → IsFresh n k x → p.receipts ≡ [] → p.dropped ≡ 0 → p.mark ≡ 0 → p.taken ≡ [] → p.popped ≡ [] →
+    p.waiting ≡ [] → p.notifies ≡ 0 →
     IsFresh n (k + 1) (record x { places = x.places ++ p ∷ [] })
-place_more n k x p f r z m t o = record {
+place_more n k x p f r z m t o w e = record {
   is_number = f.is_number;
   seats = length-append x.places (p ∷ []) ∙ ap (λ (l : ℕ). l + 1) f.seats;
   receipts = λ h. by_place (λ q. q.receipts ≡ []) x.places p (λ i. f.receipts i) r refl h;
@@ -45,6 +46,8 @@ place_more n k x p f r z m t o = record {
   marks = λ h. by_place (λ q. q.mark ≡ 0) x.places p (λ i. f.marks i) m refl h;
   taken = λ h. by_place (λ q. q.taken ≡ []) x.places p (λ i. f.taken i) t refl h;
   popped = λ h. by_place (λ q. q.popped ≡ []) x.places p (λ i. f.popped i) o refl h;
+  waiting = λ h. by_place (λ q. q.waiting ≡ []) x.places p (λ i. f.waiting i) w refl h;
+  notifies = λ h. by_place (λ q. q.notifies ≡ 0) x.places p (λ i. f.notifies i) e refl h;
 }
 
 below_next : (n : ℕ) → nat_lt n (n + 1) ≡ true
@@ -57,7 +60,7 @@ same_side : (s at : ℕ) → (s ≡ at → ⊥) → nat_lt s at ≡ nat_lt s (at
 same_side s at ne = grind (arith, nat_tests)
 
 fresh_place : ℕ → PlaceState
-fresh_place at = record { seat = seat at 0; receipts = []; dropped = 0; mark = 0; taken = []; popped = []; handles = 0; notifies = 0 }
+fresh_place at = record { seat = seat at 0; receipts = []; dropped = 0; mark = 0; taken = []; popped = []; waiting = []; handles = 0; notifies = 0 }
 
 -- one session more has its seat
 fresh_set : (k at : ℕ) (ss : List SessionState) (x : SessionState) → at < length ss → AreFresh k at ss
@@ -67,7 +70,7 @@ fresh_set k at ss x within all is s below =
     elim (cases_eq s at) [
       | inl e ↦ (let P : ℕ → Type 0 = λ n. IsFresh n (if nat_lt n (at + 1) then k + 1 else k) (get_or (set ss at x) n no_session) in
           subst P (sym e) (rw (get_or-set_same ss at x no_session within, below_next at, is) (place_more at k (get_or ss at no_session) _
-          (let Q : Bool → Type 0 = λ b. IsFresh at (if b then k + 1 else k) (get_or ss at no_session) in subst Q (not_self at) (all at within)) refl refl refl refl refl)))
+          (let Q : Bool → Type 0 = λ b. IsFresh at (if b then k + 1 else k) (get_or ss at no_session) in subst Q (not_self at) (all at within)) refl refl refl refl refl refl refl)))
       | inr ne ↦ (let P : SessionState → Type 0 = λ y. IsFresh s (if nat_lt s (at + 1) then k + 1 else k) y in
           subst P (sym (get_or-set_other ss at s x no_session ne))
           (let Q : Bool → Type 0 = λ b. IsFresh s (if b then k + 1 else k) (get_or ss s no_session) in
@@ -128,13 +131,13 @@ same_number n k at ss x t s len all is here =
 
 -- the session that got its seat
 pub seated_more : (k at : ℕ) (ss : List SessionState) (x : Seat) (s : SessionState) (p : PlaceState) (new : SessionState) → at < length ss → AreFresh k at ss
-    → s ≡ get_or ss at s → x ≡ seat at 0 → p ≡ record { seat = x; receipts = []; dropped = 0; mark = 0; taken = []; popped = []; handles = 0; notifies = 0 } → new ≡ record s { places = s.places ++ p ∷ [] }
+    → s ≡ get_or ss at s → x ≡ seat at 0 → p ≡ record { seat = x; receipts = []; dropped = 0; mark = 0; taken = []; popped = []; waiting = []; handles = 0; notifies = 0 } → new ≡ record s { places = s.places ++ p ∷ [] }
     → AreFresh k (at + 1) (set ss at new)
 unfolding fresh_place
 seated_more k at ss x s p new below all here share place is =
     fresh_set k at ss new below all
     (is
-    ∙ ap (λ (q : PlaceState). record s { places = s.places ++ q ∷ [] }) (place ∙ ap (λ (y : Seat). record { seat = y; receipts = []; dropped = 0; mark = 0; taken = []; popped = []; handles = 0; notifies = 0 }) share)
+    ∙ ap (λ (q : PlaceState). record s { places = s.places ++ q ∷ [] }) (place ∙ ap (λ (y : Seat). record { seat = y; receipts = []; dropped = 0; mark = 0; taken = []; popped = []; waiting = []; handles = 0; notifies = 0 }) share)
     ∙ ap (λ (y : SessionState). record y { places = y.places ++ fresh_place at ∷ [] }) (here ∙ get_or_default ss at s no_session below))
 
 -- ---- all sessions

@@ -9,7 +9,7 @@ use Rattle.reg_model.specs.declared.reply.Entry.{Entry}
 use Rattle.reg_model.specs.declared.notice.Notice.{Notice}
 use Rattle.reg_model.specs.declared.reply.Receipt.{Receipt}
 use Rattle.reg_model.specs.Histories.{entries_of, count_of, receipt_of}
-use Rattle.reg_calls.specs.Views.{Booked}
+use Rattle.reg_sessions.specs.Locked.{Held}
 use Rattle.reg_sessions.specs.Sessions.{SessionState, receipts_at, taken_at, no_session}
 use Rattle.reg_sessions.specs.Gathering.{IsAudited, IsGathered, journal_at, receipts_by, taken_by, told_at}
 
@@ -90,7 +90,7 @@ totals journal h ss all =
     ∙ sym (added (λ s. length (receipts_at h s)) ss)
 
 -- a session that isn't there took nothing
-none_taken : (hives : List Booked) (ss : List SessionState) (h s : ℕ) → length ss ≤ s → take (length (taken_by ss h s)) (told_at hives h s) ≡ taken_by ss h s
+none_taken : (hives : List Held) (ss : List SessionState) (h s : ℕ) → length ss ≤ s → take (length (taken_by ss h s)) (told_at hives h s) ≡ taken_by ss h s
 none_taken hives ss h s past =
     let none : taken_by ss h s ≡ [] = ap (λ (x : SessionState). taken_at h x) (get_or-eq_default ss no_session past) in
     ap (λ (l : List Notice). take (length l) (told_at hives h s)) none ∙ nothing (told_at hives h s) ∙ sym none
@@ -99,7 +99,7 @@ none_taken hives ss h s past =
     nothing [] = refl
     nothing (x ∷ l) = refl
 
-pub audited : (hives : List Booked) (ss : List SessionState) (h : ℕ) → IsGathered (journal_at hives h) h ss →
+pub audited : (hives : List Held) (ss : List SessionState) (h : ℕ) → IsGathered (journal_at hives h) h ss →
     ((s : ℕ) → s < length ss → take (length (taken_by ss h s)) (told_at hives h s) ≡ taken_by ss h s) → IsAudited hives ss h
 audited hives ss h all told = record {
   gathered = all;

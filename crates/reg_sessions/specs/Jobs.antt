@@ -1,5 +1,5 @@
 -- What is done of jobs.
-use Rattle.std.specs.Prelude.{◌≡◌, ◌≢◌, ◌+◌, ◌≤◌, ◌<◌, ◌==◌, ◌&&◌, ℕ, Bool, true, false, List, [], ◌∷◌, ◌++◌, Some, length, take, slice_get, slice_index_or, vec_len, vec_capacity, if◌then◌else◌}
+use Rattle.std.specs.Prelude.{◌≡◌, ◌≢◌, ◌+◌, ◌≤◌, ◌<◌, ◌-◌, ◌⊎◌, ◌==◌, ◌&&◌, ℕ, Bool, true, false, List, [], ◌∷◌, ◌++◌, Some, None, length, take, slice_get, slice_index_or, vec_len, vec_capacity, if◌then◌else◌}
 use Rattle.reg_callbacks.specs.Asking.{Answers}
 use Rattle.reg_journal.specs.Kept.{Seat, seat}
 use Rattle.reg_model.specs.declared.answer.AnswerBody.TheVariants.{Refused}
@@ -15,7 +15,7 @@ use Rattle.reg_sessions.specs.declared.job.Done.{Done}
 use Rattle.reg_sessions.specs.declared.job.Done.TheVariants.{Outcome, Notice}
 use Rattle.reg_sessions.specs.declared.job.Job.{Job}
 use Rattle.reg_sessions.specs.Locked.{IsLawfulOrLacks, IsLawfulAnswer}
-use Rattle.reg_sessions.specs.Sessions.{SessionState, receipts_at, dropped_at, mark_at, taken_at, popped_at, notice_of, receipt_of, mark_after, mark_told}
+use Rattle.reg_sessions.specs.Sessions.{SessionState, receipts_at, dropped_at, mark_at, taken_at, popped_at, waiting_at, notifies_at, notice_of, receipt_of, mark_after, mark_told, notifies_after}
 
 -- an outcome is of the kind that was asked for: a reply to a change, an answer to a question, a notice or none to who takes one
 abbrev pub is_of_kind : Ask → Done → Bool
@@ -75,6 +75,20 @@ mark_by h mark [] ds = mark
 mark_by h mark (w ∷ ws) [] = mark
 mark_by h mark (w ∷ ws) (d ∷ ds) = mark_by h (if h == w.hive then mark_by_one mark w.ask d else mark) ws ds
 
+-- how many Notify calls were accepted, after one outcome
+abbrev pub notifies_by_one : ℕ → Ask → Done → ℕ
+notifies_by_one n (Call (Change change)) (Outcome (Changed reply)) = notifies_after n change reply
+notifies_by_one n (Call (Change change)) (Outcome (Answered answer)) = n
+notifies_by_one n (Call (Query query)) (Outcome outcome) = n
+notifies_by_one n (Call call) (Notice notice) = n
+notifies_by_one n TakeNotice done = n
+
+-- how many were at a hive after works and their outcomes
+abbrev pub notifies_by : ℕ → ℕ → List Work → List Done → ℕ
+notifies_by h n [] ds = n
+notifies_by h n (w ∷ ws) [] = n
+notifies_by h n (w ∷ ws) (d ∷ ds) = notifies_by h (if h == w.hive then notifies_by_one n w.ask d else n) ws ds
+
 -- what a session with this seat and mark at a hive may be told there, 1009 aside; a notice that it takes is compared when all are gathered
 abbrev pub IsLawfulDone : {C : Type 0} → (C → Answers) → Seat → (mark moment : ℕ) → Ask → Done → Type 0
 IsLawfulDone answers share mark moment (Call (Change change)) (Outcome (Changed reply)) =
@@ -91,9 +105,23 @@ AreLawful answers s work done =
     IsLawfulDone answers (seat s.number (dropped_at w.hive s + length (receipts_at w.hive s ++ receipts_by w.hive (take i work) (take i done))))
     (mark_by w.hive (mark_at w.hive s) (take i work) (take i done)) w.moment w.ask d
 
+-- that there is no notice may be told where none is known to wait, or as many were taken as Notify calls were accepted
+abbrev pub MayMiss : (waiting notifies taken : ℕ) → Done → Type 0
+MayMiss waiting notifies taken (Outcome outcome) = Unit {0}
+MayMiss waiting notifies taken (Notice (Some notice)) = Unit {0}
+MayMiss waiting notifies taken (Notice None) = (waiting ≡ 0) ⊎ (notifies ≤ taken)
+
+-- so of each work, by those before it: of the notices that were known to wait before all works, those are left that these didn't take
+abbrev pub AreMissed : SessionState → List Work → List Done → Type 0
+AreMissed s work done =
+    (i : ℕ) (w : Work) (d : Done) → slice_get work i ≡ Some w → slice_get done i ≡ Some d →
+    MayMiss (length (waiting_at w.hive s) - length (notices_by w.hive (take i work) (take i done)))
+    (notifies_by w.hive (notifies_at w.hive s) (take i work) (take i done)) (length (taken_at w.hive s ++ notices_by w.hive (take i work) (take i done))) d
+
 -- the outcomes grew by one for each work, of its kind, lawful, and in order; at each hive the session's receipts grew by just those of its
--- accepted changes with these replies, in order, and none was dropped; its mark is that after them; and the notices that it took, as what
--- came out of its ring, grew by just those among the outcomes, in order
+-- accepted changes with these replies, in order, and none was dropped; its mark is that after them, and so is how many Notify calls were
+-- accepted; and the notices that it took, as what came out of its ring, grew by just those among the outcomes, in order;
+-- none was passed over that was known to wait
 pub record AreDone {C : Type 0} (answers : C → Answers) (old : SessionState) (work : List Work) (before : List Done) (new : SessionState) (after : List Done) : Type 0 where
   pub done : List Done
   pub outcomes : after ≡ before ++ done
@@ -104,6 +132,9 @@ pub record AreDone {C : Type 0} (answers : C → Answers) (old : SessionState) (
   pub marks : (h : ℕ) → mark_at h new ≡ mark_by h (mark_at h old) work done
   pub taken : (h : ℕ) → taken_at h new ≡ taken_at h old ++ notices_by h work done
   pub popped : (h : ℕ) → popped_at h new ≡ popped_at h old ++ notices_by h work done
+  pub notifies : (h : ℕ) → notifies_at h new ≡ notifies_by h (notifies_at h old) work done
+  pub missed : AreMissed old work done
+  pub waiting : (h : ℕ) → length (waiting_at h old) ≤ length (waiting_at h new) + length (notices_by h work done)
   pub number : new.number ≡ old.number
   pub hives : length new.places ≡ length old.places
 

@@ -17,7 +17,8 @@ pub record Shape : Type 0 where
   pub sessions : ℕ
 
 -- what a session has at a hive: its seat, its receipts since the hive's last checkpoint, how many a checkpoint dropped, and its mark; the
--- notices that it took, and all that came out of its ring; how many of its handles are open there, and how many Notify calls were accepted
+-- notices that it took, all that came out of its ring, and those that are known to wait in it; how many of its handles are open there, and
+-- how many Notify calls were accepted
 pub record PlaceState : Type 0 where
   pub seat : Seat
   pub receipts : List Receipt
@@ -25,11 +26,12 @@ pub record PlaceState : Type 0 where
   pub mark : ℕ
   pub taken : List Notice
   pub popped : List Notice
+  pub waiting : List Notice
   pub handles : ℕ
   pub notifies : ℕ
 
 abbrev pub no_place : PlaceState
-no_place = record { seat = seat 0 0; receipts = []; dropped = 0; mark = 0; taken = []; popped = []; handles = 0; notifies = 0 }
+no_place = record { seat = seat 0 0; receipts = []; dropped = 0; mark = 0; taken = []; popped = []; waiting = []; handles = 0; notifies = 0 }
 
 -- the seat, whose share counts the receipts, dropped ones too
 abbrev pub seat_of : PlaceState → Seat
@@ -69,6 +71,14 @@ taken_at hive s = (place_of s.places hive).taken
 
 abbrev pub popped_at : ℕ → SessionState → List Notice
 popped_at hive s = (place_of s.places hive).popped
+
+-- the notices that are known to wait in its ring there: `take_notice` gives them next
+abbrev pub waiting_at : ℕ → SessionState → List Notice
+waiting_at hive s = (place_of s.places hive).waiting
+
+-- how many Notify calls of the session were accepted there: for the notice of each it has room
+abbrev pub notifies_at : ℕ → SessionState → ℕ
+notifies_at hive s = (place_of s.places hive).notifies
 
 -- what is taken: one notice, or none
 abbrev pub notice_of : Option Notice → List Notice
@@ -156,6 +166,8 @@ pub record IsFresh (number hives : ℕ) (s : SessionState) : Type 0 where
   pub marks : (h : ℕ) → mark_at h s ≡ 0
   pub taken : (h : ℕ) → taken_at h s ≡ []
   pub popped : (h : ℕ) → popped_at h s ≡ []
+  pub waiting : (h : ℕ) → waiting_at h s ≡ []
+  pub notifies : (h : ℕ) → notifies_at h s ≡ 0
 
 -- all sessions are so; the first of them have seats at one hive more
 abbrev pub AreFresh : ℕ → ℕ → List SessionState → Type 0

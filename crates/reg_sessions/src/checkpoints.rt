@@ -5,7 +5,7 @@ ghost use Rattle.reg_journal.specs.Kept.{row_of};
 ghost use Rattle.reg_calls.specs.Cuts.{fault_of_cut, IsCut};
 ghost use Rattle.reg_calls.specs.Views.{Booked};
 ghost use Rattle.reg_sessions.specs.Checkpoints.{IsCheckpoint, IsCheckpointAt, IsCutDue, IsRefused};
-ghost use Rattle.reg_sessions.specs.Locked.{IsAdmitted};
+ghost use Rattle.reg_sessions.specs.Locked.{IsAdmitted, HaveSameCallbacks, book_of};
 ghost use Rattle.reg_sessions.specs.Sessions.{SessionState, IsDropped, session_of};
 
 use crate::compare::first_gap;
@@ -62,11 +62,12 @@ impl<C: Callback> Locked<C> {
         sequence: u32,
     ) -> Result<Vec<u8>, RegistryCutFault>
         requires { length sessions.now ≤ SESSIONS_LIMIT }
-        ensures admitted { IsAdmitted self.old }
-        ensures ok { IfOk result (λ image. IsCheckpoint self.old number sessions.now moment sequence image.items) }
+        ensures admitted { IsAdmitted (book_of self.old) }
+        ensures ok { IfOk result (λ image. IsCheckpoint (book_of self.old) number sessions.now moment sequence image.items) }
         ensures cut { OnOk result (IsCut self.old.view self.new.view) }
         ensures rows { OnOk result ((session : ℕ) → slice_index self.new.noted session ≡ row_of self.old.noted self.old.view.journal session) }
-        ensures err { IfErr result (IsCutDue self.old number sessions.now) }
+        ensures callbacks { HaveSameCallbacks self.old self.new }
+        ensures err { IfErr result (IsCutDue (book_of self.old) number sessions.now) }
         ensures still { OnErr result (self.new ≡ self.old) }
     {
         match self.hive.cut_fault() {

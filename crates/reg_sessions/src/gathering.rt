@@ -1,9 +1,9 @@
 ghost use Rattle.std.specs.Prelude.{◌≡◌, ◌≤◌, ◌<◌, ◌↔◌, ℕ, length, IfErr, IfNone, IfOk, IfSome, IsTrue, Some, slice_get};
 ghost use Rattle.reg_model.specs.declared.limits.TheConstants.{SESSIONS_LIMIT};
 ghost use Rattle.reg_sessions.specs.declared.registry.TheConstants.{HIVES_LIMIT};
-ghost use Rattle.reg_sessions.specs.Locked.{booked_of, IsAdmitted};
+ghost use Rattle.reg_sessions.specs.Locked.{booked_of, held_of, AreDelivered, IsAdmitted};
 ghost use Rattle.reg_sessions.specs.Sessions.{AreInOrder};
-ghost use Rattle.reg_sessions.specs.Gathering.{IsAudited, IsDue, IsMismatch, made_at, rows_at};
+ghost use Rattle.reg_sessions.specs.Gathering.{IsAudited, IsDue, IsMismatch, lines_at, made_at, rows_at};
 
 use crate::compare::{Gap, first_gap, first_stray};
 use crate::locked::Locked;
@@ -22,12 +22,12 @@ pub struct Audit<C = Box<dyn Callback + Send>> {
 impl<C> Model for Audit<C> {
     ghost use Rattle.std.specs.Prelude.{◌≤◌, List, vec_len};
     ghost use Rattle.std.specs.Coded.{coded_list};
-    ghost use Rattle.reg_calls.specs.Views.{Booked, coded_booked};
+    ghost use Rattle.reg_sessions.specs.Locked.{Held, coded_held};
     ghost use Rattle.reg_sessions.specs.declared.registry.TheConstants.{HIVES_LIMIT};
 
-    ghost Value = { List Booked };
+    ghost Value = { List Held };
 
-    ghost coded = { coded_list coded_booked };
+    ghost coded = { coded_list coded_held };
 
     ghost view = { λ a. a.hives.items };
 
@@ -82,11 +82,13 @@ impl<C: Callback> Audit<C> {
     }
 
     /// A hive, as its lock held it: whole, with a legal journal of which it is the replay, and with as many entries as its sessions' rows
-    /// count together (clause `admitted`).
+    /// count together (clause `admitted`). What each session's ring was sent there, followed by what the hive keeps back for the session,
+    /// is all that the session was told (clause `delivered`).
     pub fn hive(&self, hive: u8) -> &Hive<C>
         requires { hive < length self.now }
-        ensures hive { slice_get self.now hive ≡ Some (booked_of result.now) }
+        ensures hive { slice_get self.now hive ≡ Some (held_of (lines_at self.now hive) result.now) }
         ensures admitted { IsAdmitted (booked_of result.now) }
+        ensures delivered { AreDelivered (held_of (lines_at self.now hive) result.now) }
     {
         self.hives[hive as usize].hive()
     }

@@ -82,7 +82,7 @@ pub fn push_told<C: Callback>(hive: &mut Hive<C>, lines: &mut Vec<Line>, before:
     ensures moved { AreMoved (view_of hive.old) (view_of hive.new) }
     ensures ahead { AreAhead lines.new.items (view_of hive.new) }
     ensures lines { length lines.new.items ≡ length lines.old.items }
-    ensures still { before ≤ length (view_of hive.old).watches.pending → view_of hive.new ≡ view_of hive.old }
+    ensures still { before ≤ length (view_of hive.old).watches.pending → (view_of hive.new ≡ view_of hive.old) × (lines.new.items ≡ lines.old.items) }
     ensures noted { noted_of hive.new ≡ noted_of hive.old }
     ensures callbacks { callbacks_of hive.new ≡ callbacks_of hive.old }
 {

@@ -1,12 +1,14 @@
 //! What stands behind a hive's lock, and what is done while it is held.
-ghost use Rattle.std.specs.Prelude.{◌≡◌, ◌≢◌, ◌+◌, ◌<◌, ◌≤◌, ◌↔◌, ◌⊎◌, Some, IfErr, IsTrue, unwrap_or};
+ghost use Rattle.std.specs.Prelude.{◌≡◌, ◌≢◌, ◌+◌, ◌<◌, ◌≤◌, ◌↔◌, ◌⊎◌, Some, false, true, IfErr, IfOk, IsErrOf, IsTrue, OnErr, OnOk, unwrap_or};
+ghost use Rattle.reg_callbacks.specs.Rows.{is_among};
+ghost use Rattle.reg_callbacks.specs.declared.callbacks.TheConstants.{REGISTRATIONS_LIMIT};
 ghost use Rattle.reg_model.specs.declared.answer.AnswerBody.TheVariants.{Refused};
 ghost use Rattle.reg_model.specs.declared.statuses.TheConstants.{BAD_DATABASE, NOT_ENOUGH_MEMORY};
 ghost use Rattle.reg_model.specs.Replies.{refusal};
 ghost use Rattle.reg_model.specs.declared.limits.TheConstants.{JOURNAL_LIMIT, NUMBERS_LIMIT};
-ghost use Rattle.reg_calls.specs.HiveView.{asks_of};
+ghost use Rattle.reg_calls.specs.HiveView.{asks_of, callbacks_of};
 ghost use Rattle.reg_calls.specs.Views.{View, next_of, IsAccepted};
-ghost use Rattle.reg_sessions.specs.Locked.{booked_of, IsAdmitted, IsLawfulReply, IsLawfulOrLacks, IsLawfulAnswer};
+ghost use Rattle.reg_sessions.specs.Locked.{book_of, booked_of, held_of, AreDelivered, IsAdmitted, IsLawfulReply, IsLawfulOrLacks, IsLawfulAnswer, HaveSameCallbacks, IsRegistered, IsUnregistered};
 ghost use Rattle.reg_sessions.specs.Internal.Answered.{IsAnswered, IsCauseOf, IsAsked};
 ghost use Rattle.reg_sessions.specs.Internal.Moved.{AreHandedOut, AreMoved};
 
@@ -19,7 +21,7 @@ use reg_model::{Answer, AnswerBody, Change, ChangeReply, Query};
 use std::marker::Model;
 
 /// What stands behind a hive's lock: the hive, and for each session that has a seat an end of its ring. What is true of each value of this
-/// type (`IsAdmitted`, `AreAhead`) is true whenever the lock is free.
+/// type (`IsAdmitted`, `AreDelivered`) is true whenever the lock is free.
 #[derive(Drop)]
 pub struct Locked<C = Box<dyn Callback + Send>> {
     pub(crate) hive: Hive<C>,
@@ -28,15 +30,14 @@ pub struct Locked<C = Box<dyn Callback + Send>> {
 
 impl<C> Model for Locked<C> {
     ghost use Rattle.std.specs.Prelude.{◌≡◌, length};
-    ghost use Rattle.reg_calls.specs.Views.{Booked, coded_booked};
     ghost use Rattle.reg_calls.specs.HiveView.{view_of, noted_of};
-    ghost use Rattle.reg_sessions.specs.Locked.{booked_of, AreAhead, IsAdmitted};
+    ghost use Rattle.reg_sessions.specs.Locked.{Held, coded_held, booked_of, held_of, AreAhead, IsAdmitted};
 
-    ghost Value = { Booked };
+    ghost Value = { Held };
 
-    ghost coded = { coded_booked };
+    ghost coded = { coded_held };
 
-    ghost view = { λ l. booked_of l.hive };
+    ghost view = { λ l. held_of l.lines.items l.hive };
 
     ghost invariant = { λ l. IsAdmitted (booked_of l.hive) × AreAhead l.lines.items (view_of l.hive)
         × (length l.lines.items ≡ length (noted_of l.hive)) };
@@ -68,7 +69,8 @@ fn apply<C: Callback>(
     moment: u64,
     change: Change,
 ) -> ChangeReply
-    ensures { IsAnswered (asks_of C.answers hive.old) (booked_of hive.old) (booked_of hive.new) share.old share.new moment change result }
+    ensures answered { IsAnswered (asks_of C.answers hive.old) (booked_of hive.old) (booked_of hive.new) share.old share.new moment change result }
+    ensures callbacks { callbacks_of hive.new ≡ callbacks_of hive.old }
 {
     hive.apply(share, moment, change)
 }
@@ -90,8 +92,9 @@ fn read<C: Callback>(hive: &Hive<C>, share: &Share, query: &Query) -> Answer
 impl<C: Callback> Locked<C> {
     /// The hive.
     pub(crate) fn hive(&self) -> &Hive<C>
-        ensures hive { booked_of result.now ≡ self.now }
-        ensures admitted { IsAdmitted self.now }
+        ensures hive { held_of self.now.lines result.now ≡ self.now }
+        ensures admitted { IsAdmitted (booked_of result.now) }
+        ensures delivered { AreDelivered self.now }
     {
         &self.hive
     }
@@ -100,6 +103,7 @@ impl<C: Callback> Locked<C> {
     pub(crate) fn refill(&mut self, session: u8)
         ensures moved { AreHandedOut session self.old.view self.new.view }
         ensures noted { self.new.noted ≡ self.old.noted }
+        ensures callbacks { HaveSameCallbacks self.old self.new }
     {
         refill_of(&mut self.hive, &mut self.lines, session);
     }
@@ -121,6 +125,7 @@ impl<C: Callback> Locked<C> {
         change: Change,
     ) -> ChangeReply
         ensures noted { self.new.noted ≡ self.old.noted }
+        ensures callbacks { HaveSameCallbacks self.old self.new }
         ensures session { share.new.session ≡ share.old.session }
         ensures accepted { result.status ≡ 0 →
             (mid : View) × IsAccepted self.old.view mid share.old.session moment change result × AreMoved mid self.new.view }
@@ -173,7 +178,11 @@ impl<C: Callback> Locked<C> {
         callback: C,
         altitude: u32,
     ) -> Result<Cookie, CallbackFault<C>>
-        ensures same { self.new ≡ self.old }
+        ensures added { IfOk result (λ cookie. IsRegistered altitude cookie.number self.old self.new) }
+        ensures err { OnErr result (self.new ≡ self.old) }
+        ensures full { IsErrOf result (CallbackFault.Full callback) ↔ (self.old.made ≡ REGISTRATIONS_LIMIT) }
+        ensures altitude_taken { IsErrOf result (CallbackFault.AltitudeTaken callback)
+            ↔ ((self.old.made < REGISTRATIONS_LIMIT) × (is_among altitude self.old.altitudes ≡ true)) }
         ensures returned { IfErr result (λ fault. (fault ≡ CallbackFault.Full callback)
             ⊎ (fault ≡ CallbackFault.AltitudeTaken callback)
             ⊎ (fault ≡ CallbackFault.Memory callback)) }
@@ -183,7 +192,9 @@ impl<C: Callback> Locked<C> {
 
     /// Takes a callback out of the hive.
     pub(crate) fn unregister(&mut self, cookie: Cookie) -> Result<C, CallbackFault<C>>
-        ensures same { self.new ≡ self.old }
+        ensures taken { OnOk result (IsUnregistered cookie.number self.old self.new) }
+        ensures err { OnErr result (self.new ≡ self.old) }
+        ensures no_such_cookie { IsErrOf result CallbackFault.NoSuchCookie ↔ (is_among cookie.number self.old.cookies ≡ false) }
         ensures fault { IfErr result (λ fault. fault ≡ CallbackFault.NoSuchCookie) }
     {
         self.hive.unregister(cookie)

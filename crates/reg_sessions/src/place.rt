@@ -1,10 +1,11 @@
 //! What a session has at one hive.
-ghost use Rattle.std.specs.Prelude.{◌≡◌, ◌≢◌, ◌+◌, ◌-◌, ◌^◌, ◌<◌, ◌≤◌, ◌==◌, [], ◌++◌, ℕ, length, max, Some, false, true, IfOk, OnOk, vec_len, vec_capacity, if◌then◌else◌};
+ghost use Rattle.std.specs.Prelude.{◌≡◌, ◌≢◌, ◌+◌, ◌-◌, ◌^◌, ◌<◌, ◌≤◌, ◌==◌, ◌⊎◌, [], ◌∷◌, ◌++◌, ℕ, length, max, Some, false, true, IfNone, IfOk, IfSome, OnOk, vec_len, vec_capacity, if◌then◌else◌};
 ghost use Rattle.reg_model.specs.declared.answer.AnswerBody.TheVariants.{Refused};
 ghost use Rattle.reg_model.specs.declared.statuses.TheConstants.{BAD_DATABASE};
 ghost use Rattle.reg_sessions.specs.Locked.{IsLawfulOrLacks, IsLawfulAnswer};
 ghost use Rattle.reg_sessions.specs.Sessions.{PlaceState, notice_of, receipt_of, mark_after, mark_told, seat_of, status_told, closes as closes_of, watches as watches_of, notifies_after as notifies_told, handles_after as handles_told, without_receipts};
 ghost use Rattle.std.specs.Option.{is_some};
+ghost use mathlib.Core.List.{IsPrefix};
 
 use crate::gate::HiveGate;
 use crate::locked::Locked;
@@ -44,7 +45,8 @@ impl Model for Place {
       dropped = p.share.count - length p.receipts.items;
       mark = p.mark;
       taken = p.taken.items;
-      popped = p.inbox;
+      popped = p.inbox.received;
+      waiting = p.inbox.waiting;
       handles = p.handles;
       notifies = p.notifies;
     } };
@@ -180,8 +182,8 @@ impl Place {
     /// A seat at a hive at which nothing was called yet.
     pub fn new(alloc: Global, share: Share, inbox: Inbox) -> Place
         requires count { share.count ≡ 0 }
-        requires empty { inbox ≡ [] }
-        ensures { result ≡ record { seat = share; receipts = []; dropped = 0; mark = 0; taken = []; popped = []; handles = 0; notifies = 0 } }
+        requires empty { inbox ≡ record { received = []; waiting = [] } }
+        ensures { result ≡ record { seat = share; receipts = []; dropped = 0; mark = 0; taken = []; popped = []; waiting = []; handles = 0; notifies = 0 } }
     {
         Place {
             share,
@@ -217,10 +219,14 @@ impl Place {
         self.taken.as_slice()
     }
 
-    /// Takes the next notice out of the ring. None, too, where there is no room for it. Takes no memory and no lock.
+    /// Takes the next notice out of the ring. `None` where the ring is empty, and where there is no room for a notice more, as there is while
+    /// fewer were taken than Notify calls were accepted. Takes no memory and no lock.
     pub fn take_notice(&mut self) -> Option<Notice>
         ensures taken { self.new.taken ≡ self.old.taken ++ notice_of result }
         ensures popped { self.new.popped ≡ self.old.popped ++ notice_of result }
+        ensures next { IfSome result (λ notice. IsPrefix self.old.waiting (notice ∷ self.new.waiting)) }
+        ensures none { IfNone result ((self.new ≡ self.old)
+            × ((self.old.waiting ≡ []) ⊎ (self.old.notifies ≤ length self.old.taken))) }
         ensures kept { (self.new.seat ≡ self.old.seat) × (self.new.receipts ≡ self.old.receipts) × (self.new.mark ≡ self.old.mark) }
         ensures dropped { self.new.dropped ≡ self.old.dropped }
         ensures counts { (self.new.handles ≡ self.old.handles) × (self.new.notifies ≡ self.old.notifies) }
@@ -250,7 +256,7 @@ impl Place {
         ensures handles { self.new.handles ≡ handles_told self.old.handles change.now result }
         ensures mark { self.new.mark ≡ mark_after self.old.mark result }
         ensures session { self.new.seat.session ≡ self.old.seat.session }
-        ensures notices { (self.new.taken ≡ self.old.taken) × (self.new.popped ≡ self.old.popped) }
+        ensures notices { (self.new.taken ≡ self.old.taken) × (self.new.popped ≡ self.old.popped) × (self.new.waiting ≡ self.old.waiting) }
         ensures accepted { result.status ≡ 0 → (n : ℕ) × (result.number ≡ Some n) × (self.old.seat.count ≤ n) × (self.old.mark ≤ n) }
         ensures refused { result.status ≢ 0 → self.new ≡ self.old }
         ensures lawful { result.status ≢ BAD_DATABASE →
@@ -306,7 +312,7 @@ impl Place {
         query: &Query,
     ) -> Answer
         ensures kept { (self.new.receipts ≡ self.old.receipts) × (self.new.dropped ≡ self.old.dropped) × (self.new.seat ≡ self.old.seat) }
-        ensures notices { (self.new.taken ≡ self.old.taken) × (self.new.popped ≡ self.old.popped) }
+        ensures notices { (self.new.taken ≡ self.old.taken) × (self.new.popped ≡ self.old.popped) × (self.new.waiting ≡ self.old.waiting) }
         ensures counts { (self.new.handles ≡ self.old.handles) × (self.new.notifies ≡ self.old.notifies) }
         ensures mark { self.new.mark ≡ mark_told self.old.mark result }
         ensures refused { status_told result.body ≢ 0 → self.new ≡ self.old }

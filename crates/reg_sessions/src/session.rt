@@ -1,8 +1,9 @@
-ghost use Rattle.std.specs.Prelude.{◌≡◌, ◌≢◌, ◌+◌, ◌<◌, ◌≤◌, ◌==◌, ℕ, [], ◌∷◌, ◌++◌, length, Some, OnErr, OnOk, if◌then◌else◌};
+ghost use Rattle.std.specs.Prelude.{◌≡◌, ◌≢◌, ◌+◌, ◌<◌, ◌≤◌, ◌==◌, ◌⊎◌, ℕ, [], ◌∷◌, ◌++◌, length, Some, IfNone, IfSome, OnErr, OnOk, if◌then◌else◌};
+ghost use mathlib.Core.List.{IsPrefix};
 ghost use Rattle.reg_model.specs.declared.answer.AnswerBody.TheVariants.{Refused};
 ghost use Rattle.reg_model.specs.declared.statuses.TheConstants.{BAD_DATABASE};
 ghost use Rattle.reg_sessions.specs.Locked.{IsLawfulOrLacks, IsLawfulAnswer};
-ghost use Rattle.reg_sessions.specs.Sessions.{SessionState, IsDropped, receipts_at, dropped_at, count_at, mark_at, seat_at, taken_at, popped_at, notice_of, receipt_of, mark_after, mark_told, status_told};
+ghost use Rattle.reg_sessions.specs.Sessions.{SessionState, IsDropped, receipts_at, dropped_at, count_at, mark_at, seat_at, taken_at, popped_at, waiting_at, notifies_at, notice_of, receipt_of, mark_after, mark_told, notifies_after, status_told};
 
 use crate::gate::HiveGate;
 use crate::place::Place;
@@ -123,7 +124,9 @@ impl Session {
         requires seat { hive < length self.old.places }
         ensures receipts { (h : ℕ) → receipts_at h self.new ≡ receipts_at h self.old ++ (if h == hive then receipt_of moment change.now result else []) }
         ensures marks { (h : ℕ) → mark_at h self.new ≡ (if h == hive then mark_after (mark_at h self.old) result else mark_at h self.old) }
-        ensures notices { (h : ℕ) → (taken_at h self.new ≡ taken_at h self.old) × (popped_at h self.new ≡ popped_at h self.old) }
+        ensures notices { (h : ℕ) → (taken_at h self.new ≡ taken_at h self.old) × (popped_at h self.new ≡ popped_at h self.old)
+            × (waiting_at h self.new ≡ waiting_at h self.old) }
+        ensures notifies { (h : ℕ) → notifies_at h self.new ≡ (if h == hive then notifies_after (notifies_at h self.old) change.now result else notifies_at h self.old) }
         ensures dropped { (h : ℕ) → dropped_at h self.new ≡ dropped_at h self.old }
         ensures kept { (self.new.number ≡ self.old.number) × (length self.new.places ≡ length self.old.places) }
         ensures refused { result.status ≢ 0 → self.new ≡ self.old }
@@ -151,7 +154,9 @@ impl Session {
         requires seat { hive < length self.old.places }
         ensures receipts { (h : ℕ) → receipts_at h self.new ≡ receipts_at h self.old }
         ensures marks { (h : ℕ) → mark_at h self.new ≡ (if h == hive then mark_told (mark_at h self.old) result else mark_at h self.old) }
-        ensures notices { (h : ℕ) → (taken_at h self.new ≡ taken_at h self.old) × (popped_at h self.new ≡ popped_at h self.old) }
+        ensures notices { (h : ℕ) → (taken_at h self.new ≡ taken_at h self.old) × (popped_at h self.new ≡ popped_at h self.old)
+            × (waiting_at h self.new ≡ waiting_at h self.old) }
+        ensures notifies { (h : ℕ) → notifies_at h self.new ≡ notifies_at h self.old }
         ensures dropped { (h : ℕ) → dropped_at h self.new ≡ dropped_at h self.old }
         ensures kept { (self.new.number ≡ self.old.number) × (length self.new.places ≡ length self.old.places) }
         ensures refused { status_told result.body ≢ 0 → self.new ≡ self.old }
@@ -163,13 +168,19 @@ impl Session {
     }
 
     /// Takes the session's next notice of a hive, if one has come: it takes no lock and no memory. What the hive keeps back comes by the
-    /// session's next change or question there, as far as the ring of 64 has room then. A notice that was taken is kept, and compared when all are
-    /// gathered.
-    #[tactic(auto, using(crate::proofs::SessionPlaces::place_set))]
+    /// session's next change or question there, as far as the ring of 64 has room then. A notice that was taken is kept, and compared when all
+    /// are gathered. `None` where the ring is empty, and may be so where as many notices were taken as Notify calls were accepted there; then
+    /// nothing changed.
+    #[tactic(auto, using(crate::proofs::SessionPlaces::place_set, crate::proofs::SessionPlaces::set_same))]
     pub fn take_notice<C: Callback>(&mut self, _registry: &Registry<C>, hive: u8) -> Option<Notice>
         requires seat { hive < length self.old.places }
         ensures taken { (h : ℕ) → taken_at h self.new ≡ taken_at h self.old ++ (if h == hive then notice_of result else []) }
         ensures popped { (h : ℕ) → popped_at h self.new ≡ popped_at h self.old ++ (if h == hive then notice_of result else []) }
+        ensures next { IfSome result (λ notice. IsPrefix (waiting_at hive self.old) (notice ∷ waiting_at hive self.new)) }
+        ensures others { (h : ℕ) → h ≢ hive → waiting_at h self.new ≡ waiting_at h self.old }
+        ensures none { IfNone result ((self.new ≡ self.old)
+            × ((waiting_at hive self.old ≡ []) ⊎ (notifies_at hive self.old ≤ length (taken_at hive self.old)))) }
+        ensures notifies { (h : ℕ) → notifies_at h self.new ≡ notifies_at h self.old }
         ensures receipts { (h : ℕ) → receipts_at h self.new ≡ receipts_at h self.old }
         ensures marks { (h : ℕ) → mark_at h self.new ≡ mark_at h self.old }
         ensures dropped { (h : ℕ) → dropped_at h self.new ≡ dropped_at h self.old }

@@ -83,7 +83,7 @@ fn seats<C: Callback>(hive: &mut Hive<C>, n: u8) -> Result<Vec<Share>, AllocErro
 fn ring(alloc: Global) -> Result<(Line, Inbox), AllocError>
     ensures line { IfOk result (λ ends. ends.0.sent ≡ []) }
     ensures kept { IfOk result (λ ends. ends.0.kept ≡ 0) }
-    ensures inbox { IfOk result (λ ends. ends.1 ≡ []) }
+    ensures inbox { IfOk result (λ ends. ends.1 ≡ record { received = []; waiting = [] }) }
 {
     match outbox(alloc) {
         Ok((outbox, inbox)) => Ok((Line::new(outbox), inbox)),

@@ -5,7 +5,7 @@ use Rattle.std.proofs.lemmas.Bool.{cases_lt}
 use Rattle.std.proofs.lemmas.List.{take_more}
 use Rattle.std.proofs.lemmas.Option.{slice_get_within}
 use Rattle.reg_text.specs.Texts.{line_feed}
-use Rattle.reg_calls.specs.Views.{Booked}
+use Rattle.reg_sessions.specs.Locked.{Held}
 use Rattle.reg_sessions.specs.declared.job.Work.{Work}
 use Rattle.reg_sessions.specs.declared.job.Done.{Done}
 use Rattle.reg_sessions.specs.declared.job.Job.{Job}
@@ -157,17 +157,17 @@ numbers_more (m ∷ ns) n =
     ap (λ (t : List ℕ). codes " " ++ (decimal m ++ t)) (numbers_more ns n)
     ∙ ap (λ (t : List ℕ). codes " " ++ t) (sym (append_assoc (decimal m) (numbers_text ns) (codes " " ++ decimal n)))
 
-pub entries_at : (hives : List Booked) (h d : ℕ) → h < length hives → get_or (entries_of hives) h d ≡ length (journal_at hives h)
+pub entries_at : (hives : List Held) (h d : ℕ) → h < length hives → get_or (entries_of hives) h d ≡ length (journal_at hives h)
 entries_at [] h d below = absurd (omega (arith, below))
 entries_at (b ∷ bs) zero d below = refl
 entries_at (b ∷ bs) (suc h) d below = entries_at bs h d (omega (arith, below))
 
-some_is : (x y : Booked) → Some x ≡ Some y → x ≡ y
+some_is : (x y : Held) → Some x ≡ Some y → x ≡ y
 some_is x y e = cc
 
 -- what is true of the hives before one, and of that one
-pub each_next : (P : Booked → Type 0) (hives : List Booked) (h : ℕ) (x : Booked) → ((k : ℕ) (b : Booked) → k < h → slice_get hives k ≡ Some b → P b) →
-    slice_get hives h ≡ Some x → P x → (k : ℕ) (b : Booked) → k < h + 1 → slice_get hives k ≡ Some b → P b
+pub each_next : (P : Held → Type 0) (hives : List Held) (h : ℕ) (x : Held) → ((k : ℕ) (b : Held) → k < h → slice_get hives k ≡ Some b → P b) →
+    slice_get hives h ≡ Some x → P x → (k : ℕ) (b : Held) → k < h + 1 → slice_get hives k ≡ Some b → P b
 each_next P hives h x all is one k b below there =
     elim (cases_lt k h) [
       | inl less ↦ all k b less there
@@ -176,19 +176,19 @@ each_next P hives h x all is one k b below there =
     ]
 
 -- what is true of each hive that is there
-pub each_all : (P : Booked → Type 0) (hives : List Booked) (h : ℕ) → length hives ≤ h → ((k : ℕ) (b : Booked) → k < h → slice_get hives k ≡ Some b → P b) →
-    (k : ℕ) (b : Booked) → slice_get hives k ≡ Some b → P b
+pub each_all : (P : Held → Type 0) (hives : List Held) (h : ℕ) → length hives ≤ h → ((k : ℕ) (b : Held) → k < h → slice_get hives k ≡ Some b → P b) →
+    (k : ℕ) (b : Held) → slice_get hives k ≡ Some b → P b
 each_all P hives h whole all k b there = let within = slice_get_within hives k b there in all k b (omega (arith, within, whole)) there
 
 -- how many entries a hive keeps, as code finds them there
-pub kept_at : (hives : List Booked) (h : ℕ) (b : Booked) → slice_get hives h ≡ Some b → length b.view.journal ≡ length (journal_at hives h)
-kept_at hives h b there = sym (ap (λ (o : Option Booked). length (journal_of o)) there)
+pub kept_at : (hives : List Held) (h : ℕ) (b : Held) → slice_get hives h ≡ Some b → length b.view.journal ≡ length (journal_at hives h)
+kept_at hives h b there = sym (ap (λ (o : Option Held). length (journal_of o)) there)
 
-pub entries_long : (hives : List Booked) → length (entries_of hives) ≡ length hives
+pub entries_long : (hives : List Held) → length (entries_of hives) ≡ length hives
 entries_long [] = refl
 entries_long (b ∷ bs) = let rest = entries_long bs in omega (arith, rest)
 
-pub numbers_next : (hives : List Booked) (h n : ℕ) (start old new : List ℕ) → h < length hives → n ≡ length (journal_at hives h) →
+pub numbers_next : (hives : List Held) (h n : ℕ) (start old new : List ℕ) → h < length hives → n ≡ length (journal_at hives h) →
     old ≡ start ++ (codes "entries" ++ numbers_text (take h (entries_of hives))) → new ≡ old ++ (codes " " ++ decimal n) →
     new ≡ start ++ (codes "entries" ++ numbers_text (take (h + 1) (entries_of hives)))
 numbers_next hives h n start old new below is so_far adds =
@@ -209,7 +209,7 @@ take_whole [] (suc i) e = absurd (omega (arith, e))
 take_whole (x ∷ xs) zero e = absurd (omega (arith, e))
 take_whole (x ∷ xs) (suc i) e = ap (λ ys. x ∷ ys) (take_whole xs i (omega (arith, e)))
 
-pub entries_whole : (hives : List Booked) (h : ℕ) (start old new : List ℕ) → length hives ≡ h →
+pub entries_whole : (hives : List Held) (h : ℕ) (start old new : List ℕ) → length hives ≡ h →
     old ≡ start ++ (codes "entries" ++ numbers_text (take h (entries_of hives))) → new ≡ old ++ line_feed → new ≡ start ++ entries_text (entries_of hives)
 entries_whole hives h start old new past so_far adds =
     let whole : take h (entries_of hives) ≡ entries_of hives = take_whole (entries_of hives) h (entries_long hives ∙ past) in

@@ -7,7 +7,7 @@ use Rattle.std.proofs.Math.ListN.{get_or-eq_default}
 use Rattle.std.specs.Fmt.{decimal}
 use Rattle.reg_text.specs.Texts.{line_feed}
 use Rattle.reg_callbacks.specs.Asking.{Answers}
-use Rattle.reg_calls.specs.Views.{Booked}
+use Rattle.reg_sessions.specs.Locked.{Held}
 use Rattle.reg_model.specs.Histories.{receipts_of}
 use Rattle.reg_model.specs.declared.notice.Notice.{Notice as Told}
 use Rattle.reg_model.specs.declared.reply.Receipt.{Receipt}
@@ -155,7 +155,7 @@ module _ (hives : ℕ) (lines : List (List ℕ)) (parts kept : List PartState) (
             ∙ ap (λ (ws : List Work). notices_by h ws (done s)) (sym no_work))
       ]
 
-  differ_so : (kept' : Kept) (booked : List Booked) (h s place : ℕ) → KeptDiffer kept' booked sessions h s place →
+  differ_so : (kept' : Kept) (booked : List Held) (h s place : ℕ) → KeptDiffer kept' booked sessions h s place →
       DiffersIn kept' booked h s (tasks s) (done s) place
   differ_so OfReceipt booked h s place d =
       subst (λ (rs : List Receipt). slice_get (receipts_of s (journal_at booked h)) place ≢ slice_get rs place) (receipts_are s h) d
@@ -199,7 +199,7 @@ module _ (hives : ℕ) (lines : List (List ℕ)) (parts kept : List PartState) (
   number_of_sessions : length sessions ≡ sessions_of hives lines
   number_of_sessions = length-map jobs (λ (j : Job). j.session) ∙ number_of_jobs
 
-  holds_so : (booked : List Booked) → ((h : ℕ) → h < length booked → IsAudited booked sessions h) → (h : ℕ) → h < length booked →
+  holds_so : (booked : List Held) → ((h : ℕ) → h < length booked → IsAudited booked sessions h) → (h : ℕ) → h < length booked →
       HoldsAll booked tasks done (sessions_of hives lines) h
   holds_so booked h n below = record {
     entries = λ s. (h n below).gathered s ∙ receipts_are s n;
@@ -209,7 +209,7 @@ module _ (hives : ℕ) (lines : List (List ℕ)) (parts kept : List PartState) (
     delivered = λ s. subst (λ (ns : List Told). take (length ns) (told_at booked n s) ≡ ns) (taken_are s n) ((h n below).delivered s);
   }
 
-  ends_so : (gathered : Bool) (booked : List Booked) → IsGatheredSo gathered booked sessions → IsEnd gathered booked tasks done (sessions_of hives lines)
+  ends_so : (gathered : Bool) (booked : List Held) → IsGatheredSo gathered booked sessions → IsEnd gathered booked tasks done (sessions_of hives lines)
   ends_so true booked h = (h.0, holds_so booked h.1)
   ends_so false booked (inr short) = inr short
   ends_so false booked (inl h) = inl (record {
@@ -243,7 +243,7 @@ module _ (hives : ℕ) (lines : List (List ℕ)) (parts kept : List PartState) (
 
 -- ---- what gathering answers
 
-pub told_gathered : (hives : ℕ) (all : List SessionState) (audit : List Booked) (whole : Bool) (old new : List ℕ) → length audit ≡ hives → AreAdmitted audit →
+pub told_gathered : (hives : ℕ) (all : List SessionState) (audit : List Held) (whole : Bool) (old new : List ℕ) → length audit ≡ hives → AreAdmitted audit →
     ((h : ℕ) → h < length audit → IsAudited audit all h) → (IsTrue whole → AreWhole audit) → (AreWhole audit → IsTrue whole) →
     new ≡ old ++ (entries_text (entries_of audit) ++ end_text whole) → IsTold hives all old new
 told_gathered hives all audit whole old new long admitted audited is_whole not_whole text = record {
@@ -262,7 +262,7 @@ told_gathered hives all audit whole old new long admitted audited is_whole not_w
     by true f g = (f refl, audited)
     by false f g = inr (λ all_whole. no_true (g all_whole))
 
-pub told_differs : (hives h s place : ℕ) (kept : Kept) (all : List SessionState) (audit : List Booked) (old new : List ℕ) → length audit ≡ hives → AreAdmitted audit →
+pub told_differs : (hives h s place : ℕ) (kept : Kept) (all : List SessionState) (audit : List Held) (old new : List ℕ) → length audit ≡ hives → AreAdmitted audit →
     IsMismatch audit all h s place kept → new ≡ old ++ (entries_text (entries_of audit) ++ end_text false) → IsTold hives all old new
 told_differs hives h s place kept all audit old new long admitted differ text = record {
   booked = audit;

@@ -4,13 +4,12 @@ use Rattle.std.specs.Io.KnownBytes.{Appends, Consumes, IsAtEnd}
 use Rattle.reg_callbacks.specs.Asking.{Answers}
 use Rattle.reg_callbacks.specs.declared.callback.NoCallback.{NoCallback}
 use Rattle.reg_model.specs.Histories.{receipts_of}
-use Rattle.reg_calls.specs.Views.{Booked}
 use Rattle.reg_sessions.specs.declared.job.Done.{Done}
 use Rattle.reg_sessions.specs.declared.gathering.Kept.{Kept}
 use Rattle.reg_sessions.specs.declared.gathering.Kept.TheVariants.{Receipt as OfReceipt, Notice as OfNotice}
 use Rattle.reg_sessions.specs.Jobs.{are_of_kinds, receipts_by, notices_by, AreLawful}
 use Rattle.reg_sessions.specs.Gathering.{journal_at, told_at, IsStray}
-use Rattle.reg_sessions.specs.Locked.{IsAdmitted}
+use Rattle.reg_sessions.specs.Locked.{Held, book_of, IsAdmitted}
 use Rattle.reg_sessions.specs.Sessions.{SessionState}
 use Rattle.reg_script.specs.declared.engine.ScriptFault.{ScriptFault}
 use Rattle.reg_script.specs.declared.engine.ScriptFault.TheVariants.{Read, Write, TooLong, Memory}
@@ -25,32 +24,32 @@ accepted_at h tasks done zero = 0
 accepted_at h tasks done (suc n) = accepted_at h tasks done n + length (receipts_by h (works_of (tasks n)) (done n))
 
 -- how many entries each hive has
-abbrev pub entries_of : List Booked → List ℕ
-entries_of hives = map (λ (b : Booked). length b.view.journal) hives
+abbrev pub entries_of : List Held → List ℕ
+entries_of hives = map (λ (b : Held). length b.view.journal) hives
 
 -- each is a hive that a lock's type admits
-abbrev pub AreAdmitted : List Booked → Type 0
-AreAdmitted hives = (h : ℕ) (b : Booked) → slice_get hives h ≡ Some b → IsAdmitted b
+abbrev pub AreAdmitted : List Held → Type 0
+AreAdmitted hives = (h : ℕ) (b : Held) → slice_get hives h ≡ Some b → IsAdmitted (book_of b)
 
 -- the journal of each begins with its hive's first entry of all; so nobody was told anything before it (`began` of IsAdmitted)
-abbrev pub AreWhole : List Booked → Type 0
-AreWhole hives = (h : ℕ) (b : Booked) → slice_get hives h ≡ Some b → b.view.base ≡ 0
+abbrev pub AreWhole : List Held → Type 0
+AreWhole hives = (h : ℕ) (b : Held) → slice_get hives h ≡ Some b → b.view.base ≡ 0
 
 -- of each session the hive's journal has just the entries of its accepted changes, in order, and there are no others; and the notices that
 -- it took are the first of those that the hive told it
-pub record HoldsAll (hives : List Booked) (tasks : ℕ → List Task) (done : ℕ → List Done) (n h : ℕ) : Type 0 where
+pub record HoldsAll (hives : List Held) (tasks : ℕ → List Task) (done : ℕ → List Done) (n h : ℕ) : Type 0 where
   pub entries : (s : ℕ) → receipts_of s (journal_at hives h) ≡ receipts_by h (works_of (tasks s)) (done s)
   pub total : length (journal_at hives h) ≡ accepted_at h tasks done n
   pub delivered : (s : ℕ) → take (length (notices_by h (works_of (tasks s)) (done s))) (told_at hives h s) ≡ notices_by h (works_of (tasks s)) (done s)
 
 -- by what a session was told at a hive: at a place the hive's journal has another entry than its accepted change, or none, or the hive has none
 -- to that entry; or the notice that it took there isn't the one that the hive told it
-abbrev pub DiffersIn : Kept → List Booked → ℕ → ℕ → List Task → List Done → ℕ → Type 0
+abbrev pub DiffersIn : Kept → List Held → ℕ → ℕ → List Task → List Done → ℕ → Type 0
 DiffersIn OfReceipt hives h s tasks done place = slice_get (receipts_of s (journal_at hives h)) place ≢ slice_get (receipts_by h (works_of tasks) done) place
 DiffersIn OfNotice hives h s tasks done place = IsStray (notices_by h (works_of tasks) done) (told_at hives h s) place
 
 -- at some place of a session a hive differs from what the session was told
-pub record Differs (hives : List Booked) (tasks : ℕ → List Task) (done : ℕ → List Done) : Type 0 where
+pub record Differs (hives : List Held) (tasks : ℕ → List Task) (done : ℕ → List Done) : Type 0 where
   pub hive : ℕ
   pub is_hive : hive < length hives
   pub session : ℕ
@@ -60,7 +59,7 @@ pub record Differs (hives : List Booked) (tasks : ℕ → List Task) (done : ℕ
 
 -- what is told at the end is so: each hive holds just what its sessions were told, from its first entry on; or one differs, or lacks its
 -- first entries
-abbrev pub IsEnd : Bool → List Booked → (ℕ → List Task) → (ℕ → List Done) → ℕ → Type 0
+abbrev pub IsEnd : Bool → List Held → (ℕ → List Task) → (ℕ → List Done) → ℕ → Type 0
 IsEnd true hives tasks done n = AreWhole hives × ((h : ℕ) → h < length hives → HoldsAll hives tasks done n h)
 IsEnd false hives tasks done n = Differs hives tasks done ⊎ (AreWhole hives → ⊥)
 
@@ -80,7 +79,7 @@ pub record WritesWorkers (hives : ℕ) (lines : List (List ℕ)) (text : List �
   pub kinds : (s : ℕ) → s < sessions_of hives lines → are_of_kinds (works_of (tasks_of hives s lines first_settings)) (done s) ≡ true
   pub lawful : (s : ℕ) → s < sessions_of hives lines →
       AreLawful no_answers (fresh_session s) (works_of (tasks_of hives s lines first_settings)) (done s)
-  pub audit : List Booked
+  pub audit : List Held
   pub count : length audit ≡ hives
   pub admitted : AreAdmitted audit
   pub gathered : Bool

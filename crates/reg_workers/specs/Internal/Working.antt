@@ -3,7 +3,7 @@ use Rattle.std.specs.Prelude.{◌≡◌, ◌⊎◌, ℕ, zero, suc, ◌+◌, ◌
 use Rattle.std.specs.Fmt.{decimal}
 use Rattle.reg_text.specs.Texts.{line_feed}
 use Rattle.reg_callbacks.specs.Asking.{Answers}
-use Rattle.reg_calls.specs.Views.{Booked}
+use Rattle.reg_sessions.specs.Locked.{Held}
 use Rattle.reg_sessions.specs.declared.job.Work.{Work}
 use Rattle.reg_sessions.specs.declared.job.Done.{Done}
 use Rattle.reg_sessions.specs.declared.job.Job.{Job}
@@ -90,13 +90,13 @@ pub record IsWritten (reply : Reply) (work : List Work) (done : List Done) (old 
 -- ---- what is written of hives
 
 -- what is told at the end is what gathering answers, where no hive lacks its first entries
-abbrev pub IsGatheredSo : Bool → List Booked → List SessionState → Type 0
+abbrev pub IsGatheredSo : Bool → List Held → List SessionState → Type 0
 IsGatheredSo true hives sessions = AreWhole hives × ((h : ℕ) → h < length hives → IsAudited hives sessions h)
 IsGatheredSo false hives sessions = ((h : ℕ) × (s : ℕ) × (place : ℕ) × (kept : Kept) × IsMismatch hives sessions h s place kept) ⊎ (AreWhole hives → ⊥)
 
 -- the end was written
 pub record IsTold (hives : ℕ) (sessions : List SessionState) (old new : List ℕ) : Type 0 where
-  pub booked : List Booked
+  pub booked : List Held
   pub count : length booked ≡ hives
   pub admitted : AreAdmitted booked
   pub gathered : Bool

@@ -1,7 +1,7 @@
 use Rattle.reg_sessions.proofs.locked.apply.Goals as goal
 
-pub returns : goal.returns
-returns g c = record {
+pub returns-clause-answered : goal.returns-clause-answered
+returns-clause-answered g c = record {
   noted = c.apply.ensures.noted;
   applied = c.apply.ensures.applied;
   current = c.apply.ensures.current;

@@ -1,7 +1,6 @@
 use Rattle.std.proofs.Common.{◌∙◌, subst, sym}
-use Rattle.reg_calls.specs.Views.{Booked}
 use Rattle.reg_sessions.specs.Checkpoints.{IsCutDue}
-use Rattle.reg_sessions.specs.Locked.{booked_of}
+use Rattle.reg_sessions.specs.Locked.{Held, book_of, booked_of}
 use Rattle.reg_sessions.proofs.Admitted.{admitted_cut}
 use Rattle.reg_sessions.proofs.Rings.{ahead_cut}
 use Rattle.reg_sessions.proofs.locked.Locked.checkpoint.Goals as goal
@@ -15,5 +14,5 @@ invariant_of-self-2 g c = (
 
 pub returns-in-Some-clause-err : goal.returns-in-Some-clause-err
 returns-in-Some-clause-err g c =
-    subst (λ (b : Booked). IsCutDue b c.args.number c.args.sessions.now c.told.result) c.self.view_is
+    subst (λ (b : Held). IsCutDue (book_of b) c.args.number c.args.sessions.now c.told.result) c.self.view_is
     (c.told.ensures (booked_of c.self.inside.hive) c.args.number c.args.sessions.now (sym c.cut_fault.ensures ∙ c.in-Some.is))

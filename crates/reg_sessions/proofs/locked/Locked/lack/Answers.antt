@@ -1,5 +1,6 @@
 use Rattle.std.proofs.Common.{◌≤◌, ◌∙◌, subst, sym}
-use Rattle.reg_calls.specs.Views.{Booked, next_of}
+use Rattle.reg_calls.specs.Views.{next_of}
+use Rattle.reg_sessions.specs.Locked.{Held}
 use Rattle.reg_sessions.proofs.Admitted.{lacked, never-zero, not-behind, status_is}
 use Rattle.reg_sessions.proofs.locked.Locked.lack.Goals as goal
 
@@ -9,5 +10,5 @@ returns-clause-refused g c = λ z. never-zero c.cause.result c.cause.ensures (sy
 pub returns-clause-lawful : goal.returns-clause-lawful
 returns-clause-lawful g c =
     lacked g.C.Callback.answers c.self.inside.hive _ c.args.mark _ _ c.cause.result c.lacking.result c.cause.ensures c.self.invariant.0
-    (subst (λ (b : Booked). c.args.mark ≤ next_of b.view) (sym c.self.view_is) (not-behind c.is_behind.result _ _ c.is_behind.ensures.behind.1 c.if-is_behind.false))
+    (subst (λ (b : Held). c.args.mark ≤ next_of b.view) (sym c.self.view_is) (not-behind c.is_behind.result _ _ c.is_behind.ensures.behind.1 c.if-is_behind.false))
     c.lacking.ensures

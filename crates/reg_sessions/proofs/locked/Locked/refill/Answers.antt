@@ -1,8 +1,8 @@
 use Rattle.std.proofs.Common.{ℕ, List, length, ap, subst, sym, ◌∙◌}
 use Rattle.reg_calls.specs.HiveView.{view_of}
-use Rattle.reg_calls.specs.Views.{Booked}
-use Rattle.reg_sessions.specs.Locked.{booked_of}
+use Rattle.reg_sessions.specs.Locked.{Held, booked_of}
 use Rattle.reg_sessions.specs.Internal.Moved.{AreHandedOut}
+use Rattle.reg_sessions.proofs.HeldHives.{callbacks_kept}
 use Rattle.reg_sessions.proofs.Rings.{admitted_moved, one_moved}
 use Rattle.reg_sessions.proofs.locked.Locked.refill.Goals as goal
 
@@ -18,7 +18,10 @@ invariant_of-self g c = (
 )
 
 pub returns-clause-moved : goal.returns-clause-moved
-returns-clause-moved g c = subst (λ (b : Booked). AreHandedOut c.args.session b.view (view_of c.refill_of.new.hive)) c.self.view_is c.refill_of.ensures.moved
+returns-clause-moved g c = subst (λ (b : Held). AreHandedOut c.args.session b.view (view_of c.refill_of.new.hive)) c.self.view_is c.refill_of.ensures.moved
 
 pub returns-clause-noted : goal.returns-clause-noted
-returns-clause-noted g c = c.refill_of.ensures.noted ∙ ap (λ (b : Booked). b.noted) c.self.view_is
+returns-clause-noted g c = c.refill_of.ensures.noted ∙ ap (λ (b : Held). b.noted) c.self.view_is
+
+pub returns-clause-callbacks : goal.returns-clause-callbacks
+returns-clause-callbacks g c = callbacks_kept c.self.inside.lines.items c.refill_of.new.lines.items c.self.inside.hive c.refill_of.new.hive c.refill_of.ensures.callbacks c.self.view_is
