@@ -460,6 +460,14 @@ fn check_lists<H: Subject>(alloc: Global, counts: &mut Counts) -> Result<()> {
     check_rows(alloc, &mut hive, JOINED, counts)
 }
 
+/// Sets so many values on a root, one after another, that the tree notes their names.
+fn check_values<H: Subject>(alloc: Global, counts: &mut Counts) -> Result<()> {
+    let mut hive: H = fresh_hive(alloc)?;
+    let mut lines = String::from_str(alloc, "root 983103\n")?;
+    check_rows(alloc, &mut hive, "root 983103 -> 0 handle 0", counts)?;
+    check_each(alloc, &mut hive, "set", 0..200, " 4 x", &mut lines, counts)
+}
+
 /// Gives a script's rows to a fresh hive with a callback that lets every call go on. It is taken out at last: for that no memory is
 /// wanting.
 fn check_script<H: Subject>(alloc: Global, script: &str, counts: &mut Counts) -> Result<()> {
@@ -484,6 +492,7 @@ pub fn run_rows<H: Subject>(rt: &impl Print, alloc: Global) -> Result<()> {
         check_script::<H>(alloc, script, &mut counts)?;
     }
     check_lists::<H>(alloc, &mut counts)?;
+    check_values::<H>(alloc, &mut counts)?;
     println!(rt; "{counts}")?;
     Ok(())
 }

@@ -1,9 +1,9 @@
-//! Which hive a registration, and the taking of a notice, is for: of two hives the one that is named.
+//! Which hive a registration, and the taking of a notice, is for: of two hives the one that is named; and that hives come back in their order.
 use crate::asserts::{assert_report, tell_gathered};
 use crate::jobs::{fresh_hives, open, set_value, watch};
 use crate::told::{register, tell_change, tell_notice, unregister};
-use reg_sessions::{Registry, Session, start};
-use std::alloc::Global;
+use reg_sessions::{GatherFault, Registry, Session, gather, start};
+use std::alloc::{AllocError, Global};
 use std::sync::Wait;
 use std::test::Fail;
 
@@ -65,6 +65,59 @@ fn told_of_notices<Rt: Wait>(rt: &Rt, alloc: Global) -> Result<String, Fail> {
     let mut text = notified(rt, alloc, &registry, &mut sessions)?;
     tell_gathered(registry, sessions, &mut text);
     Ok(text)
+}
+
+/// Two sessions in the other order.
+fn turned(alloc: Global, sessions: Vec<Session>) -> Result<Vec<Session>, AllocError> {
+    let mut sessions = sessions;
+    let mut turned = Vec::new(alloc);
+    for _session in 0..2 {
+        if let Some(session) = sessions.pop() {
+            turned.push(session)?;
+        }
+    }
+    Ok(turned)
+}
+
+/// Gathers what a fault hands back, in the right order.
+fn tell_back(alloc: Global, fault: GatherFault, text: &mut String) -> Result<(), AllocError> {
+    match fault {
+        GatherFault::Sessions { registry, sessions } => {
+            text.push_str("another order\n")?;
+            tell_gathered(registry, turned(alloc, sessions)?, text);
+            Ok(())
+        }
+        GatherFault::Mismatch { audit: _audit, .. } => text.push_str("a mismatch\n"),
+    }
+}
+
+/// One change at hive 0, two at hive 1. The sessions are given in the wrong order, come back with the hives, and are given in theirs.
+fn told_of_orders<Rt: Wait>(rt: &Rt, alloc: Global) -> Result<String, Fail> {
+    let (registry, mut all) = start(alloc, fresh_hives(alloc, 2)?, 2)?;
+    let mut text = String::new(alloc);
+    for (session, hive) in [(0, 0), (0, 1), (1, 1)] {
+        tell_change(
+            rt,
+            &registry,
+            all.get_mut(session),
+            hive,
+            &open(),
+            &mut text,
+        );
+    }
+    match gather(registry, turned(alloc, all)?) {
+        Ok(_audit) => text.push_str("gathered\n")?,
+        Err(fault) => tell_back(alloc, fault, &mut text)?,
+    }
+    Ok(text)
+}
+
+#[test]
+fn hives_and_sessions_come_back_as_they_were_given(rt: HostRuntime) -> Result<(), Fail> {
+    assert_report(
+        told_of_orders(&rt, rt.alloc()),
+        "0 number Some(0)\n0 number Some(0)\n0 number Some(1)\nanother order\n1 entries\n2 entries\n",
+    )
 }
 
 #[test]

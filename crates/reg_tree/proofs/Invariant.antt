@@ -17,3 +17,5 @@ pub mod LengthsSeen
 pub mod DescribedKeys
 pub mod TreeLimits
 pub mod RoomMade
+pub mod ShapesOfWholeHives
+pub mod AdoptedTrees

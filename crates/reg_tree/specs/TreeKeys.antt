@@ -1,5 +1,5 @@
 -- A hive's keys as they are seen from above: the finite map that its cells spell.
-use Rattle.std.specs.Prelude.{◌≡◌, ◌≢◌, ◌↔◌, ◌≤◌, ◌++◌, true, map, ℕ, List, [], length, Option, Some, None, IsSome, unwrap_or, refl}
+use Rattle.std.specs.Prelude.{◌≡◌, ◌≢◌, ◌↔◌, ◌<◌, ◌≤◌, ◌++◌, true, map, ℕ, List, [], length, Option, Some, None, IsSome, unwrap_or, refl}
 use Rattle.std.specs.Option.{option_and_then}
 use Rattle.std.specs.Coded.{Coded, code_by, coded×, coded_ℕ}
 use Rattle.std.specs.FinMap.{empty, get}
@@ -42,6 +42,14 @@ pub record IsWholeTree (bytes : List ℕ) (root : ℕ) (tree : Tree) : Type 0 wh
   pub cells_are : cells_of bytes ≡ Some cells
   pub whole : IsWhole (cell_at bytes) (length cells) root
   pub spells : spelt (length cells) (cell_at bytes) root ≡ Some tree
+
+-- the hive in these bytes is whole, with this ring of securities, in its order; and no class is longer than a length field of 16 bits can
+-- say, which the cells, as lists of numbers, leave open
+pub record IsWholeWith (bytes : List ℕ) (root : ℕ) (ring : List ℕ) : Type 0 where
+  pub fuel : ℕ
+  pub whole : IsWhole (cell_at bytes) fuel root
+  pub ring_is : whole.ring ≡ ring
+  pub short : (p : Path) (r : Rec) → get (tree_in bytes root) p ≡ Some r → length r.class < 65536
 
 -- the key that a new hive's root is
 abbrev pub made_root : List ℕ → List ℕ → ℕ → Rec

@@ -1,5 +1,5 @@
 //! Which names the values of one key may have, so that a new value isn't looked for among all that the key has.
-ghost use Rattle.std.specs.Prelude.{◌≡◌, ℕ, List, Some, None, true, false};
+ghost use Rattle.std.specs.Prelude.{◌≡◌, ℕ, List, Some, None, true, false, OnErr};
 ghost use Rattle.reg_heap.specs.Edits.{values_at};
 ghost use Rattle.reg_tree.specs.TreeKeys.{tree_in};
 ghost use Rattle.reg_tree.specs.Internal.NamesSeen.{may_have, HasNoted};
@@ -8,7 +8,7 @@ ghost use Rattle.reg_tree.specs.Internal.TreeInvariant.{IsHere};
 use crate::values;
 use reg_arena::Arena;
 use reg_names::name_hash;
-use std::alloc::Global;
+use std::alloc::{AllocError, Global};
 use std::collections::HashSet;
 
 /// How many values a key has at least where their names are noted. Fewer are searched as fast as noted.
@@ -68,8 +68,9 @@ impl NamesSeen {
     /// Gets ready for a value of that name to be set on a key: notes the name where the key is noted. Where it isn't, it is noted with
     /// all names that it has, once it has many values and many were set on it one after another. Where memory is refused, no key is
     /// noted.
-    pub fn expect(&mut self, arena: &Arena, key: u32, name: &[u8])
+    pub fn expect(&mut self, arena: &Arena, key: u32, name: &[u8]) -> Result<(), AllocError>
         requires { IsHere arena.now.bytes key }
+        ensures err { OnErr result (self.new.noted ≡ None) }
         ensures noted { (other : ℕ) → self.new.noted ≡ Some other → other ≡ key }
         ensures expected { (other : ℕ) → self.new.noted ≡ Some other → may_have self.new name.now ≡ true }
         ensures kept { (t : IsHere arena.now.bytes key) →
@@ -77,16 +78,18 @@ impl NamesSeen {
             HasNoted self.new key (values_at (tree_in arena.now.bytes t.root) t.path) }
     {
         if self.noted != Some(key) {
-            self.turn_to(arena, key);
+            self.turn_to(arena, key)?;
         }
         if self.noted.is_some() {
-            self.note(name);
+            self.note(name)?;
         }
+        Ok(())
     }
 
     /// Turns to a key on which a value is to be set.
-    fn turn_to(&mut self, arena: &Arena, key: u32)
+    fn turn_to(&mut self, arena: &Arena, key: u32) -> Result<(), AllocError>
         requires { IsHere arena.now.bytes key }
+        ensures err { OnErr result (self.new.noted ≡ None) }
         ensures noted { (other : ℕ) → self.new.noted ≡ Some other → other ≡ key }
         ensures all { (t : IsHere arena.now.bytes key) → HasNoted self.new key (values_at (tree_in arena.now.bytes t.root) t.path) }
     {
@@ -95,13 +98,15 @@ impl NamesSeen {
         self.noted = None;
         self.last = Some(key);
         if self.turns >= MANY_TURNS && values::count(arena, key) >= MANY_VALUES {
-            self.note_all(arena, key);
+            self.note_all(arena, key)?;
         }
+        Ok(())
     }
 
     /// Notes the names of all values of a key.
-    fn note_all(&mut self, arena: &Arena, key: u32)
+    fn note_all(&mut self, arena: &Arena, key: u32) -> Result<(), AllocError>
         requires { IsHere arena.now.bytes key }
+        ensures err { OnErr result (self.new.noted ≡ None) }
         ensures noted { (other : ℕ) → self.new.noted ≡ Some other → other ≡ key }
         ensures all { (t : IsHere arena.now.bytes key) → HasNoted self.new key (values_at (tree_in arena.now.bytes t.root) t.path) }
     {
@@ -109,21 +114,26 @@ impl NamesSeen {
         self.noted = Some(key);
         for index in 0..values::count(arena, key) {
             match values::at(arena, key, index) {
-                Some(value) => self.note(value.name),
+                Some(value) => self.note(value.name)?,
                 None => unreachable!(),
             }
         }
+        Ok(())
     }
 
     /// Notes a name of the key that is noted. Where memory is refused, no key is noted any more.
-    fn note(&mut self, name: &[u8])
+    fn note(&mut self, name: &[u8]) -> Result<(), AllocError>
+        ensures err { OnErr result (self.new.noted ≡ None) }
         ensures noted { (key : ℕ) → self.new.noted ≡ Some key → self.old.noted ≡ Some key }
         ensures expected { (key : ℕ) → self.new.noted ≡ Some key → may_have self.new name.now ≡ true }
         ensures kept { (other : List ℕ) → may_have self.old other ≡ true → may_have self.new other ≡ true }
     {
         match self.hashes.insert(name_hash(name)) {
-            Ok(_) => {}
-            Err(_) => self.noted = None,
+            Ok(_) => Ok(()),
+            Err(_) => {
+                self.noted = None;
+                Err(AllocError)
+            }
         }
     }
 }

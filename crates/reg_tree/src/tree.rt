@@ -56,7 +56,7 @@ impl Model for Tree {
 }
 
 impl Tree {
-    ghost use Rattle.reg_tree.specs.TreeKeys.{made_root, IsWholeTree, IsAt, IsThere, IsResolved, KeepsNodes, MakesKeys};
+    ghost use Rattle.reg_tree.specs.TreeKeys.{made_root, tree_in, IsWholeTree, IsWholeWith, IsAt, IsThere, IsResolved, KeepsNodes, MakesKeys};
     ghost use Rattle.reg_index.specs.declared.Place.{Place};
     ghost use Rattle.reg_tree.specs.CellSizes.{BelongsThere, create_sizes, security_sizes, value_sizes, LacksRoom};
     ghost use Rattle.reg_tree.specs.NewHive.{IsNewHive};
@@ -101,6 +101,21 @@ impl Tree {
         };
         securities.add(&mut arena, None, security, descriptor);
         put_nk(&mut arena, root, &new_root(security, moment), root_name);
+        Ok(Tree {
+            arena,
+            root,
+            securities,
+            names: NamesSeen::new(alloc),
+        })
+    }
+
+    /// A tree of bins that are taken as they stand, since they are a whole hive, with this root and this ring of securities. Nothing is
+    /// read or copied but the securities' descriptors. Its one fault is that memory was refused.
+    pub fn adopt(alloc: Global, arena: Arena, root: u32, ring: &[u32]) -> Result<Tree, AllocError>
+        requires { IsWholeWith arena.bytes root ring.now }
+        ensures { IfOk result (λ t. t ≡ record { bins = arena; root = root; tree = tree_in arena.bytes root }) }
+    {
+        let securities = SecurityTable::of_ring(alloc, &arena, ring)?;
         Ok(Tree {
             arena,
             root,
@@ -408,7 +423,10 @@ impl Tree {
         ensures grows { OnOk result (length self.new.bins.bytes ≤ length self.old.bins.bytes + GROWTH_BOUND) }
         ensures kept { OnOk result (length self.old.bins.bytes ≤ length self.new.bins.bytes) }
     {
-        self.names.expect(&self.arena, node.offset, name);
+        match self.names.expect(&self.arena, node.offset, name) {
+            Ok(()) => {}
+            Err(AllocError) => return Err(ArenaFault::Memory),
+        }
         values::set_at(
             alloc,
             &mut self.arena,

@@ -6,5 +6,4 @@ pub mod CleanKeys
 pub mod CleanLists
 pub mod CleanHives
 pub mod CleanImages
-pub mod ShapesOfWholeHives
 pub mod WholeImages

@@ -4,4 +4,5 @@ pub mod Readers
 pub mod KeyStacks
 pub mod Devices
 pub mod CleanWalks
+pub mod WalkedBack
 pub mod Anew

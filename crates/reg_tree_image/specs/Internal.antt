@@ -16,3 +16,4 @@ pub mod FirstUses
 pub mod InputParts
 pub mod BlockFields
 pub mod FreeCells
+pub mod KeysNamed

@@ -3,7 +3,7 @@
 //! It makes the tests of [`crate::walk`] in the same order. Whether a key's name was met among its siblings is asked of the names
 //! themselves, since no tree has them.
 
-ghost use Rattle.std.specs.Prelude.{◌≡◌, ◌<◌, ◌+◌, ◌*◌, ◌≤◌, ◌++◌, ◌∷◌, ℕ, List, [], length, reverse, suc, Result, Ok, OnOk, IfErr, MatchResult};
+ghost use Rattle.std.specs.Prelude.{◌≡◌, ◌<◌, ◌+◌, ◌*◌, ◌==◌, ◌≤◌, ◌++◌, ◌∷◌, ℕ, false, List, [], length, reverse, suc, Result, Ok, OnOk, IfErr, MatchResult};
 ghost use Rattle.reg_names.specs.declared.TheConstants.{PATH_LIMIT};
 ghost use Rattle.reg_heap.specs.Paths.{Path};
 ghost use Rattle.reg_arena.specs.Cells.{cell_at};
@@ -12,6 +12,7 @@ ghost use Rattle.reg_tree_image.specs.WalkSteps.{Seen};
 ghost use Rattle.reg_tree_image.specs.LoadingWalk.{key_from, root_path};
 ghost use Rattle.reg_tree_image.specs.Images.{nothing};
 ghost use Rattle.reg_tree_image.specs.Internal.CellStates.{IsTable, unnamed};
+ghost use Rattle.reg_tree_image.specs.Internal.KeysNamed.{key_offsets};
 ghost use Rattle.reg_tree_image.specs.Internal.CheckedStacks.{AreSiblings, IsChecked, IsChecking, Meets};
 
 use crate::LoadFault;
@@ -55,7 +56,7 @@ fn push<'a>(keys: &mut Vec<CheckedKey<'a>>, key: CheckedKey<'a>) -> Result<(), L
 }
 
 /// Names a key, whose name joins those of its siblings, and reads its record, class, security and values; then the list of its subkeys.
-/// There are so many levels for it and the keys below it.
+/// There are so many levels for it and the keys below it. Its offset is noted.
 fn check_key<'a>(
     alloc: Global,
     bins: &'a [u8],
@@ -63,12 +64,14 @@ fn check_key<'a>(
     table: &mut CellTable,
     levels: u32,
     siblings: &mut MetNames,
+    noted: &mut Vec<u32>,
     offset: u32,
 ) -> Result<CheckedKey<'a>, LoadFault>
     ensures checks { (path : List ℕ) → (here : List ℕ → Path) → (seen : Seen) → IsTable (cell_at bins.now) seen.found path table.old.states.items →
         AreSiblings here seen.told siblings.old → MatchResult result
         (λ key. IsChecked (cell_at bins.now) minor levels path here offset seen table.new.states.items siblings.old siblings.new key)
         (λ fault. Meets fault (key_from (cell_at bins.now) minor levels path here offset seen)) }
+    ensures noted { OnOk result (noted.new.items ≡ noted.old.items ++ offset ∷ []) }
     ensures fewer { OnOk result (unnamed table.new.states.items < unnamed table.old.states.items) }
 {
     let named = named_key(alloc, bins, table, offset)?;
@@ -79,6 +82,9 @@ fn check_key<'a>(
     let fields = named.node.fields;
     let _parts = enter_key(alloc, bins, table, minor, offset, &fields)?;
     let subkeys = subkeys_from(bins, table, fields.subkeys, fields.subkeys_list)?;
+    if noted.push(offset).is_err() {
+        return Err(LoadFault::Memory);
+    }
     Ok(CheckedKey {
         offset,
         levels: levels - 1,
@@ -97,13 +103,14 @@ fn step<'a>(
     minor: u32,
     table: &mut CellTable,
     keys: &mut Vec<CheckedKey<'a>>,
+    noted: &mut Vec<u32>,
     lowest: CheckedKey<'a>,
 ) -> Result<(), LoadFault>
     ensures ok { (whole : Result (Unit {0} × Seen) LoadFault) →
-        IsChecking (cell_at bins.now) minor whole (lowest.entry ∷ reverse keys.old.items) table.old.states.items →
-        OnOk result (IsChecking (cell_at bins.now) minor whole (reverse keys.new.items) table.new.states.items) }
+        IsChecking (cell_at bins.now) minor whole (lowest.entry ∷ reverse keys.old.items) table.old.states.items noted.old.items →
+        OnOk result (IsChecking (cell_at bins.now) minor whole (reverse keys.new.items) table.new.states.items noted.new.items) }
     ensures err { (whole : Result (Unit {0} × Seen) LoadFault) →
-        IsChecking (cell_at bins.now) minor whole (lowest.entry ∷ reverse keys.old.items) table.old.states.items →
+        IsChecking (cell_at bins.now) minor whole (lowest.entry ∷ reverse keys.old.items) table.old.states.items noted.old.items →
         IfErr result (λ fault. Meets fault whole) }
     ensures less { OnOk result
         (2 * unnamed table.new.states.items + length keys.new.items ≤ 2 * unnamed table.old.states.items + length keys.old.items) }
@@ -115,7 +122,16 @@ fn step<'a>(
         }
         key.count += 1;
         let levels = key.levels;
-        let below = check_key(alloc, bins, minor, table, levels, &mut key.names, offset)?;
+        let below = check_key(
+            alloc,
+            bins,
+            minor,
+            table,
+            levels,
+            &mut key.names,
+            noted,
+            offset,
+        )?;
         push(keys, key)?;
         return push(keys, below);
     }
@@ -127,7 +143,8 @@ fn step<'a>(
     Ok(())
 }
 
-/// Walks the keys of foreign bins from the root's key node on, of which none is built. Of the cells none was named yet.
+/// Walks the keys of foreign bins from the root's key node on, of which none is built, and notes their offsets. Of the cells none was named
+/// yet, and nothing was noted.
 ///
 /// Its fault is the first that the walk meets; `Memory` at any place.
 pub fn check_keys(
@@ -135,20 +152,33 @@ pub fn check_keys(
     bins: &[u8],
     minor: u32,
     table: &mut CellTable,
+    noted: &mut Vec<u32>,
     root: u32,
 ) -> Result<(), LoadFault>
-    requires { IsTable (cell_at bins.now) [] [] table.old.states.items }
+    requires table { IsTable (cell_at bins.now) [] [] table.old.states.items }
+    requires none { noted.old.items ≡ [] }
     ensures ok { OnOk result ((seen : Seen)
-        × (key_from (cell_at bins.now) minor (suc PATH_LIMIT) [] root_path root nothing ≡ Ok (tt, seen))) }
+        × (key_from (cell_at bins.now) minor (suc PATH_LIMIT) [] root_path root nothing ≡ Ok (tt, seen))
+        × IsTable (cell_at bins.now) seen.found [] table.new.states.items
+        × ((minor == 3) ≡ false → noted.new.items ≡ key_offsets seen.found)) }
     ensures err { IfErr result (λ fault. Meets fault (key_from (cell_at bins.now) minor (suc PATH_LIMIT) [] root_path root nothing)) }
 {
     let mut siblings = MetNames::new(alloc);
     let levels = PATH_LIMIT as u32 + 1;
-    let first = check_key(alloc, bins, minor, table, levels, &mut siblings, root)?;
+    let first = check_key(
+        alloc,
+        bins,
+        minor,
+        table,
+        levels,
+        &mut siblings,
+        noted,
+        root,
+    )?;
     let mut keys = Vec::new(alloc);
     push(&mut keys, first)?;
     while let Some(key) = keys.pop() {
-        step(alloc, bins, minor, table, &mut keys, key)?;
+        step(alloc, bins, minor, table, &mut keys, noted, key)?;
     }
     Ok(())
 }

@@ -131,7 +131,8 @@ fn test_keys(alloc: Global, bins: &[u8], block: BaseBlock) -> Result<(), LoadFau
     ensures err { IfErr result (λ fault. Meets fault (bins_walk bins.now block.minor block.root nothing)) }
 {
     let mut table = scan(alloc, bins)?;
-    check_keys(alloc, bins, block.minor, &mut table, block.root)
+    let mut noted = Vec::new(alloc);
+    check_keys(alloc, bins, block.minor, &mut table, &mut noted, block.root)
 }
 
 /// The tree of the keys in foreign bins, built anew. Where the new bins have no room for a key, the tests go on without building, and that

@@ -17,7 +17,7 @@ use Rattle.reg_tree_image.specs.CrowdedBins.{AreCrowded}
 use Rattle.reg_tree_image.specs.Internal.Stacks.{FailsAs}
 use Rattle.reg_tree_image.proofs.CleanWalks.CleanHives.{hive-walked, hive-told}
 use Rattle.reg_tree_image.proofs.CleanWalks.CleanImages.{bins-walked}
-use Rattle.reg_tree_image.proofs.CleanWalks.ShapesOfWholeHives.{its_keys, shape-of-whole}
+use Rattle.reg_tree.proofs.Invariant.ShapesOfWholeHives.{its_keys, shape-of-whole}
 use Rattle.reg_tree_image.proofs.CleanWalks.WholeImages.{spelt-is}
 
 module _ (bins : List ℕ) (root : ℕ) where

@@ -91,7 +91,7 @@ drop-front (suc n) (x ∷ xs) ys e = drop-front n xs ys (omega arith)
 
 -- ---- forms
 
-abbrev is_root : Form → Bool
+abbrev pub is_root : Form → Bool
 is_root IndexRoot = true
 is_root IndexLeaf = false
 is_root FastLeaf = false
@@ -115,7 +115,7 @@ forms false false false true form e = ap is_root (same_Some _ _ e)
 forms false false false false form e = absurd (none-some _ e)
 
 -- an index root is what begins with `ri`
-root-signed : (content : List ℕ) (list : SubkeysList) → list_of content ≡ Some list → is_signed 114 105 content ≡ is_root list.form
+pub root-signed : (content : List ℕ) (list : SubkeysList) → list_of content ≡ Some list → is_signed 114 105 content ≡ is_root list.form
 unfolding list_of
 root-signed content list e =
     let o = then-open (λ form. list_as form content) (form_of content) list e in

@@ -12,7 +12,7 @@ use Rattle.reg_shape.proofs.Walking.WalkRefinement.{look-open}
 use Rattle.reg_shape.proofs.Wholeness.AllocatedCells.{spelt-in}
 use Rattle.reg_tree_image.specs.Images.{image_of, loaded}
 use Rattle.reg_tree_image.proofs.NamedCells.CellContents.{content-is}
-use Rattle.reg_tree_image.proofs.CleanWalks.ShapesOfWholeHives.{branch, its_keys, shape-of-whole}
+use Rattle.reg_tree.proofs.Invariant.ShapesOfWholeHives.{branch, its_keys, shape-of-whole}
 use Rattle.reg_tree_image.proofs.CleanWalks.CleanImages.{image-loads}
 
 module _ (bins : List ℕ) (root : ℕ) (w : Whole bins root) where

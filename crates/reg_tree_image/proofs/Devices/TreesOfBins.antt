@@ -100,11 +100,11 @@ module _ (bins : List ℕ) (minor root : ℕ) where
   scan-meets fault n = only-meets fault Whole (scan-fails bins minor root ⊥ fault n)
 
   module _ (states : List CellState) (s : IsScanned bins states) where
-    pub tested : (r : Result (Unit {0}) LoadFault) →
-        OnOk r ((seen : Seen) × (keys-walked bins minor root (cell_at bins) ≡ Ok (tt, seen))) → OnOk r (IsOk Whole)
-    tested (Ok done) w =
+    pub tested : (r : Result (Unit {0}) LoadFault) (P Q : Seen → Type 0) →
+        OnOk r ((seen : Seen) × (keys-walked bins minor root (cell_at bins) ≡ Ok (tt, seen)) × P seen × Q seen) → OnOk r (IsOk Whole)
+    tested (Ok done) P Q w =
         subst (λ (r : Result (Unit {0} × Seen) LoadFault). IsOk r) (sym (bins-walked bins minor root states s ∙ w.1)) refl
-    tested (Err fault) w = tt
+    tested (Err fault) P Q w = tt
 
     pub test-fails : (r : Result (Unit {0}) LoadFault) → IfErr r (λ fault. Meets fault (keys-walked bins minor root (cell_at bins))) →
         IfErr r (λ fault. Meets fault Whole)

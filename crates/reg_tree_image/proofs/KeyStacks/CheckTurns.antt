@@ -26,6 +26,7 @@ use Rattle.reg_tree_image.specs.Internal.CheckedStacks.{Meets, AreSiblings, HasA
 use Rattle.reg_tree_image.proofs.KeyStacks.WalkTurns.{not-many, regroup, onward-same}
 use Rattle.reg_tree_image.proofs.KeyStacks.KeysTold.{child-length, all-above-first, all-above-more, taken-still, taken-last, one-sibling, same-siblings, no-siblings}
 use Rattle.reg_tree_image.proofs.NamedCells.CellNaming.{left-table}
+use Rattle.reg_tree_image.proofs.WalkedBack.KeyOffsets.{leaf-keys}
 
 -- what a walk gives
 abbrev Told : Type 0
@@ -74,7 +75,7 @@ module _ (at : Path) (rec : Rec) (seen after : Seen) (told : after.told ≡ seen
   )
 
 module _ (heap : Heap) (minor : ℕ) (whole : Told) (key : CheckedKey) (above : List CheckedKey) (old new : List CellState)
-    (w : IsChecking heap minor whole (key ∷ above) old) where
+    (noted : List ℕ) (w : IsChecking heap minor whole (key ∷ above) old noted) where
   -- what is made of the lowest key's frame and those above it
   abbrev FromLowest : Type 0 → Type 0
   FromLowest R =
@@ -92,10 +93,10 @@ module _ (heap : Heap) (minor : ℕ) (whole : Told) (key : CheckedKey) (above : 
 
   -- ---- nothing is left of the key
   pub checking-left : entries_in key.leaf ≡ [] → entries_in key.lists ≡ [] →
-      (state_in old key.offset ≡ OnPath → Puts old new key.offset Named) → IsChecking heap minor whole above new
+      (state_in old key.offset ≡ OnPath → Puts old new key.offset Named) → IsChecking heap minor whole above new noted
   checking-left e l p = by-frame by
     where
-      by : FromLowest (IsChecking heap minor whole above new)
+      by : FromLowest (IsChecking heap minor whole above new noted)
       by f frames a path level deep shown t r =
           let es : f.entries ≡ [] = sym a.entries ∙ e in
           let ls : f.lists ≡ [] = sym a.lists ∙ l in
@@ -108,15 +109,16 @@ module _ (heap : Heap) (minor : ℕ) (whole : Told) (key : CheckedKey) (above : 
             table = left-table heap w.seen.found key.offset (path_of frames) old new t' p;
             above = w.above;
             rest = rw (es, ls) at r;
+            keys = w.keys;
           }
 
   -- ---- the next list of keys
   module _ (e : Entry) (part : ListPart) (empty : entries_in key.leaf ≡ []) (more : entries_in key.lists ≡ e ∷ entries_in part) where
     pub checking-list : (leaf : ListPart) → ((path : List ℕ) → Follows heap path list_in (leaf_from heap path e.offset) old new (Ok leaf)) →
-        IsChecking heap minor whole (record key { leaf = leaf; lists = part } ∷ above) new
+        IsChecking heap minor whole (record key { leaf = leaf; lists = part } ∷ above) new noted
     checking-list leaf follows = by-frame by
       where
-        by : FromLowest (IsChecking heap minor whole (record key { leaf = leaf; lists = part } ∷ above) new)
+        by : FromLowest (IsChecking heap minor whole (record key { leaf = leaf; lists = part } ∷ above) new noted)
         by f frames a path level deep shown t r =
             let es : f.entries ≡ [] = sym a.entries ∙ empty in
             let ls : f.lists ≡ e ∷ entries_in part = sym a.lists ∙ more in
@@ -139,6 +141,7 @@ module _ (heap : Heap) (minor : ℕ) (whole : Told) (key : CheckedKey) (above : 
               table = d.table;
               above = subst (λ (told : List (Path × Rec)). HasAllAbove told) (sym d.told) w.above;
               rest = rw g at (rw (es, ls) at r);
+              keys = λ n. w.keys n ∙ sym (leaf-keys heap f.path e.offset w.seen (list_in leaf) d.after g);
             }
 
     pub checking-list-fails : (fault : LoadFault) →
@@ -183,10 +186,10 @@ module _ (heap : Heap) (minor : ℕ) (whole : Told) (key : CheckedKey) (above : 
         (λ _. left heap minor (suc levels) frames) (go heap minor levels f e.offset seen))
 
     pub checking-key : (below : CheckedKey) (names : MetNames) → Goes names (Ok below) →
-        IsChecking heap minor whole (below ∷ record key { count = key.count + 1; leaf = part; names = names } ∷ above) new
+        IsChecking heap minor whole (below ∷ record key { count = key.count + 1; leaf = part; names = names } ∷ above) new (noted ++ e.offset ∷ [])
     checking-key below names goes = by-frame by
       where
-        by : FromLowest (IsChecking heap minor whole (below ∷ record key { count = key.count + 1; leaf = part; names = names } ∷ above) new)
+        by : FromLowest (IsChecking heap minor whole (below ∷ record key { count = key.count + 1; leaf = part; names = names } ∷ above) new (noted ++ e.offset ∷ []))
         by f frames a path level deep shown t r =
             let b : IsChecked heap minor w.levels f.path (child_path f.at) e.offset w.seen new key.names names below =
             subst (λ n. IsChecked heap minor n f.path (child_path f.at) e.offset w.seen new key.names names below) level
@@ -231,6 +234,7 @@ module _ (heap : Heap) (minor : ℕ) (whole : Told) (key : CheckedKey) (above : 
               rest = ap (behind (suc b.lower) f frames) (sym b.rest)
                   ∙ (ap (λ n. behind n f frames (go heap minor w.levels f e.offset w.seen)) (sym b.levels_are)
                   ∙ (sym (goes-on w.levels f frames w.seen a) ∙ r));
+              keys = λ n. ap (λ (l : List ℕ). l ++ e.offset ∷ []) (w.keys n) ∙ sym (b.keys n);
             }
 
     pub checking-key-fails : (names : MetNames) (fault : LoadFault) → Goes names (Err fault) → Meets fault whole
@@ -247,7 +251,7 @@ module _ (heap : Heap) (minor : ℕ) (whole : Told) (key : CheckedKey) (above : 
 
 pub checking-first : (heap : Heap) (minor root : ℕ) (states : List CellState) (old new : MetNames) (key : CheckedKey) →
     IsChecked heap minor (suc PATH_LIMIT) [] root_path root nothing states old new key →
-    IsChecking heap minor (key_from heap minor (suc PATH_LIMIT) [] root_path root nothing) (key ∷ []) states
+    IsChecking heap minor (key_from heap minor (suc PATH_LIMIT) [] root_path root nothing) (key ∷ []) states (root ∷ [])
 checking-first heap minor root states old new key b = record {
   seen = b.after;
   frames = frame_of (root ∷ []) [] key ∷ [];
@@ -268,4 +272,5 @@ checking-first heap minor root states old new key b = record {
   table = b.table;
   above = subst (λ (told : List (Path × Rec)). HasAllAbove told) (sym b.told) (all-above-first b.rec);
   rest = onward-same (frame_left heap minor b.lower (frame_of (root ∷ []) [] key) b.after) ∙ sym b.rest;
+  keys = λ n. sym (b.keys n);
 }

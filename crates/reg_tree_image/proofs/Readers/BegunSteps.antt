@@ -185,7 +185,7 @@ module _ (heap : Heap) (minor lower : ℕ) (path : List ℕ) (here : List ℕ �
     pub begun : key_from heap minor (suc lower) path here offset seen ≡ below told_then
     begun = key-is ∙ ap (λ r. onward (λ _. below) (onward telling r)) own.gives
 
-    rest-gives : rest_from heap minor (offset ∷ path) its_path the_key (cow_slice_items named.name) head.after ≡ Ok (tt, told_then)
+    pub rest-gives : rest_from heap minor (offset ∷ path) its_path the_key (cow_slice_items named.name) head.after ≡ Ok (tt, told_then)
     rest-gives = ap (onward telling) own.gives
 
     -- the walk comes to the key itself

@@ -24,7 +24,8 @@ use Rattle.reg_tree_image.specs.Internal.BegunKeys.{Stops, told_as, IsListed, Li
 use Rattle.reg_tree_image.specs.Internal.Stacks.{FailsAs}
 use Rattle.reg_tree_image.specs.Internal.CheckedStacks.{Meets, has_met, AreSiblings, IsChecked}
 use Rattle.reg_tree_image.proofs.Readers.SiblingTests.{free-is}
-use Rattle.reg_tree_image.proofs.Readers.BegunSteps.{stops-bind, head-is, head-done, head-stops, head-fails, parts-fail, told_then, begun, told-are, list-fails}
+use Rattle.reg_tree_image.proofs.Readers.BegunSteps.{stops-bind, head-is, head-done, head-stops, head-fails, parts-fail, told_then, begun, rest-gives, told-are, list-fails}
+use Rattle.reg_tree_image.proofs.WalkedBack.KeyOffsets.{head-keys, rest-keys, listed-keys}
 
 -- ---- faults
 
@@ -147,4 +148,10 @@ module _ (heap : Heap) (minor levels : ℕ) (path : List ℕ) (here : List ℕ �
               table = l.table;
               rest = ap (λ n. key_from heap minor n path here offset seen) level
                   ∙ (begun heap minor lower path here offset seen named mid head parts next own ∙ l.rest);
+              keys = λ new.
+                  listed-keys heap (offset ∷ path) below named.node.fields.subkeys named.node.fields.subkeys_list
+                  (told_then heap minor lower path here offset seen named mid head parts next own) last subkeys l
+                  ∙ (rest-keys heap minor new (offset ∷ path) (here (cow_slice_items named.name)) (key_of named).0 (cow_slice_items named.name) head.after tt (told_then heap minor lower path here offset seen named mid head parts next own)
+                  (rest-gives heap minor lower path here offset seen named mid head parts next own)
+                  ∙ head-keys heap minor new path here offset seen (key_of named) head.after head.gives);
             }

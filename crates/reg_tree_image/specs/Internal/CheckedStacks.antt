@@ -1,5 +1,5 @@
 -- The keys on the present path of a walk that builds none, as frames of what is left.
-use Rattle.std.specs.Prelude.{◌≡◌, ℕ, suc, ◌+◌, ◌||◌, not, Bool, true, false, length, Result, Err, List, [], ◌∷◌, ◌++◌, ⊤}
+use Rattle.std.specs.Prelude.{◌≡◌, ℕ, suc, ◌+◌, ◌==◌, ◌||◌, not, Bool, true, false, length, Result, Err, List, [], ◌∷◌, ◌++◌, ⊤}
 use Rattle.reg_names.specs.declared.TheConstants.{PATH_LIMIT}
 use Rattle.reg_heap.specs.Heaps.{Heap}
 use Rattle.reg_heap.specs.Paths.{Path, Rec}
@@ -16,6 +16,7 @@ use Rattle.reg_tree_image.specs.Internal.CellStates.{IsTable}
 use Rattle.reg_tree_image.specs.Internal.ListParts.{entries_in}
 use Rattle.reg_tree_image.specs.Internal.NamesMet.{is_met}
 use Rattle.reg_tree_image.specs.Internal.Frames.{Frame, frame_left, left}
+use Rattle.reg_tree_image.specs.Internal.KeysNamed.{key_offsets}
 use Rattle.reg_tree_image.specs.Internal.Stacks.{path_of}
 
 -- the whole walk meets this fault, if it isn't want of memory, which may come in place of anything
@@ -53,9 +54,10 @@ AreShown told levels (key ∷ above) (f ∷ frames) =
     Shows told key f × (f.path ≡ key.offset ∷ path_of frames) × (key.levels ≡ levels) × (levels + length f.at ≡ PATH_LIMIT)
     × AreShown told (suc levels) above frames
 
--- what was read so far, and the rest of the walk, are the whole walk
+-- what was read so far, and the rest of the walk, are the whole walk; the keys that were named are noted, but in minor version 3, where a
+-- hive's own walk reads data in another way
 pub record IsChecking (heap : Heap) (minor : ℕ) (whole : Result (Unit {0} × Seen) LoadFault) (stack : List CheckedKey)
-    (states : List CellState) : Type 0 where
+    (states : List CellState) (noted : List ℕ) : Type 0 where
   pub seen : Seen
   pub frames : List Frame
   pub levels : ℕ
@@ -63,6 +65,7 @@ pub record IsChecking (heap : Heap) (minor : ℕ) (whole : Result (Unit {0} × S
   pub table : IsTable heap seen.found (path_of frames) states
   pub above : HasAllAbove seen.told
   pub rest : left heap minor levels frames seen ≡ whole
+  pub keys : (minor == 3) ≡ false → noted ≡ key_offsets seen.found
 
 -- a key on the present path, of whose subkeys none was named yet
 abbrev pub frame_of : List ℕ → Path → CheckedKey → Frame
@@ -86,3 +89,4 @@ pub record IsChecked (heap : Heap) (minor levels : ℕ) (path : List ℕ) (here 
   pub one : (other : List ℕ) → has_met new other ≡ (has_met old other || same_name name other)
   pub table : IsTable heap after.found (offset ∷ path) states
   pub rest : key_from heap minor levels path here offset seen ≡ frame_left heap minor lower (frame_of (offset ∷ path) (here name) key) after
+  pub keys : (minor == 3) ≡ false → key_offsets after.found ≡ key_offsets seen.found ++ offset ∷ []

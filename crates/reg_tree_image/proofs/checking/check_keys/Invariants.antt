@@ -10,7 +10,7 @@ use Rattle.reg_tree_image.proofs.checking.check_keys.Given as goal
 abbrev pub invariant-loop-key : goal.invariant-loop-key
 invariant-loop-key l =
     IsChecking (cell_at l.bins) l.minor (key_from (cell_at l.bins) l.minor (suc PATH_LIMIT) [] root_path l.root nothing)
-    (reverse l.keys.items) l.table.states.items
+    (reverse l.keys.items) l.table.states.items l.noted.items
 
 abbrev pub decreases-loop-key : goal.decreases-loop-key
 decreases-loop-key l = 2 * unnamed l.table.states.items + length l.keys.items

@@ -8,7 +8,7 @@ use Rattle.reg_tree.specs.CellSizes.{value_sizes}
 use Rattle.reg_tree.specs.TreeKeys.{Keys}
 use Rattle.reg_tree.proofs.Invariant.NodeLemmas.{there_at, to_tree, holds_then, changed_ok, changed_nodes}
 use Rattle.reg_tree.proofs.Invariant.LengthsSeen.{lengths_changed}
-use Rattle.reg_tree.proofs.ValueChange.NotedNames.{set_noted}
+use Rattle.reg_tree.proofs.ValueChange.NotedNames.{none_noted, set_noted}
 use Rattle.reg_tree.proofs.ValueChange.ValueCells.{takes_seen}
 use Rattle.reg_tree.proofs.tree.Tree.set_at.Goals as goal
 
@@ -30,7 +30,10 @@ set_at-requires-clause-room c =
     )
 
 pub invariant_of-self : goal.invariant_of-self
-invariant_of-self c =
+invariant_of-self c = (c.self.invariant.0, none_noted _ _ _ c.in-Err.ensures.err)
+
+pub invariant_of-self-2 : goal.invariant_of-self-2
+invariant_of-self-2 c =
     let n = c.requires.node in (
       holds_then _ _ c.self.invariant.0 _ c.self.view_is _ c.set_at.result c.args.node n _ c.set_at.ensures.ok c.set_at.ensures.err,
       set_noted c.self.inside.names c.expect.new.self c.self.inside.arena c.set_at.new.arena c.self.inside.root c.self.invariant.0 c.self.invariant.1
