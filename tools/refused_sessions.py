@@ -19,8 +19,8 @@ CALLS, FEWEST = 1_600, 100
 # What a test ends with where its own text, list or hive takes the allocation that is refused.
 OWN_WANTS = (b"error: AllocError\n", b"error: AllocFailed { .. }\n", b"error: Memory\n")
 FAILED = 101
-# What a test says of a `drive` that is done, and how many allocations the start of its one thread takes.
-ANSWERED, OF_A_START = b"drive: answered", 2
+# What a test says of a `drive` that is done. The start of its one thread takes one allocation, and the first start of a run one more.
+ANSWERED, OF_THE_FIRST = b"drive: answered", 1
 
 
 def built_by_the_gate():
@@ -69,7 +69,7 @@ def refuse_test(library, program, test, every):
         seen[found] += 1
         if found == "WRONG":
             print(f"{test}: allocation {number}: status {status}, {said[-400:]!r}", flush=True)
-    if seen[ANSWERED.decode()] > OF_A_START * drives:
+    if seen[ANSWERED.decode()] > drives + OF_THE_FIRST:
         seen["WRONG"] += 1
         print(f"{test}: more is passed over than {drives} starts of threads")
     return tell_counts(test, seen) and (every > 1 or any(it.endswith("no memory") for it in seen))

@@ -1,6 +1,12 @@
 """Runs a program whose memory is refused: one allocation of it, or some of its threads' by chance."""
 import os
 import subprocess
+import sys
+
+from repository import WRONG
+
+# No run takes so many allocations.
+TOO_MANY = 1_000_000
 
 # Loaded before the C library. REFUSE is the number of the one allocation that is refused, in any thread. REFUSE_THREADS is a number from
 # which it is drawn in each thread which allocations are refused: the next one is the 10th to the 1,000th behind the last. Of the first
@@ -98,8 +104,11 @@ def run_threads(library, words, seed, limit):
 
 
 def numbers(every):
-    """The numbers of the allocations that are refused, each in a run of its own: all, or of so many the middle one."""
-    return range((every + 1) // 2, 1_000_000, every)
+    """The numbers of the allocations that are refused, each in a run of its own: all, or of so many the middle one. Where a run seems to take
+    too many, whatever is wrong, the program says so and ends."""
+    yield from range((every + 1) // 2, TOO_MANY, every)
+    print(f"WRONG: of {TOO_MANY - 1:,} allocations each was there to be refused, and no run takes so many", flush=True)
+    sys.exit(WRONG)
 
 
 def tell_counts(what, seen):

@@ -103,6 +103,10 @@ def preloaded(made, source):
     text, library = f"{made}/counting.c", f"{made}/counting.so"
     with open(text, "w", encoding="utf-8") as out:
         out.write(source)
-    if subprocess.run(["cc", "-O1", "-shared", "-fPIC", "-o", library, text]).returncode:
+    try:
+        ran = subprocess.run(["cc", "-O1", "-shared", "-fPIC", "-o", library, text])
+    except FileNotFoundError:
+        raise Untried("there is no C compiler: cc isn't on the path") from None
+    if ran.returncode:
         raise Untried("cc doesn't compile the library that counts memory")
     return library

@@ -3,7 +3,8 @@ use crate::hives::{Subject, dumped, image_of};
 use crate::tools::is_told_by_tool;
 use anyhow::Result;
 use reg_fixtures::PlainHive;
-use reg_tree_image::LoadFault;
+use reg_tree_image::{LoadFault, NumberedTree, load_anew, load_numbered};
+use reg_tree_text::dump;
 use std::alloc::Global;
 use std::fmt;
 use std::io::Read;
@@ -19,7 +20,7 @@ pub enum Verdict {
     Kept,
     /// It is loaded, and the hive's own image isn't, or to another dump.
     Lost,
-    /// The tool tells something else of it than its load does.
+    /// The tool, or a load that builds its bins anew in any case, tells something else of it than its load does.
     Astray,
 }
 
@@ -51,8 +52,33 @@ pub fn judge<R: Read>(alloc: Global, input: &mut R) -> Result<Verdict> {
     }
 }
 
+/// What is told of a tree that was loaded, or of the fault that it met.
+fn told_of(alloc: Global, loaded: Result<NumberedTree, LoadFault>) -> Result<Vec<u8>> {
+    match loaded {
+        Ok(numbered) => {
+            let mut text = Vec::new(alloc);
+            dump(alloc, &numbered.tree, &mut text)?;
+            Ok(text)
+        }
+        Err(fault) => Ok(format!(in alloc; "load {}", fault.number())?.into_bytes()),
+    }
+}
+
+/// Whether an image loads to trees of one dump, or meets one fault, where its bins may be taken as they stand and where they are built
+/// anew in any case.
+fn is_same_anew(alloc: Global, image: &[u8]) -> Result<bool> {
+    let mut input = image;
+    let told = told_of(alloc, load_numbered(alloc, &mut input))?;
+    let mut again = image;
+    let anew = told_of(alloc, load_anew(alloc, &mut again))?;
+    Ok(told.as_slice() == anew.as_slice())
+}
+
 /// The verdict on an image.
 pub fn judge_bytes(alloc: Global, image: &[u8]) -> Result<Verdict> {
+    if !is_same_anew(alloc, image)? {
+        return Ok(Verdict::Astray);
+    }
     let mut input = image;
     judge(alloc, &mut input)
 }

@@ -5,6 +5,7 @@ ghost use Rattle.std.specs.Io.KnownBytes.{Appends};
 ghost use Rattle.reg_text.specs.Failures.{Stays, Fails};
 ghost use Rattle.reg_calls.specs.HiveView.{view_of};
 ghost use Rattle.reg_tree_image.specs.Images.{image_of, loaded};
+ghost use Rattle.reg_tree_image.specs.Loads.{HoldsOwn};
 
 use reg_callbacks::Callback;
 use reg_calls::Hive;
@@ -14,8 +15,8 @@ use std::alloc::Global;
 
 /// The image of a hive, with a moment (100 ns units since 1601) and a sequence number: a base block, and its bins as they are.
 ///
-/// By the rules of loading it has no fault, and the hive's tree (clause `loads`); a load of it may still lack memory, or space for
-/// its new bins. `Memory` is the only fault of making it.
+/// By the rules of loading it has no fault, and the hive's tree (clause `loads`); a load of it may lack memory, and nothing else
+/// (clause `own`). `Memory` is the only fault of making it.
 pub fn image<C: Callback>(
     alloc: Global,
     hive: &Hive<C>,
@@ -25,6 +26,7 @@ pub fn image<C: Callback>(
     ensures is { IfOk result (λ bytes. bytes.items
         ≡ image_of (view_of hive.now).keys.bins.bytes (view_of hive.now).keys.root moment sequence) }
     ensures loads { IfOk result (λ bytes. loaded bytes.items ≡ Ok (view_of hive.now).keys.tree) }
+    ensures own { IfOk result (λ bytes. HoldsOwn bytes.items) }
 {
     make_image(alloc, hive.tree(), moment, sequence)
 }
@@ -32,7 +34,8 @@ pub fn image<C: Callback>(
 /// Writes the image of a hive, with a moment (100 ns units since 1601) and a sequence number, and has the writer pass it on.
 ///
 /// Its bytes are those that [`image`](crate::image) makes, but no copy of them is made: the bins are written one by one, as they
-/// stand, and it takes no memory. By the rules of loading they have no fault, and the hive's tree (clause `loads`).
+/// stand, and it takes no memory. By the rules of loading they have no fault, and the hive's tree (clause
+/// `loads`); a load of them may lack memory, and nothing else (clause `own`).
 ///
 /// A write that fails, or takes no byte, is the fault, and so is a flush that fails: then all bytes were written. What the writer
 /// took before stands. The fault comes only where one of these calls failed, and none is made after it.
@@ -53,6 +56,7 @@ pub fn write_hive<W: Sink, C: Callback>(
         (λ _. Fails (W.failures writer.old) (W.failures writer.new)) }
     ensures loads { loaded (image_of (view_of hive.now).keys.bins.bytes (view_of hive.now).keys.root moment sequence)
         ≡ Ok (view_of hive.now).keys.tree }
+    ensures own { HoldsOwn (image_of (view_of hive.now).keys.bins.bytes (view_of hive.now).keys.root moment sequence) }
 {
     write_tree(hive.tree(), moment, sequence, writer)
 }

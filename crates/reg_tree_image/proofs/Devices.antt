@@ -5,6 +5,8 @@ pub mod FaultsOfSteps
 pub mod FaultsOfWalks
 pub mod BlockTests
 pub mod LoadedImages
+pub mod OwnImages
+pub mod OwnLoads
 pub mod ImagesRead
 pub mod ReadFailures
 pub mod MadeImages

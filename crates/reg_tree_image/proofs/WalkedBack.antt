@@ -6,3 +6,15 @@ pub mod BackDepth
 pub mod WalkCounts
 pub mod AllMet
 pub mod KeyOffsets
+pub mod ReadKeysReadings
+pub mod ReadKeysValues
+pub mod ReadKeysNodes
+pub mod ReadKeysEach
+pub mod ReadKeys
+pub mod UsedShares
+pub mod ShortClasses
+pub mod WholeBins
+pub mod TakenBins
+pub mod RingsFound
+pub mod WholePasses
+pub mod MinorVersions

@@ -17,3 +17,4 @@ pub mod InputParts
 pub mod BlockFields
 pub mod FreeCells
 pub mod KeysNamed
+pub mod WholeTests

@@ -1,5 +1,5 @@
 -- What comes of loading a tree from a reader.
-use Rattle.std.specs.Prelude.{◌≡◌, false, ℕ, ◌+◌, ◌<◌, ◌≤◌, ◌⊎◌, nat_lt, if◌then◌else◌, Option, Some, None, Result, Ok, Err, IsOk, List, length, take, drop}
+use Rattle.std.specs.Prelude.{◌≡◌, false, ℕ, ◌+◌, ◌++◌, ⊤, ◌<◌, ◌≤◌, ◌⊎◌, nat_lt, if◌then◌else◌, Option, Some, None, Result, Ok, Err, IsOk, List, length, take, drop}
 use Rattle.std.specs.Io.KnownBytes.{Consumes, IsAtEnd}
 use Rattle.reg_text.specs.Failures.{Stays, Fails}
 use Rattle.reg_heap.specs.ByteWords.{word}
@@ -11,7 +11,9 @@ use Rattle.reg_tree_image.specs.declared.LoadFault.TheVariants.{Twice, NotInProf
 use Rattle.reg_tree_image.specs.declared.block.BaseBlock.{BaseBlock}
 use Rattle.reg_tree_image.specs.WalkSteps.{Seen}
 use Rattle.reg_tree_image.specs.BaseBlock.{block_walk}
-use Rattle.reg_tree_image.specs.Images.{nothing, loaded, fault_of}
+use Rattle.reg_arena.specs.Arena.{IsArena}
+use Rattle.reg_shape.specs.Whole.{Whole}
+use Rattle.reg_tree_image.specs.Images.{nothing, image_of, loaded, fault_of}
 use Rattle.reg_tree_image.specs.CrowdedBins.{AreCrowded}
 
 -- the number of a fault
@@ -87,3 +89,24 @@ pub record MeetsFault (fault : LoadFault) (unread left : Option (List ℕ)) : Ty
 abbrev pub IsBlamed : LoadFault → Option ℕ → Option ℕ → Type 0
 IsBlamed Read before after = Fails before after
 IsBlamed fault before after = Stays before after
+
+-- at the start of these bytes stands the image of a whole hive, whose bins are an arena's, with whatever behind it
+pub record HoldsOwn (bytes : List ℕ) : Type 0 where
+  pub bins : List ℕ
+  pub root : ℕ
+  pub moment : ℕ
+  pub sequence : ℕ
+  pub rest : List ℕ
+  pub is : bytes ≡ image_of bins root moment sequence ++ rest
+  pub arena : IsArena bins
+  pub whole : Whole bins root
+
+-- a fault that no bytes are to blame for: a read failed, or memory lacked
+abbrev pub IsOutside : LoadFault → Type 0
+IsOutside Read = ⊤
+IsOutside Memory = ⊤
+IsOutside fault = ⊥
+
+-- an image of a whole hive meets no other
+abbrev pub SparesOwn : LoadFault → Option (List ℕ) → Type 0
+SparesOwn fault unread = (bytes : List ℕ) → unread ≡ Some bytes → HoldsOwn bytes → IsOutside fault

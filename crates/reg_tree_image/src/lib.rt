@@ -50,11 +50,12 @@ mod tree_writing;
 mod value_lists;
 mod values;
 mod walk;
+mod whole;
 mod writing;
 
 pub use block::checksum;
 pub use free_cells::{free_bytes, is_sparse};
-pub use loading::{NumberedTree, load_numbered, load_tree};
+pub use loading::{NumberedTree, load_anew, load_numbered, load_tree};
 pub use rebuilding::rebuild;
 use thiserror::Error;
 pub use tree_writing::write_tree;

@@ -2,11 +2,14 @@
 //!
 //! Suhanov, Windows registry file format specification, section "Format of primary files".
 
-ghost use Rattle.std.specs.Prelude.{◌≡◌, ◌≤◌, ◌%◌, false, Ok, IsOk, OnOk, IfOk, IfErr, MatchResult, length};
+ghost use Rattle.std.specs.Prelude.{◌≡◌, ◌<◌, ◌≤◌, ◌%◌, false, Ok, IsOk, OnOk, IfOk, IfErr, IfSome, IfNone, MatchResult, length};
 ghost use Rattle.reg_heap.specs.declared.limits.TheConstants.{BINS_LIMIT};
+ghost use Rattle.reg_arena.specs.Arena.{IsArena};
+ghost use Rattle.reg_shape.specs.Whole.{Whole};
+ghost use Rattle.reg_tree.specs.TreeKeys.{IsWholeWith, tree_in as tree_at};
 ghost use Rattle.reg_text.specs.Failures.{Stays};
 ghost use Rattle.reg_tree_image.specs.Images.{nothing, tree_in, bins_walk};
-ghost use Rattle.reg_tree_image.specs.Loads.{fault_number, ReadsImage, ReadsNumbered, MeetsFault, IsBlamed};
+ghost use Rattle.reg_tree_image.specs.Loads.{fault_number, ReadsImage, ReadsNumbered, MeetsFault, IsBlamed, SparesOwn};
 ghost use Rattle.reg_tree_image.specs.CrowdedBins.{AreCrowded};
 ghost use Rattle.reg_tree_image.specs.Internal.Stacks.{FailsAs};
 ghost use Rattle.reg_tree_image.specs.Internal.CheckedStacks.{Meets};
@@ -20,6 +23,7 @@ use crate::input::{fill, read_bytes};
 use crate::room::Building;
 use crate::scan::scan;
 use crate::walk::walk;
+use crate::whole::{WRITTEN_MINOR, take_whole, whole_ring};
 use reg_text::Source;
 use reg_tree::Tree;
 use std::alloc::Global;
@@ -27,7 +31,7 @@ use std::alloc::Global;
 /// A tree that was loaded, with the sequence number of its image.
 #[derive(Drop)]
 pub struct NumberedTree {
-    /// The keys, in bins that were built anew.
+    /// The keys, in the image's bins or in bins that were built anew.
     pub tree: Tree,
     /// The sequence number, which the base block has twice.
     pub sequence: u32,
@@ -151,8 +155,83 @@ fn build_tree(alloc: Global, bins: &[u8], block: BaseBlock) -> Result<Tree, Load
     built
 }
 
-/// Loads a tree from an image: reads its base block, then the bins behind it and no byte more, and builds bins anew of the keys that
-/// the bins hold.
+/// What becomes of bins that are a whole hive, as this project writes it.
+#[derive(Clone, Copy, Debug, PartialEq, Eq)]
+enum Wholes {
+    /// They are taken as they stand.
+    Taken,
+    /// Their keys are built anew, as those of all others.
+    BuiltAnew,
+}
+
+/// The ring of securities of bins that are to be taken as they stand, if they are.
+fn ring_to_take(
+    alloc: Global,
+    bins: &[u8],
+    block: BaseBlock,
+    wholes: Wholes,
+) -> Result<Option<Vec<u32>>, LoadFault>
+    requires pages { length bins.now % 4096 ≡ 0 }
+    requires small { length bins.now ≤ BINS_LIMIT }
+    ensures none { IfOk result (λ found. IfNone found (wholes ≡ Wholes.Taken → block.minor ≡ 5 → IsArena bins.now → Whole bins.now block.root → ⊥)) }
+    ensures some { IfOk result (λ found. IfSome found (λ ring. IsArena bins.now × IsWholeWith bins.now block.root ring.items)) }
+    ensures tree { IfOk result (λ found. IfSome found (λ ring.
+        tree_in (bins_walk bins.now block.minor block.root nothing) ≡ Ok (tree_at bins.now block.root))) }
+    ensures err { IfErr result (λ fault. Meets fault (bins_walk bins.now block.minor block.root nothing)) }
+{
+    if wholes == Wholes::Taken && block.minor == WRITTEN_MINOR {
+        return whole_ring(alloc, bins, block.root);
+    }
+    Ok(None)
+}
+
+/// The tree of the keys in foreign bins: in these bins themselves where they are a whole hive and such are taken, and else built anew.
+fn tree_of(
+    alloc: Global,
+    bins: Vec<u8>,
+    block: BaseBlock,
+    wholes: Wholes,
+) -> Result<Tree, LoadFault>
+    requires some { 0 < length bins.items }
+    requires pages { length bins.items % 4096 ≡ 0 }
+    requires small { length bins.items ≤ BINS_LIMIT }
+    ensures ok { IfOk result (λ tree. tree_in (bins_walk bins.items block.minor block.root nothing) ≡ Ok tree.tree) }
+    ensures err { IfErr result (λ fault. FailsAs (IsOk (bins_walk bins.items block.minor block.root nothing)
+        × AreCrowded false bins.items block.minor block.root) fault (bins_walk bins.items block.minor block.root nothing)) }
+    ensures own { wholes ≡ Wholes.Taken → block.minor ≡ 5 → IsArena bins.items → Whole bins.items block.root →
+        IfErr result (λ fault. fault ≡ LoadFault.Memory) }
+{
+    match ring_to_take(alloc, bins.as_slice(), block, wholes) {
+        Ok(Some(ring)) => take_whole(alloc, bins, block.root, ring.as_slice()),
+        Ok(None) => build_tree(alloc, bins.as_slice(), block),
+        Err(met) => Err(met),
+    }
+}
+
+/// Loads a tree from an image, as [`load_tree`] says, and hands out the sequence number of its image with it.
+fn load_by<R: Source>(
+    alloc: Global,
+    input: &mut R,
+    wholes: Wholes,
+) -> Result<NumberedTree, LoadFault>
+    ensures ok { IfOk result (λ numbered.
+        ReadsNumbered (R.remaining input.old) (R.remaining input.new) numbered.tree.tree numbered.sequence) }
+    ensures err { IfErr result (λ fault. MeetsFault fault (R.remaining input.old) (R.remaining input.new)) }
+    ensures failures { MatchResult result (λ _. Stays (R.failures input.old) (R.failures input.new))
+        (λ fault. IsBlamed fault (R.failures input.old) (R.failures input.new)) }
+    ensures own { wholes ≡ Wholes.Taken → IfErr result (λ fault. SparesOwn fault (R.remaining input.old)) }
+{
+    let mut head = [0u8; 4096];
+    fill(input, &mut head)?;
+    let block = read_block(&head)?;
+    let bins = read_bytes(alloc, input, block.size as usize)?;
+    let tree = tree_of(alloc, bins, block, wholes)?;
+    let sequence = word_at(&head, 4);
+    Ok(NumberedTree { tree, sequence })
+}
+
+/// Loads a tree from an image: reads its base block, then the bins behind it and no byte more. Bins that are a whole hive as this project
+/// writes it are taken as they stand; of others bins are built anew of the keys that they hold. The tree is the same by either way.
 ///
 /// The first test that fails is the fault. `Short` where the image ends before its base block or its bins do, `Read` only where a read
 /// fails, and then no other is made: one that is interrupted fails too. Of the base block `Signature`, `Version`, `Checksum`, `Dirty`,
@@ -163,12 +242,13 @@ fn build_tree(alloc: Global, bins: &[u8], block: BaseBlock) -> Result<Tree, Load
 /// list, or then none for its values: for as many of them together, from the first on, as have cells of at most 16,777,216 bytes with a
 /// list that has room for all, or then again for as many of those that are left as have cells of at most so many bytes. No room is that
 /// no free cell has room for all cells of one of these, and that with a bin more for them the bins would pass 268,435,456 bytes. `Memory`
-/// may come as soon as the base block passed.
+/// may come as soon as the base block passed. The image of a whole hive meets none of these but `Read` and `Memory`.
 pub fn load_tree<R: Source>(alloc: Global, input: &mut R) -> Result<Tree, LoadFault>
     ensures ok { IfOk result (λ tree. ReadsImage (R.remaining input.old) (R.remaining input.new) tree.tree) }
     ensures err { IfErr result (λ fault. MeetsFault fault (R.remaining input.old) (R.remaining input.new)) }
     ensures failures { MatchResult result (λ _. Stays (R.failures input.old) (R.failures input.new))
         (λ fault. IsBlamed fault (R.failures input.old) (R.failures input.new)) }
+    ensures own { IfErr result (λ fault. SparesOwn fault (R.remaining input.old)) }
 {
     match load_numbered(alloc, input) {
         Ok(numbered) => Ok(numbered.tree),
@@ -183,12 +263,19 @@ pub fn load_numbered<R: Source>(alloc: Global, input: &mut R) -> Result<Numbered
     ensures err { IfErr result (λ fault. MeetsFault fault (R.remaining input.old) (R.remaining input.new)) }
     ensures failures { MatchResult result (λ _. Stays (R.failures input.old) (R.failures input.new))
         (λ fault. IsBlamed fault (R.failures input.old) (R.failures input.new)) }
+    ensures own { IfErr result (λ fault. SparesOwn fault (R.remaining input.old)) }
 {
-    let mut head = [0u8; 4096];
-    fill(input, &mut head)?;
-    let block = read_block(&head)?;
-    let bins = read_bytes(alloc, input, block.size as usize)?;
-    let tree = build_tree(alloc, bins.as_slice(), block)?;
-    let sequence = word_at(&head, 4);
-    Ok(NumberedTree { tree, sequence })
+    load_by(alloc, input, Wholes::Taken)
+}
+
+/// Loads a tree as [`load_numbered`] does, but in bins that are built anew in any case, so that both ways can be compared. `Limit` comes
+/// also of the image of a whole hive, where the new bins have no room for a key.
+pub fn load_anew<R: Source>(alloc: Global, input: &mut R) -> Result<NumberedTree, LoadFault>
+    ensures ok { IfOk result (λ numbered.
+        ReadsNumbered (R.remaining input.old) (R.remaining input.new) numbered.tree.tree numbered.sequence) }
+    ensures err { IfErr result (λ fault. MeetsFault fault (R.remaining input.old) (R.remaining input.new)) }
+    ensures failures { MatchResult result (λ _. Stays (R.failures input.old) (R.failures input.new))
+        (λ fault. IsBlamed fault (R.failures input.old) (R.failures input.new)) }
+{
+    load_by(alloc, input, Wholes::BuiltAnew)
 }

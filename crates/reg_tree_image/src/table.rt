@@ -1,6 +1,7 @@
 //! Which cells there are, and which of them were named.
 
-ghost use Rattle.std.specs.Prelude.{◌≡◌, ◌≢◌, ◌+◌, ◌*◌, ◌<◌, ◌≤◌, ◌%◌, ◌==◌, ℕ, if◌then◌else◌, false, Some, None, OnOk, OnErr, IfErr, length};
+ghost use Rattle.std.specs.List.{list_all};
+ghost use Rattle.std.specs.Prelude.{◌≡◌, ◌≢◌, ◌↔◌, IsTrue, ◌+◌, ◌*◌, ◌<◌, ◌≤◌, ◌%◌, ◌==◌, ℕ, if◌then◌else◌, false, Some, None, OnOk, OnErr, IfErr, length};
 ghost use Rattle.reg_tree_image.specs.Internal.CellStates.{state_in, naming_fault, named_as, Puts, not_yet, unnamed};
 
 use crate::LoadFault;
@@ -27,7 +28,32 @@ pub struct CellTable {
     pub to_build: u32,
 }
 
+/// Whether a place is none of an allocated cell that wasn't named.
+fn is_settled(state: CellState) -> bool
+    ensures { result ≡ (not_yet state == 0) }
+{
+    match state {
+        CellState::Unnamed => false,
+        CellState::Unallocated | CellState::Named | CellState::NamedSecurity | CellState::OnPath =>
+            true,
+    }
+}
+
+/// Whether no place is one of an allocated cell that wasn't named.
+fn are_settled(states: &[CellState]) -> bool
+    ensures { result ≡ list_all (λ state. not_yet state == 0) states.now }
+{
+    states.iter().all(|state| is_settled(*state))
+}
+
 impl CellTable {
+    /// Whether each allocated cell was named.
+    pub fn is_named(&self) -> bool
+        ensures { IsTrue result ↔ (unnamed self.now.states.items ≡ 0) }
+    {
+        are_settled(self.states.as_slice())
+    }
+
     /// What is known of the cell at an offset.
     pub fn state(&self, offset: u32) -> CellState
         ensures { result ≡ state_in self.now.states.items offset }

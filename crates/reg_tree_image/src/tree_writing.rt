@@ -8,6 +8,7 @@ ghost use Rattle.reg_heap.specs.ByteWords.{word};
 ghost use Rattle.reg_text.specs.Failures.{Stays, Fails};
 ghost use Rattle.reg_arena.specs.Cells.{IsInBin};
 ghost use Rattle.reg_tree_image.specs.Images.{image_of, loaded};
+ghost use Rattle.reg_tree_image.specs.Loads.{HoldsOwn};
 
 use crate::cells::word_at;
 use crate::writing::{WriteFault, base_block};
@@ -88,7 +89,8 @@ fn write_block_and_bins<W: Sink>(
 /// Writes the image of a tree, with a moment (100 ns units since 1601) and a sequence number, and has the writer pass it on.
 ///
 /// Its bytes are those that [`make_image`](crate::make_image) makes, but no copy of them is made: the bins are written one by one, as
-/// they stand, and it takes no memory. By the rules of loading they have no fault, and this tree (clause `loads`).
+/// they stand, and it takes no memory. By the rules of loading they have no fault, and this tree (clause `loads`);
+/// a load of them may lack memory, and nothing else (clause `own`).
 ///
 /// A write that fails, or takes no byte, is the fault, and so is a flush that fails: then all bytes were written. What the writer
 /// took before stands. The fault comes only where one of these calls failed, and none is made after it.
@@ -107,6 +109,7 @@ pub fn write_tree<W: Sink>(
     ensures failures { MatchResult result (λ _. Stays (W.failures writer.old) (W.failures writer.new))
         (λ _. Fails (W.failures writer.old) (W.failures writer.new)) }
     ensures loads { loaded (image_of tree.now.bins.bytes tree.now.root moment sequence) ≡ Ok tree.now.tree }
+    ensures own { HoldsOwn (image_of tree.now.bins.bytes tree.now.root moment sequence) }
 {
     let arena = tree.arena();
     let size = arena.bins_size();

@@ -9,6 +9,7 @@ ghost use Rattle.reg_heap.specs.ByteWords.{splice};
 ghost use Rattle.reg_text.specs.Failures.{Stays, Fails};
 ghost use Rattle.reg_tree_image.specs.BaseBlock.{block_of};
 ghost use Rattle.reg_tree_image.specs.Images.{image_of, loaded};
+ghost use Rattle.reg_tree_image.specs.Loads.{HoldsOwn};
 ghost use Rattle.reg_tree_image.specs.Internal.BlockFields.{block_fields as fields_of};
 
 use crate::block::head_checksum;
@@ -119,8 +120,8 @@ pub fn push_bins(out: &mut Vec<u8>, arena: &Arena) -> Result<(), AllocError>
 
 /// The image of a tree, with a moment (100 ns units since 1601) and a sequence number: a base block, and its bins as they are.
 ///
-/// By the rules of loading it has no fault, and this tree (clause `loads`); a load of it may still lack memory, or space for its new
-/// bins. `Memory` is the only fault of making it.
+/// By the rules of loading it has no fault, and this tree (clause `loads`); a load of it may lack memory, and nothing else (clause
+/// `own`). `Memory` is the only fault of making it.
 pub fn make_image(
     alloc: Global,
     tree: &Tree,
@@ -129,6 +130,7 @@ pub fn make_image(
 ) -> Result<Vec<u8>, ImageFault>
     ensures is { IfOk result (λ bytes. bytes.items ≡ image_of tree.now.bins.bytes tree.now.root moment sequence) }
     ensures loads { IfOk result (λ bytes. loaded bytes.items ≡ Ok tree.now.tree) }
+    ensures own { IfOk result (λ bytes. HoldsOwn bytes.items) }
 {
     let arena = tree.arena();
     let size = arena.bins_size();

@@ -1,5 +1,5 @@
 -- What passes the tests of a base block, and what doesn't.
-use Rattle.std.proofs.Common.{◌≡◌, ℕ, ◌≤◌, ◌%◌, ◌==◌, ◌&&◌, nat_le, nat_lt, Bool, true, false, Ok, List, refl, sym, ap, ◌∙◌, subst, arith}
+use Rattle.std.proofs.Common.{◌≡◌, ℕ, ◌<◌, ◌≤◌, ◌%◌, ◌==◌, ◌&&◌, nat_le, nat_lt, Bool, true, false, Ok, List, refl, sym, ap, ◌∙◌, subst, arith}
 use Rattle.std.proofs.lemmas.Bool.Decides.{nat_tests}
 use Rattle.reg_heap.specs.ByteWords.{word}
 use Rattle.reg_tree_image.specs.declared.LoadFault.{LoadFault}
@@ -28,11 +28,15 @@ passes fault false t seen x e = absurd (cc)
 -- what is known of a block that passes
 pub record IsGood (bytes : List ℕ) (block : BaseBlock) : Type 0 where
   pub size : block.size ≡ word bytes 40
+  pub some : 0 < block.size
   pub pages : block.size % 4096 ≡ 0
   pub small : block.size ≤ 268435456
 
 sized : (size : ℕ) → (nat_lt 0 size && (size % 4096 == 0)) ≡ true → size % 4096 ≡ 0
 sized size e = grind (arith, nat_tests)
+
+positive : (size : ℕ) → (nat_lt 0 size && (size % 4096 == 0)) ≡ true → 0 < size
+positive size e = grind (arith, nat_tests)
 
 few : (size : ℕ) → nat_le size 268435456 ≡ true → size ≤ 268435456
 few size e = grind (arith, nat_tests)
@@ -49,6 +53,7 @@ block-good bytes block seen after e =
     sym (sizes (record { minor = word bytes 24; root = word bytes 36; size = word bytes 40 }) seen l.1) in
     record {
       size = is;
+      some = subst (λ n. 0 < n) (sym is) (positive (word bytes 40) f.0);
       pages = ap (λ n. n % 4096) is ∙ sized (word bytes 40) f.0;
       small = subst (λ n. n ≤ 268435456) (sym is) (few (word bytes 40) l.0);
     }

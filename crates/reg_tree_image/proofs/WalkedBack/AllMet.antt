@@ -1,5 +1,5 @@
 -- Cells that are all met: those that a walk named, where the table has none that wasn't named.
-use Rattle.std.proofs.Common.{◌≡◌, ℕ, zero, suc, ◌+◌, ◌<◌, ◌==◌, ◌%◌, ◌/◌, Bool, true, false, cond, eqb, Option, Some, None, List, [], ◌∷◌, get_or, sum_by, refl, sym, ap, ◌∙◌, subst, arith}
+use Rattle.std.proofs.Common.{◌≡◌, ℕ, zero, suc, ◌+◌, ◌==◌, ◌%◌, ◌/◌, Bool, true, false, cond, List, [], ◌∷◌, get_or, refl, sym, ap, ◌∙◌, subst, arith}
 use Rattle.std.specs.Prelude.{IsSome, is_some}
 use Rattle.std.specs.List.{AllByRecursion}
 use Rattle.std.proofs.lemmas.Bool.{eqb-true}
@@ -8,7 +8,7 @@ use Rattle.reg_heap.specs.Heaps.{Heap}
 use Rattle.reg_heap.specs.Kinds.{Found, is_security, is_own, is_shared, owned, shared}
 use Rattle.reg_shape.specs.Whole.{Meets}
 use Rattle.reg_tree_image.specs.declared.table.CellState.{CellState}
-use Rattle.reg_tree_image.specs.declared.table.CellState.TheVariants.{Unallocated, Unnamed, Named, NamedSecurity, OnPath}
+use Rattle.reg_tree_image.specs.declared.table.CellState.TheVariants.{Unallocated}
 use Rattle.reg_tree_image.specs.Internal.CellStates.{IsTable, state_by, state_in, not_yet, unnamed}
 
 -- what is met is allocated

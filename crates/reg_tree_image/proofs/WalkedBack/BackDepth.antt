@@ -1,5 +1,5 @@
 -- How deep the keys are that a walk met: no deeper than it had levels.
-use Rattle.std.proofs.Common.{◌≡◌, ℕ, zero, suc, ◌==◌, ◌≤◌, nat_lt, Bool, true, false, Option, Some, Result, Ok, List, [], ◌∷◌, ◌++◌, length, map, flat_map, refl, sym, ap, ◌∙◌, subst, arith}
+use Rattle.std.proofs.Common.{◌≡◌, ℕ, zero, suc, ◌==◌, ◌≤◌, nat_lt, false, Some, Ok, List, [], ◌∷◌, ◌++◌, length, map, flat_map, sym, ap, ◌∙◌, subst, arith}
 use Rattle.std.specs.List.{AllByRecursion}
 use Rattle.std.specs.Option.{option_map, option_and_then}
 use Rattle.std.specs.Result.{result_ok}
@@ -14,8 +14,8 @@ use Rattle.reg_records.specs.KeyNodes.{KeyRecord, nk_of}
 use Rattle.reg_records.specs.SubkeyLists.{Entry, Form, SubkeysList, list_of, offsets_in}
 use Rattle.reg_records.specs.declared.lists.ListForm.TheVariants.{IndexRoot, IndexLeaf, FastLeaf, HashLeaf}
 use Rattle.reg_shape.specs.Nodes.{KeyList, Index, key_list_as, list_at, key_list_at, key_lists_at, index_as, index_at, entries_of}
-use Rattle.reg_shape.specs.Nodes.Index.{Listed, Rooted}
-use Rattle.reg_shape.specs.Spelt.{behind, keys_from}
+use Rattle.reg_shape.specs.Nodes.Index.{Rooted}
+use Rattle.reg_shape.specs.Spelt.{keys_from}
 use Rattle.reg_shape.specs.Walk.{kind_met, gather}
 use Rattle.reg_shape.proofs.Refinement.SpeltShapes.{Keys, keys-open, keys-none}
 use Rattle.reg_shape.proofs.Walking.IndexWalks.{then-open, map-open}

@@ -19,7 +19,7 @@ use Rattle.reg_records.specs.BigData.{Named, named, plainly, if_any, BigData, se
 use Rattle.reg_shape.specs.Nodes.{letters, member_of}
 use Rattle.reg_shape.specs.Walk.{kind_met, names_of, big_names, value_names, security_names, enough}
 use Rattle.reg_tree_image.specs.declared.LoadFault.TheVariants.{Record, Twice, NotInProfile, Limit}
-use Rattle.reg_tree_image.specs.WalkSteps.{Seen, Step, ◌>>=◌, ◌>>◌, give, check, given, cell, is_new}
+use Rattle.reg_tree_image.specs.WalkSteps.{Seen, ◌>>=◌, ◌>>◌, give, check, given, cell, is_new}
 use Rattle.reg_tree_image.specs.LoadingWalk.{read, name_in, value_name, bytes_from, row_from, pieces_from, class_from, descriptor_from, big_from, far_from, data_by, named_value, value_from, values_each, values_from, parts_from}
 use Rattle.reg_tree_image.proofs.WalkedBack.BackSteps.{IsNamed, Went, bind-back, check-back, given-back, read-back, give-back, last-back, cell-back, went-none, went-join, went-met, went-on}
 

@@ -1,17 +1,16 @@
 -- The keys among what a walk named, in their order.
-use Rattle.std.proofs.Common.{◌≡◌, ℕ, zero, suc, ◌==◌, Bool, true, false, cond, Option, Some, Result, Ok, List, [], ◌∷◌, ◌++◌, refl, sym, ap, ◌∙◌, subst}
+use Rattle.std.proofs.Common.{◌≡◌, ℕ, zero, suc, ◌==◌, Bool, true, false, cond, Result, Ok, List, [], ◌∷◌, ◌++◌, refl, sym, ap, ◌∙◌}
 use Rattle.std.specs.List.{AllByRecursion}
 use Rattle.std.proofs.lemmas.Bool.{false≢true}
 use Rattle.std.proofs.lemmas.List.{append-nil}
 use Rattle.reg_heap.specs.Heaps.{Heap}
 use Rattle.reg_heap.specs.Kinds.{Kind, Found}
 use Rattle.reg_heap.specs.Kinds.Kind.{Key, Class, SubList, Leaf, ValueList, Value, Data, BigHead, BigList, Segment, Security}
-use Rattle.reg_heap.specs.Paths.{Path, Rec, Member}
+use Rattle.reg_heap.specs.Paths.{Path}
 use Rattle.reg_records.specs.KeyNodes.{KeyRecord}
-use Rattle.reg_records.specs.Letters.{is_signed}
 use Rattle.reg_records.specs.SubkeyLists.{Entry, SubkeysList, list_of}
 use Rattle.reg_records.specs.BigData.{Named, plainly, if_any}
-use Rattle.reg_shape.specs.Walk.{kind_met, walk, gather}
+use Rattle.reg_shape.specs.Walk.{kind_met}
 use Rattle.reg_tree_image.specs.declared.LoadFault.TheVariants.{Record}
 use Rattle.reg_tree_image.specs.declared.LoadFault.{LoadFault}
 use Rattle.reg_tree_image.specs.declared.subkeys.SubkeyParts.{SubkeyParts}

@@ -1,7 +1,7 @@
 -- What a hive's walk meets, counted: a security once for each key that names it, and keys by lists of keys alone.
-use Rattle.std.proofs.Common.{◌≡◌, ℕ, zero, suc, ◌+◌, ◌==◌, Bool, true, false, cond, Option, Some, None, Result, Ok, Err, List, [], ◌∷◌, ◌++◌, length, map, nat_le, refl, sym, ap, ◌∙◌, subst, arith}
+use Rattle.std.proofs.Common.{◌≡◌, ℕ, zero, suc, ◌+◌, ◌==◌, Bool, true, false, cond, Option, Some, None, List, [], ◌∷◌, ◌++◌, length, map, nat_le, refl, sym, ap, ◌∙◌, subst, arith}
 use Rattle.std.specs.List.{AllByRecursion}
-use Rattle.std.specs.Option.{option_map, option_and_then}
+use Rattle.std.specs.Option.{option_and_then}
 use Rattle.std.specs.Result.{result_ok}
 use Rattle.std.proofs.lemmas.Option.{none-some, same_Some}
 use Rattle.reg_heap.specs.Heaps.{Heap}
@@ -14,7 +14,7 @@ use Rattle.reg_records.specs.Letters.{is_signed}
 use Rattle.reg_records.specs.OffsetRows.{row_in}
 use Rattle.reg_records.specs.SubkeyLists.{Entry, Form, SubkeysList, list_of, offsets_in}
 use Rattle.reg_records.specs.declared.lists.ListForm.TheVariants.{IndexRoot, IndexLeaf, FastLeaf, HashLeaf}
-use Rattle.reg_records.specs.BigData.{Named, named, plainly, if_any, BigData, segment_size, is_inline, inline_size, segments_for, segments, db_of}
+use Rattle.reg_records.specs.BigData.{Named, named, plainly, if_any, segment_size, is_inline, inline_size, segments_for, segments, db_of}
 use Rattle.reg_tree_image.specs.Internal.KeysNamed.{is_key}
 use Rattle.reg_shape.specs.Walk.{kind_met, names_of, key_names, leaves_named, keys_named, value_names, big_names, security_names, gather, walk}
 use Rattle.reg_shape.proofs.Walking.IndexWalks.{then-open, map-open}

@@ -1,6 +1,7 @@
 use Rattle.std.proofs.Common.{◌≤◌, ℕ, List, OnOk, IfErr, length, take, refl, subst}
 use Rattle.std.specs.Io.KnownBytes.{Appends}
 use Rattle.reg_tree_image.proofs.Devices.MadeImages.{parts-image, image-loads}
+use Rattle.reg_tree_image.proofs.Devices.OwnLoads.{own-of}
 use Rattle.reg_tree_image.proofs.tree_writing.write_tree.Goals as goal
 
 pub returns-clause-ok : goal.returns-clause-ok
@@ -23,3 +24,8 @@ pub returns-clause-loads : goal.returns-clause-loads
 returns-clause-loads g c =
     let keys = c.args.tree.now in
     image-loads keys.bins.bytes keys.root c.args.moment c.args.sequence _ keys.tree c.arena-arena.ensures.whole c.arena-arena.ensures.sound.small refl
+
+pub returns-clause-own : goal.returns-clause-own
+returns-clause-own g c =
+    let keys = c.args.tree.now in
+    own-of keys.bins.bytes keys.bins.heads keys.root c.args.moment c.args.sequence keys.tree c.arena-arena.ensures.whole c.arena-arena.ensures.sound

@@ -1,17 +1,16 @@
-use Rattle.std.proofs.Common.{rules, ◌≡◌, false, ℕ, ◌≤◌, ◌%◌, ◌++◌, Ok, IsOk, List, length, sym, ap, ◌∙◌, subst}
+use Rattle.std.proofs.Common.{rules, ◌<◌, ◌≤◌, ◌%◌, ◌++◌, sym, ap, ◌∙◌, subst}
 use Rattle.std.proofs.KnownBytes.{Consumes-trans}
 use Rattle.reg_tree_image.specs.declared.LoadFault.TheVariants.{Read}
-use Rattle.reg_tree_image.specs.Images.{nothing, tree_in, bins_walk}
-use Rattle.reg_tree_image.specs.CrowdedBins.{AreCrowded}
-use Rattle.reg_tree_image.specs.Internal.Stacks.{FailsAs}
+use Rattle.reg_tree_image.specs.Images.{nothing, bins_walk}
 use Rattle.reg_tree_image.proofs.Devices.InputPieces.{exit-with}
 use Rattle.reg_tree_image.proofs.Devices.BlockTests.{block-good, block-meets}
 use Rattle.reg_tree_image.proofs.Devices.LoadedImages.{refused-before-block, refused-at-block, refused-before-bins, refused-at-bins}
 use Rattle.reg_tree_image.proofs.Devices.LoadedImages.{whole-loaded, whole-size, whole-numbered}
 use Rattle.reg_tree_image.proofs.Devices.FaultsOfWalks.{bins-meet}
+use Rattle.reg_tree_image.proofs.Devices.OwnLoads.{spared-cut, spared-block, spared-bins, spared-tree}
 use Rattle.reg_tree_image.proofs.Devices.ReadFailures.{exit-either, blamed-then, image-stays, walk-stays}
 use Rattle.reg_text.proofs.FailureCounts.{stays-then}
-use Rattle.reg_tree_image.proofs.loading.load_numbered.Goals as goal
+use Rattle.reg_tree_image.proofs.loading.load_by.Goals as goal
 
 pub returns-in_err-fill-clause-err : goal.returns-in_err-fill-clause-err
 returns-in_err-fill-clause-err g c =
@@ -39,15 +38,20 @@ returns-in_err-bins-clause-err g c =
       refused = r.1;
     })
 
-pub build_tree-requires-clause-pages : goal.build_tree-requires-clause-pages
-build_tree-requires-clause-pages g c =
+pub tree_of-requires-clause-some : goal.tree_of-requires-clause-some
+tree_of-requires-clause-some g c =
     let good = block-good _ _ _ _ (c.in_ok-block.ensures nothing) in
-    ap (λ n. n % 4096) (ap length c.as_slice.ensures.value ∙ c.in_ok-bins.ensures.ok.1) ∙ good.pages
+    subst (λ n. 0 < n) (sym c.in_ok-bins.ensures.ok.1) good.some
 
-pub build_tree-requires-clause-small : goal.build_tree-requires-clause-small
-build_tree-requires-clause-small g c =
+pub tree_of-requires-clause-pages : goal.tree_of-requires-clause-pages
+tree_of-requires-clause-pages g c =
     let good = block-good _ _ _ _ (c.in_ok-block.ensures nothing) in
-    subst (λ n. n ≤ 268435456) (sym (ap length c.as_slice.ensures.value ∙ c.in_ok-bins.ensures.ok.1)) good.small
+    ap (λ n. n % 4096) c.in_ok-bins.ensures.ok.1 ∙ good.pages
+
+pub tree_of-requires-clause-small : goal.tree_of-requires-clause-small
+tree_of-requires-clause-small g c =
+    let good = block-good _ _ _ _ (c.in_ok-block.ensures nothing) in
+    subst (λ n. n ≤ 268435456) (sym c.in_ok-bins.ensures.ok.1) good.small
 
 pub returns-in_err-tree-clause-err : goal.returns-in_err-tree-clause-err
 returns-in_err-tree-clause-err g c =
@@ -56,10 +60,7 @@ returns-in_err-tree-clause-err g c =
     let bins = c.in_ok-bins.bins.items in
     let good = block-good _ _ _ _ passed in
     exit-with _ c.from_residual-in_err-tree.result _ c.from_residual-in_err-tree.ensures.1
-    (let w = subst (λ (xs : List ℕ). FailsAs (IsOk (bins_walk xs block.minor block.root nothing) × AreCrowded false xs block.minor block.root) c.in_err-tree.field-0.0 (bins_walk xs block.minor block.root nothing))
-    c.as_slice.ensures.value
-    c.in_err-tree.ensures.err in
-    let r = refused-at-bins c.fill.new.buffer (search rules) block passed bins _ _ good.small c.in_ok-bins.ensures.ok.1 w in
+    (let r = refused-at-bins c.fill.new.buffer (search rules) block passed bins _ _ good.small c.in_ok-bins.ensures.ok.1 c.in_err-tree.ensures.err in
     record {
       image = c.fill.new.buffer ++ bins;
       consumed = Consumes-trans _ _ _ c.fill.new.buffer bins c.in_ok-fill.ensures.ok c.in_ok-bins.ensures.ok.0;
@@ -73,13 +74,11 @@ returns-clause-ok g c =
     let passed = c.in_ok-block.ensures nothing in
     let bins = c.in_ok-bins.bins.items in
     let tree = c.in_ok-tree.tree in
-    let w = subst (λ (xs : List ℕ). tree_in (bins_walk xs block.minor block.root nothing) ≡ Ok tree.tree) c.as_slice.ensures.value
-    c.in_ok-tree.ensures.ok in
     record {
       image = c.fill.new.buffer ++ bins;
       consumed = Consumes-trans _ _ _ c.fill.new.buffer bins c.in_ok-fill.ensures.ok c.in_ok-bins.ensures.ok.0;
       size = whole-size c.fill.new.buffer (search rules) block passed bins c.in_ok-bins.ensures.ok.1;
-      loads = whole-loaded c.fill.new.buffer (search rules) block passed bins tree.tree c.in_ok-bins.ensures.ok.1 w;
+      loads = whole-loaded c.fill.new.buffer (search rules) block passed bins tree.tree c.in_ok-bins.ensures.ok.1 c.in_ok-tree.ensures.ok;
       numbered = whole-numbered c.fill.new.buffer (search rules) block passed bins _ c.word_at-sequence.ensures;
     }
 
@@ -103,9 +102,33 @@ pub returns-in_err-tree-clause-failures : goal.returns-in_err-tree-clause-failur
 returns-in_err-tree-clause-failures g c =
     let block = c.in_ok-block.block in
     exit-either _ _ c.from_residual-in_err-tree.result _ c.from_residual-in_err-tree.ensures.1
-    (walk-stays _ c.in_err-tree.field-0.0 (bins_walk c.as_slice.result.now block.minor block.root nothing) _ _
-    (bins-meet c.as_slice.result.now block.minor block.root nothing Read) c.in_err-tree.ensures.err
+    (walk-stays _ c.in_err-tree.field-0.0 (bins_walk c.in_ok-bins.bins.items block.minor block.root nothing) _ _
+    (bins-meet c.in_ok-bins.bins.items block.minor block.root nothing Read) c.in_err-tree.ensures.err
     (stays-then _ _ _ c.in_ok-fill.ensures.failures c.in_ok-bins.ensures.failures))
 
 pub returns-clause-failures : goal.returns-clause-failures
 returns-clause-failures g c = stays-then _ _ _ c.in_ok-fill.ensures.failures c.in_ok-bins.ensures.failures
+
+-- ---- what an image of a whole hive may meet
+
+pub returns-in_err-fill-clause-own : goal.returns-in_err-fill-clause-own
+returns-in_err-fill-clause-own g c = λ taken.
+    exit-with _ c.from_residual.result _ c.from_residual.ensures.1
+    (let p = c.in_err-fill.ensures.err in spared-cut _ _ p.0 _ p.1 p.2)
+
+pub returns-in_err-block-clause-own : goal.returns-in_err-block-clause-own
+returns-in_err-block-clause-own g c = λ taken.
+    exit-with _ c.from_residual-in_err-block.result _ c.from_residual-in_err-block.ensures.1
+    (spared-block _ _ c.fill.new.buffer _ c.in_ok-fill.ensures.ok (search rules) (c.in_err-block.ensures nothing))
+
+pub returns-in_err-bins-clause-own : goal.returns-in_err-bins-clause-own
+returns-in_err-bins-clause-own g c = λ taken.
+    exit-with _ c.from_residual-in_err-bins.result _ c.from_residual-in_err-bins.ensures.1
+    (let p = c.in_err-bins.ensures.err in
+    spared-bins _ _ c.fill.new.buffer c.in_ok-block.block c.in_ok-fill.ensures.ok (search rules) (c.in_ok-block.ensures nothing) _ p.0 _ p.1 p.2)
+
+pub returns-in_err-tree-clause-own : goal.returns-in_err-tree-clause-own
+returns-in_err-tree-clause-own g c = λ taken.
+    exit-with _ c.from_residual-in_err-tree.result _ c.from_residual-in_err-tree.ensures.1
+    (spared-tree _ _ c.fill.new.buffer c.in_ok-block.block c.in_ok-fill.ensures.ok (search rules) (c.in_ok-block.ensures nothing) _ c.in_ok-bins.bins.items _
+    c.in_ok-bins.ensures.ok.0 c.in_ok-bins.ensures.ok.1 (c.in_err-tree.ensures.own taken))

@@ -1,0 +1,3 @@
+pub mod ReadKeys
+pub mod SecurityRings
+pub mod Internal
