@@ -10,6 +10,7 @@ from repository import Untried, folder_of, rt
 from soaking import CRATE, TEST, renumber
 
 STEPS = (
+    "refusals::a_change_refused_its_memory_moves_what_was_kept_back",
     "refusals::a_checkpoint_refused_its_memory_changes_nothing",
     "refusals::a_step_refused_its_memory_changes_nothing",
     "refusals::a_step_refused_its_memory_is_answered_when_made_again",
@@ -34,7 +35,7 @@ def built_by_the_gate():
 def tests_of(folder):
     """The program of the tests, which is proved and built."""
     said = rt(folder, "test", "--", "refusals").stdout
-    if not re.search(r"^test result: ok\. 3 passed", said, re.M):
+    if not re.search(rf"^test result: ok\. {len(STEPS)} passed", said, re.M):
         raise Untried(f"the tests of {CRATE} don't pass:\n{said[-2000:]}")
     return f"{folder}/out/{CRATE}_tests"
 

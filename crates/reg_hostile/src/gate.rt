@@ -3,10 +3,11 @@ use crate::fuzz::fuzz;
 use crate::hives::scripted;
 use crate::notices::run_notices;
 use crate::rows::run_rows;
-use crate::seeds::{RECORDS_END, every_record, images};
+use crate::seeds::{RECORDS_END, SCRIPTS, every_record, images};
 use crate::sweeps::{all_bits, fronts, readers, sealed_bits, some_bits};
 use crate::tools::is_told_by_tool;
 use crate::trips::{make_refusals, make_trips};
+use crate::ways::{same_bits, sizes_by_ways};
 use anyhow::Result;
 use reg_fixtures::PlainHive;
 use std::alloc::Global;
@@ -15,6 +16,9 @@ use std::thread::Threads;
 
 /// How many bits of the image with every record are turned over beside those of its records.
 const BITS: usize = 10_000;
+
+/// How many bytes of the bins of an image of ours have their bits turned over: its records, and free bytes behind them.
+const OWN_BYTES: usize = 1_024;
 
 /// Behind every so many bytes of a larger image a reader stops.
 const STRIDE: usize = 37;
@@ -49,6 +53,19 @@ fn sweep_records<Rt: Print + Threads + Wait + Sync>(rt: &Rt, alloc: Global) -> R
     println!(rt;
         "every record, bits: {}",
         some_bits(rt, alloc, &mut image, BITS)?
+    )?;
+    Ok(())
+}
+
+/// Images of ours by either way, their bins taken as they stand or built anew, with bits of their records turned over.
+fn sweep_own(rt: &impl Print, alloc: Global) -> Result<()> {
+    let (taken, anew) = sizes_by_ways::<PlainHive>(alloc)?;
+    println!(rt; "bins with free cells: {taken} bytes taken, {anew} built anew")?;
+    let mut image = scripted::<PlainHive>(alloc, SCRIPTS[0].as_bytes())?;
+    let same = same_bits::<PlainHive>(alloc, &mut image, 4096, 4096 + OWN_BYTES)?;
+    println!(rt;
+        "own records, bits: {same} of {} as built anew",
+        OWN_BYTES * 8
     )?;
     Ok(())
 }
@@ -101,6 +118,7 @@ fn tool_images<Rt: Print + Threads + Wait + Sync>(rt: &Rt, alloc: Global) -> Res
 pub fn run<Rt: Print + Threads + Wait + Sync>(rt: &Rt, alloc: Global) -> Result<()> {
     sweep_fresh(rt, alloc)?;
     sweep_records(rt, alloc)?;
+    sweep_own(rt, alloc)?;
     fail_all_readers(rt, alloc)?;
     tool_images(rt, alloc)?;
     let (of_images, of_scripts) = fuzz::<PlainHive>(alloc, 1, SEEDS)?;

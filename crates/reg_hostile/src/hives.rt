@@ -3,11 +3,13 @@
 //! Whoever owns a hive hands it on to functions over any [`Subject`], which are checked without all that a hive is made of.
 use anyhow::Result;
 use reg_callbacks::{CallbackFault, Cookie, NoCallback};
+use reg_calls::Hive;
 use reg_dotreg_import::{ImportFault, import};
 use reg_dotreg_reader::Numbered;
 use reg_fixtures::{PlainHive, Registry};
 use reg_image::{LoadFault, image, load};
 use reg_script::{FRESH_DESCRIPTOR, ScriptFault, run};
+use reg_tree::Tree;
 use reg_tree_text::dump;
 use std::alloc::{AllocError, Global};
 use std::io::{Read, Write};
@@ -16,6 +18,9 @@ use std::io::{Read, Write};
 pub trait Subject: Registry {
     /// What a reader's image loads to.
     fn loaded<R: Read>(alloc: Global, input: &mut R) -> Result<Self, LoadFault>;
+
+    /// A hive of a tree.
+    fn of_tree(alloc: Global, tree: Tree) -> Result<Self, AllocError>;
 
     /// Runs a script on it, and writes the replies.
     fn ran<W: Write>(
@@ -44,6 +49,16 @@ impl Subject for PlainHive {
         match PlainHive::new(hive) {
             Ok(seated) => Ok(seated),
             Err(_) => Err(LoadFault::Memory),
+        }
+    }
+
+    fn of_tree(alloc: Global, tree: Tree) -> Result<PlainHive, AllocError> {
+        let Ok(hive) = Hive::from_tree(alloc, tree) else {
+            return Err(AllocError);
+        };
+        match PlainHive::new(hive) {
+            Ok(seated) => Ok(seated),
+            Err(_) => Err(AllocError),
         }
     }
 

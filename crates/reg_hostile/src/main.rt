@@ -19,6 +19,7 @@ mod tools;
 mod trees;
 mod trips;
 mod verdicts;
+mod ways;
 
 use crate::seeds::every_record;
 use anyhow::Result;
@@ -46,6 +47,13 @@ fn print_bits<Rt: Print + Threads + Wait + Sync>(rt: &Rt, alloc: Global) -> Resu
     println!(rt;
         "bits: {}",
         sweeps::all_bits(rt, alloc, &mut image, 0, 24_576)?
+    )?;
+    let mut own = ways::own_records(alloc)?;
+    let len = own.len();
+    println!(rt;
+        "own bits: {} of {} as built anew",
+        ways::same_bits::<PlainHive>(alloc, &mut own, 4096, len)?,
+        len.saturating_sub(4096).saturating_mul(8)
     )?;
     Ok(())
 }

@@ -1,6 +1,8 @@
 //! Calls by sessions where memory is refused: a call that is refused it is answered 8, or the fault Memory, and changes nothing. It is answered
-//! when it is made again, and all others are answered as they are else. In the gate nothing is refused: `tools/refuse-memory` runs these
-//! tests once for each request for memory, and reads in what they print at which step it was refused, and what came of that step.
+//! when it is made again, and all others are answered as they are else; what notices were kept back for its session it moves on all the
+//! same. In the gate nothing is refused: `tools/refuse-memory` runs these tests once for each request for memory, and reads in what they
+//! print at which step it was refused, and what came of that step.
+use crate::asserts::assert_report;
 use crate::jobs::{new_key, open, watch};
 use crate::stage::{Act, Came, Left, Stage, Step};
 use reg_calls::Hive;
@@ -11,6 +13,11 @@ use std::alloc::{AllocError, Global};
 use std::sync::Wait;
 use std::test::Fail;
 use std::thread::Threads;
+
+/// How many watches end at once: more than a ring has room for.
+const WATCHES: usize = 70;
+/// How many notices a ring has room for.
+const RING: usize = 64;
 
 fn step(session: u8, hive: u8, act: Act) -> Step {
     Step { session, hive, act }
@@ -178,12 +185,12 @@ fn taken_until_refused<Rt: Print + Threads + Wait + Sync>(
     Ok((taken, stage.left(alloc)?))
 }
 
-/// Takes all steps, one that is refused its memory once more.
-fn all_taken<Rt: Print + Threads + Wait + Sync>(
+/// Starts the sessions and takes all steps, one that is refused its memory once more.
+fn stage_after<Rt: Print + Threads + Wait + Sync>(
     rt: &Rt,
     alloc: Global,
     steps: &[Step],
-) -> Result<Left, Fail> {
+) -> Result<Stage, Fail> {
     let mut stage = started(rt, alloc)?;
     for step in steps {
         if take(rt, alloc, &mut stage, step)? == Came::NoMemory
@@ -192,7 +199,16 @@ fn all_taken<Rt: Print + Threads + Wait + Sync>(
             return Err("refused twice".into());
         }
     }
-    stage.left(alloc)
+    Ok(stage)
+}
+
+/// What all steps leave, one that is refused its memory once more.
+fn all_taken<Rt: Print + Threads + Wait + Sync>(
+    rt: &Rt,
+    alloc: Global,
+    steps: &[Step],
+) -> Result<Left, Fail> {
+    stage_after(rt, alloc, steps)?.left(alloc)
 }
 
 /// Fails where two runs of the steps left different things.
@@ -222,6 +238,55 @@ fn refused_is_made_again<Rt: Print + Threads + Wait + Sync>(
     let steps = steps_of(alloc)?;
     let left = all_taken(rt, alloc, steps.as_slice())?;
     assert_same(&left, &all_taken(rt, alloc, steps.as_slice())?)
+}
+
+/// Session 1 watches the root of hive 0 for its values `WATCHES` times, by the entries 2 and on. A change of session 0 ends all these, and
+/// session 1 takes the `RING` notices that its ring has room for. The others are kept back.
+fn kept_back_steps(alloc: Global) -> Result<Vec<Step>, AllocError> {
+    let mut steps = Vec::new(alloc);
+    steps.push(step(0, 0, Act::Change(open())))?;
+    steps.push(step(1, 0, Act::Change(open())))?;
+    for _watch in 0..WATCHES {
+        steps.push(step(1, 0, Act::Change(watch(1, 4))))?;
+    }
+    steps.push(step(0, 0, set(alloc, 0, b"v", 4)?))?;
+    for _notice in 0..RING {
+        steps.push(step(1, 0, Act::TakeNotice))?;
+    }
+    Ok(steps)
+}
+
+/// A change of session 1, which moves the others into the ring, and session 1 takes these.
+fn moving_steps(alloc: Global) -> Result<Vec<Step>, AllocError> {
+    let mut steps = Vec::new(alloc);
+    steps.push(step(1, 0, set(alloc, 1, b"v", 4)?))?;
+    for _notice in RING..WATCHES {
+        steps.push(step(1, 0, Act::TakeNotice))?;
+    }
+    Ok(steps)
+}
+
+/// Takes the steps that move what was kept back, and tells the watches of all notices of session 1. The change may be refused its memory,
+/// and isn't made again: a refused call moves them, too.
+fn told_of_moved<Rt: Print + Threads + Wait + Sync>(
+    rt: &Rt,
+    alloc: Global,
+    stage: &mut Stage,
+) -> Result<String, Fail> {
+    let steps = moving_steps(alloc)?;
+    for step in &steps {
+        take(rt, alloc, stage, step)?;
+    }
+    stage.watches(alloc, 1, 0)
+}
+
+fn told_of_kept_back<Rt: Print + Threads + Wait + Sync>(
+    rt: &Rt,
+    alloc: Global,
+) -> Result<String, Fail> {
+    let steps = kept_back_steps(alloc)?;
+    let mut stage = stage_after(rt, alloc, steps.as_slice())?;
+    told_of_moved(rt, alloc, &mut stage)
 }
 
 /// Makes a change on a hive, and again where there was no memory for it.
@@ -316,4 +381,12 @@ fn a_step_refused_its_memory_changes_nothing(rt: HostRuntime) -> Result<(), Fail
 #[test]
 fn a_step_refused_its_memory_is_answered_when_made_again(rt: HostRuntime) -> Result<(), Fail> {
     refused_is_made_again(&rt, rt.alloc())
+}
+
+#[test]
+fn a_change_refused_its_memory_moves_what_was_kept_back(rt: HostRuntime) -> Result<(), Fail> {
+    assert_report(
+        told_of_kept_back(&rt, rt.alloc()),
+        " 2 3 4 5 6 7 8 9 10 11 12 13 14 15 16 17 18 19 20 21 22 23 24 25 26 27 28 29 30 31 32 33 34 35 36 37 38 39 40 41 42 43 44 45 46 47 48 49 50 51 52 53 54 55 56 57 58 59 60 61 62 63 64 65 66 67 68 69 70 71\n",
+    )
 }

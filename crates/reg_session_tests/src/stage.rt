@@ -346,6 +346,22 @@ impl Stage {
         }
     }
 
+    /// The watches of the notices that a session took of a hive, in order.
+    pub fn watches(&self, alloc: Global, session: u8, hive: u8) -> Result<String, Fail> {
+        let Some(session) = self.sessions.get(session as usize) else {
+            return Err(astray("no such session"));
+        };
+        if hive as usize >= session.hives() {
+            return Err(astray("no such hive"));
+        }
+        let mut text = String::new(alloc);
+        for notice in session.taken(hive) {
+            write!(text, " {}", notice.watch)?;
+        }
+        write!(text, "\n")?;
+        Ok(text)
+    }
+
     /// Gathers the sessions, and tells what the steps left.
     pub fn left(self, alloc: Global) -> Result<Left, Fail> {
         let Stage {
