@@ -1,10 +1,10 @@
 -- What stopped a command on a file, put together of what stopped the call that did it.
 use Rattle.std.proofs.Common.{◌≡◌, List, ℕ, Bool, true, inr, inl, subst, sym}
 use Rattle.std.specs.Prelude.{Option, Result, Ok, Err, IfErr, IsErrAnd, codes}
-use Rattle.reg_tree_text.specs.PathQueries.{ListStops, GetStops}
+use Rattle.reg_tree_text.specs.PathQueries.{ListStops}
 use Rattle.reg_tables.specs.Tables.{json_text, csv_text, TableStops}
 use Rattle.reg_find.specs.declared.scope.Scope.{Scope}
-use Rattle.reg_queries.specs.Queries.{QueryStops}
+use Rattle.reg_queries.specs.Queries.{is_look, GetEnds, QueryStops}
 use Rattle.reg_queries.specs.Finds.{FindStops}
 use Rattle.reg_queries.specs.Differs.{Differs, DiffStops}
 use Rattle.reg_queries.specs.ImageExports.{ExportEnds}
@@ -37,21 +37,18 @@ module _ (fault : QueryFault) (cut : Bool) (same_cut : cut ≡ is_query_cut faul
         ),
       )
 
-  pub stops_getting : (given path given_name name : List ℕ) (is_raw : Bool) → given ≡ path → given_name ≡ name →
-      QueryStops fault unread left (λ tree stopped. GetStops stopped tree given given_name is_raw before after) before after →
-      StopsGetting cut path name is_raw before after
-  stops_getting given path given_name name is_raw same same_name h =
+  pub stops_getting : (is_whole : Bool) (given path given_name name : List ℕ) (is_raw : Bool) → given ≡ path → given_name ≡ name →
+      GetEnds (is_look is_whole given) fault unread left given given_name is_raw before after →
+      StopsGetting cut (is_look is_whole path) path name is_raw before after
+  stops_getting is_whole given path given_name name is_raw same same_name h =
       inr (
         fault,
         same_cut,
         (
           unread,
           left,
-          subst (λ (p : List ℕ). QueryStops fault unread left (λ tree stopped. GetStops stopped tree p name is_raw before after) before after) same
-              (subst
-              (λ (n : List ℕ). QueryStops fault unread left (λ tree stopped. GetStops stopped tree given n is_raw before after) before after)
-              same_name
-              h),
+          subst (λ (p : List ℕ). GetEnds (is_look is_whole p) fault unread left p name is_raw before after) same
+              (subst (λ (n : List ℕ). GetEnds (is_look is_whole given) fault unread left given n is_raw before after) same_name h),
         ),
       )
 

@@ -19,9 +19,9 @@ use Rattle.reg_command.specs.Failures.{Does, Stops, EndsEarly, IsSaid, IsStopSai
 use Rattle.reg_command.specs.declared.failure.Stop.{Stop}
 use Rattle.reg_command.specs.declared.failure.Stop.TheVariants as stop
 use Rattle.reg_find.specs.declared.scope.Scope.{Scope}
-use Rattle.reg_tree_text.specs.PathQueries.{ListStops, GetStops}
+use Rattle.reg_tree_text.specs.PathQueries.{ListStops}
 use Rattle.reg_tables.specs.Tables.{json_text, csv_text, TableStops}
-use Rattle.reg_queries.specs.Queries.{Lists, Gets, Tabulates, QueryStops}
+use Rattle.reg_queries.specs.Queries.{is_look, Lists, Gets, GetEnds, Tabulates, QueryStops}
 use Rattle.reg_queries.specs.Finds.{Finds, FindStops}
 use Rattle.reg_queries.specs.Differs.{Differs, DiffStops}
 use Rattle.reg_queries.specs.ImageExports.{Exports, ExportEnds}
@@ -177,11 +177,11 @@ StopsListing cut path is_whole before after =
     × OfFile (λ unread left. QueryStops fault unread left (λ tree stopped. ListStops stopped tree path is_whole before after) before after))
 
 -- why a value wasn't written
-abbrev pub StopsGetting : (cut : Bool) → (path name : List ℕ) → (is_raw : Bool) → (before after : Option (List ℕ)) → Type 0
-StopsGetting cut path name is_raw before after =
+abbrev pub StopsGetting : (cut is_look : Bool) → (path name : List ℕ) → (is_raw : Bool) → (before after : Option (List ℕ)) → Type 0
+StopsGetting cut is_look path name is_raw before after =
     ((cut ≡ false) × (after ≡ before))
     ⊎ ((fault : QueryFault) × (cut ≡ is_query_cut fault)
-    × OfFile (λ unread left. QueryStops fault unread left (λ tree stopped. GetStops stopped tree path name is_raw before after) before after))
+    × OfFile (λ unread left. GetEnds is_look fault unread left path name is_raw before after))
 
 -- why a search wasn't made, or not to the end
 abbrev pub StopsFinding : (cut : Bool) → (pattern : List ℕ) → Scope → (before after : Option (List ℕ)) → Type 0
@@ -251,8 +251,8 @@ Serves (Check files) unread left before after told told_after =
     × ChecksFiles (map (λ file. file.now) files.items) 0 closed before after told told_after failed now_failed)
 Serves (Listing file path is_whole) unread left before after told told_after =
     (left ≡ unread) × OfFile (λ image image_left. Lists image image_left path.now is_whole before after)
-Serves (Get file path name is_raw) unread left before after told told_after =
-    (left ≡ unread) × OfFile (λ image image_left. Gets image image_left path.now name.now is_raw before after)
+Serves (Get file path name is_raw is_whole) unread left before after told told_after =
+    (left ≡ unread) × OfFile (λ image image_left. Gets (is_look is_whole path.now) image image_left path.now name.now is_raw before after)
 Serves (Find file pattern places) unread left before after told told_after =
     (left ≡ unread) × OfFile (λ image image_left. Finds image image_left pattern.now (scope_of places) before after)
 Serves (Diff old new) unread left before after told told_after = (left ≡ unread) × AreSame before after
@@ -284,8 +284,8 @@ Fails (Import edit) closed unread left before after told told_after failed now_f
 Fails (Listing file path is_whole) closed unread left before after told told_after failed now_failed =
     (left ≡ unread) × ((cut : Bool) × StopsListing cut path.now is_whole before after
     × IsReported (closed && cut) told told_after failed now_failed)
-Fails (Get file path name is_raw) closed unread left before after told told_after failed now_failed =
-    (left ≡ unread) × ((cut : Bool) × StopsGetting cut path.now name.now is_raw before after
+Fails (Get file path name is_raw is_whole) closed unread left before after told told_after failed now_failed =
+    (left ≡ unread) × ((cut : Bool) × StopsGetting cut (is_look is_whole path.now) path.now name.now is_raw before after
     × IsReported (closed && cut) told told_after failed now_failed)
 Fails (Find file pattern places) closed unread left before after told told_after failed now_failed =
     (left ≡ unread) × ((cut : Bool) × StopsFinding cut pattern.now (scope_of places) before after

@@ -91,14 +91,15 @@ fn get_asked<H: Files, W: Output, E: Sink>(
     path: &str,
     name: &str,
     is_raw: bool,
+    is_whole: bool,
     output: &mut W,
     errors: &mut E,
 ) -> u8
-    ensures { (unread : Option (List ℕ)) → Outcome (Request.Get file.entry path.entry name.entry is_raw) result (W.closed output.new) unread unread
+    ensures { (unread : Option (List ℕ)) → Outcome (Request.Get file.entry path.entry name.entry is_raw is_whole) result (W.closed output.new) unread unread
         (W.contents output.old) (W.contents output.new)
         (E.contents errors.old) (E.contents errors.new) (E.failures errors.old) (E.failures errors.new) }
 {
-    let done = get_value(alloc, host, file, path, name, is_raw, output);
+    let done = get_value(alloc, host, file, path, name, is_raw, is_whole, output);
     settle(alloc, errors, file, output.is_closed(), done)
 }
 
@@ -237,7 +238,10 @@ where
             path,
             name,
             is_raw,
-        } => get_asked(alloc, host, file, path, name, is_raw, output, errors),
+            is_whole,
+        } => get_asked(
+            alloc, host, file, path, name, is_raw, is_whole, output, errors,
+        ),
         Request::Find {
             file,
             pattern,

@@ -1,7 +1,7 @@
 //! The commands that only look into files.
 
 ghost use Rattle.std.specs.Prelude.{◌≡◌, ◌≤◌, ℕ, List, Option, false, IfOk, IfErr, OnOk};
-ghost use Rattle.reg_queries.specs.Queries.{Lists, Gets};
+ghost use Rattle.reg_queries.specs.Queries.{is_look, Lists, Gets};
 ghost use Rattle.reg_queries.specs.Finds.{Finds};
 ghost use Rattle.reg_files.specs.Serving.{scope_of, AreSame, AreOther, WritesAs};
 ghost use Rattle.reg_files.specs.Serving.{StopsListing, StopsGetting, StopsFinding, StopsDiffing, WriteStops, StopsWriting};
@@ -49,7 +49,7 @@ pub fn list_key<H: Files, W: Write>(
     }
 }
 
-/// Writes a value of a file's hive, by its key's path and its name.
+/// Writes a value of a file's hive, by its key's path and its name; with `is_whole` the hive is loaded first.
 pub fn get_value<H: Files, W: Write>(
     alloc: Global,
     host: &H,
@@ -57,11 +57,13 @@ pub fn get_value<H: Files, W: Write>(
     path: &str,
     name: &str,
     is_raw: bool,
+    is_whole: bool,
     output: &mut W,
 ) -> Result<(), Fault>
     ensures ok { OnOk result ((unread : Option (List ℕ)) × (left : Option (List ℕ))
-        × Gets unread left path.now name.now is_raw (W.contents output.old) (W.contents output.new)) }
-    ensures err { IfErr result (λ fault. StopsGetting (is_cut fault) path.now name.now is_raw (W.contents output.old) (W.contents output.new)) }
+        × Gets (is_look is_whole path.now) unread left path.now name.now is_raw (W.contents output.old) (W.contents output.new)) }
+    ensures err { IfErr result (λ fault. StopsGetting (is_cut fault) (is_look is_whole path.now) path.now name.now is_raw
+        (W.contents output.old) (W.contents output.new)) }
 {
     let mut image = open(host, file)?;
     match get(
@@ -70,6 +72,7 @@ pub fn get_value<H: Files, W: Write>(
         path.as_bytes(),
         name.as_bytes(),
         is_raw,
+        is_whole,
         output,
     ) {
         Ok(()) => Ok(()),

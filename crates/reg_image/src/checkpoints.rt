@@ -7,6 +7,7 @@ ghost use Rattle.reg_calls.specs.HiveView.{view_of, noted_of, callbacks_of};
 ghost use Rattle.reg_calls.specs.Views.{View};
 ghost use Rattle.reg_image.specs.Checkpoints.{fault_of_checkpoint};
 ghost use Rattle.reg_tree_image.specs.Images.{image_of, loaded};
+ghost use Rattle.reg_tree_image.specs.Loads.{HoldsOwn};
 
 use crate::writing::image;
 use reg_callbacks::Callback;
@@ -39,7 +40,8 @@ fn told(fault: CutFault) -> CheckpointFault
 }
 
 /// The image of a hive, with a moment (100 ns units since 1601) and a sequence number, as [`image`](crate::image) makes it; and its
-/// journal begins anew, as [`Hive::cut`] says. What the image loads as is the new journal's origin (clauses `loads`, `cut`).
+/// journal begins anew, as [`Hive::cut`] says. What the image loads as is the new journal's origin (clauses `loads`, `cut`),
+/// and a load of it may lack memory, and nothing else (clause `own`).
 ///
 /// `HandlesOpen` where handles are open, with how many; else `Numbers` where the hive has had more than 10^18 entries; else `Memory` where
 /// there is none for the image (clauses `fault`, `clear`). Then nothing changed.
@@ -52,6 +54,7 @@ pub fn checkpoint<C: Callback>(
     ensures is { IfOk result (λ bytes. bytes.items
         ≡ image_of (view_of hive.old).keys.bins.bytes (view_of hive.old).keys.root moment sequence) }
     ensures loads { IfOk result (λ bytes. loaded bytes.items ≡ Ok (view_of hive.old).keys.tree) }
+    ensures own { IfOk result (λ bytes. HoldsOwn bytes.items) }
     ensures cut { OnOk result (IsCut (view_of hive.old) (view_of hive.new)) }
     ensures seats { length (noted_of hive.new) ≡ length (noted_of hive.old) }
     ensures noted { OnOk result ((session : ℕ) →

@@ -7,7 +7,7 @@ ghost use Rattle.reg_heap.specs.declared.limits.TheConstants.{BINS_LIMIT};
 ghost use Rattle.reg_text.specs.Failures.{Stays};
 ghost use Rattle.reg_callbacks.specs.Lists.{rows_of, made_of};
 ghost use Rattle.reg_calls.specs.HiveView.{view_of, noted_of, callbacks_of};
-ghost use Rattle.reg_tree_image.specs.Loads.{IsRefused, IsBlamed, SparesOwn};
+ghost use Rattle.reg_tree_image.specs.Loads.{IsRefused, IsBlamed, SparesOwn, TakesOwn};
 ghost use Rattle.reg_image.specs.Loads.{IsLoaded};
 
 use reg_callbacks::Callback;
@@ -29,7 +29,8 @@ pub struct NumberedHive<C> {
 /// no byte more.
 ///
 /// The hive is a new one: its journal is empty, no session has a seat, and no callback is registered. The faults are those of that call,
-/// and `Memory` also where it lacks for the hive itself. The image that a hive made meets none but `Read` and `Memory` (clause `own`).
+/// and `Memory` also where it lacks for the hive itself. The image that a hive made meets none but `Read` and `Memory` (clause `own`), and is
+/// taken as it stands (clause `stands`).
 pub fn load<R: Source, C: Callback>(alloc: Global, input: &mut R) -> Result<Hive<C>, LoadFault>
     ensures ok { IfOk result (λ hive. (image : List ℕ) × Consumes (R.remaining input.old) (R.remaining input.new) image
         × IsLoaded image (view_of hive)) }
@@ -40,6 +41,7 @@ pub fn load<R: Source, C: Callback>(alloc: Global, input: &mut R) -> Result<Hive
     ensures failures { MatchResult result (λ _. Stays (R.failures input.old) (R.failures input.new))
         (λ fault. IsBlamed fault (R.failures input.old) (R.failures input.new)) }
     ensures own { IfErr result (λ fault. SparesOwn fault (R.remaining input.old)) }
+    ensures stands { IfOk result (λ hive. TakesOwn (view_of hive).keys.bins (R.remaining input.old)) }
 {
     match load_numbered(alloc, input) {
         Ok(numbered) => Ok(numbered.hive),
@@ -62,6 +64,7 @@ pub fn load_numbered<R: Source, C: Callback>(
     ensures failures { MatchResult result (λ _. Stays (R.failures input.old) (R.failures input.new))
         (λ fault. IsBlamed fault (R.failures input.old) (R.failures input.new)) }
     ensures own { IfErr result (λ fault. SparesOwn fault (R.remaining input.old)) }
+    ensures stands { IfOk result (λ numbered. TakesOwn (view_of numbered.hive).keys.bins (R.remaining input.old)) }
 {
     let NumberedTree { tree, sequence } = reg_tree_image::load_numbered(alloc, input)?;
     match Hive::from_tree(alloc, tree) {

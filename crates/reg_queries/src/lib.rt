@@ -1,7 +1,8 @@
 //! Queries of an image: it is read as a tree, and something of the tree written.
 //!
 //! Its one contract: each call writes just what a crate below does of a tree, of the tree that the image loads as; or it answers why the
-//! image doesn't load, and then nothing was written. [`list`] and [`get`] write what reg_tree_text does, [`find`] what reg_find does,
+//! image doesn't load, and then nothing was written. But [`get`] reads only what leads to a value, unless it is asked to load the whole: so
+//! it may tell a value of an image that doesn't load. [`list`] and [`get`] write what reg_tree_text does, [`find`] what reg_find does,
 //! [`export`] what reg_dotreg_writer does, [`export_json`] and [`export_csv`] what reg_tables does, and [`diff`] what reg_diff does of two
 //! trees. No image is read past its bins.
 //!

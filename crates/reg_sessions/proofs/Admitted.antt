@@ -26,6 +26,7 @@ use Rattle.reg_calls.specs.Cuts.{IsCut}
 use Rattle.reg_calls.specs.Views.{View, Booked, state, next_of, told_in, entry_of, IsAppliedBy, IsAccepted, IsHive}
 use Rattle.reg_calls.proofs.AcceptedChanges.{either, refused}
 use Rattle.reg_sessions.specs.Locked.{booked_of, IsAdmitted, IsLawfulReply, IsLawfulOrLacks, IsLawfulAnswer}
+use Rattle.reg_sessions.specs.Sessions.{closes}
 use Rattle.reg_sessions.specs.Internal.Answered.{IsAnswered, IsCauseOf, IsAsked}
 use Rattle.reg_sessions.specs.Internal.Moved.{HasSeats}
 use Rattle.std.proofs.lemmas.List.{length-replicate}
@@ -205,13 +206,14 @@ never-zero {k} {b} {share} {moment} {change} (Some status) p z =
 
 pub lacked : {C : Type 0} (answers : C → Answers) (h : Hive C) (share : Seat) (mark moment : ℕ) (change : Change) (cause : Option ℕ) (reply : ChangeReply)
     → IsCauseOf (asks_of answers h) (booked_of h) share moment change cause → IsAdmitted (booked_of h) → mark ≤ next_of (view_of h)
-    → reply ≡ refusal (unwrap_or cause 8) → reply.status ≢ 1009 → IsLawfulOrLacks answers share mark moment change reply
-lacked answers h share mark moment change None reply p a reached told stale =
+    → reply ≡ refusal (unwrap_or cause 8) → reply.status ≢ 1009 → (handles : ℕ) → (closes change ≡ true → handles ≡ 0)
+    → IsLawfulOrLacks answers share mark handles moment change reply
+lacked answers h share mark moment change None reply p a reached told stale handles none_open =
     elim (decided (booked_of h) share) [
-      | inl c ↦ inr (told, record { hive = h; sight = record { admitted = a; current = c; reached = reached }; uncaused = sym (p.cause c) })
+      | inl c ↦ inr (told, none_open, record { hive = h; sight = record { admitted = a; current = c; reached = reached }; uncaused = sym (p.cause c) })
       | inr none ↦ absurd (no-some 1009 (p.stale none))
     ]
-lacked answers h share mark moment change (Some status) reply p a reached told stale =
+lacked answers h share mark moment change (Some status) reply p a reached told stale handles none_open =
     elim (decided (booked_of h) share) [
       | inl c ↦ inl (record {
         hive = h;

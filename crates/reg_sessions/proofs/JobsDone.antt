@@ -7,12 +7,12 @@ use Rattle.reg_callbacks.specs.Asking.{Answers}
 use Rattle.reg_journal.specs.Kept.{seat}
 use Rattle.reg_model.specs.declared.notice.Notice.{Notice}
 use Rattle.reg_model.specs.declared.reply.Receipt.{Receipt}
-use Rattle.reg_sessions.specs.Sessions.{SessionState, receipts_at, dropped_at, mark_at, seat_at, taken_at, popped_at, waiting_at, notifies_at}
+use Rattle.reg_sessions.specs.Sessions.{SessionState, receipts_at, dropped_at, mark_at, seat_at, taken_at, popped_at, waiting_at, notifies_at, handles_at}
 use Rattle.reg_sessions.specs.declared.job.Work.{Work}
 use Rattle.reg_sessions.specs.declared.job.Done.{Done}
 use Rattle.reg_sessions.specs.declared.job.Done.TheVariants.{Outcome, Notice as Told}
 use Rattle.reg_sessions.specs.declared.job.Job.{Job}
-use Rattle.reg_sessions.specs.Jobs.{AreDone, AreLawful, AreMissed, MayMiss, AreWithin, IsLawfulDone, is_of_kind, are_of_kinds, receipts_by, receipts_of_one, notices_by, notices_of_one, mark_by, mark_by_one, notifies_by, notifies_by_one, IsSameJob, HasRoom, IsReady, IsDone}
+use Rattle.reg_sessions.specs.Jobs.{AreDone, AreLawful, AreMissed, MayMiss, IsLawfulDone, is_of_kind, are_of_kinds, receipts_by, receipts_of_one, notices_by, notices_of_one, mark_by, mark_by_one, notifies_by, notifies_by_one, handles_by, handles_by_one, IsSameJob, HasRoom, IsDone}
 
 and_right : (a b : Bool) → (a && b) ≡ true → b ≡ true
 and_right true b h = h
@@ -84,6 +84,18 @@ notifies_more h n [] w (e ∷ ds) d same = absurd cc
 notifies_more h n (v ∷ ws) w [] d same = absurd cc
 notifies_more h n (v ∷ ws) w (e ∷ ds) d same = notifies_more h (counted h n v e) ws w ds d (and_right _ _ same)
 
+-- and of how many handles are open there
+left_open : ℕ → ℕ → Work → Done → ℕ
+left_open h n w d = if h == w.hive then handles_by_one n w.ask d else n
+
+handles_more : (h n : ℕ) (ws : List Work) (w : Work) (ds : List Done) (d : Done) → are_of_kinds ws ds ≡ true
+    → handles_by h n (ws ++ w ∷ []) (ds ++ d ∷ []) ≡ left_open h (handles_by h n ws ds) w d
+unfolding left_open
+handles_more h n [] w [] d same = refl
+handles_more h n [] w (e ∷ ds) d same = absurd cc
+handles_more h n (v ∷ ws) w [] d same = absurd cc
+handles_more h n (v ∷ ws) w (e ∷ ds) d same = handles_more h (left_open h n v e) ws w ds d (and_right _ _ same)
+
 as_many : (ws : List Work) (ds : List Done) → are_of_kinds ws ds ≡ true → length ds ≡ length ws
 as_many [] [] same = refl
 as_many [] (d ∷ ds) same = absurd cc
@@ -133,7 +145,8 @@ each_more P ws w ds d same all one i x y is told =
 -- what is lawful of a work by the works before it
 lawful_after : {C : Type 0} → (C → Answers) → SessionState → List Work → List Done → Work → Done → Type 0
 lawful_after answers s ws ds w d =
-    IsLawfulDone answers (seat s.number (dropped_at w.hive s + length (receipts_at w.hive s ++ receipts_by w.hive ws ds))) (mark_by w.hive (mark_at w.hive s) ws ds) w.moment w.ask d
+    IsLawfulDone answers (seat s.number (dropped_at w.hive s + length (receipts_at w.hive s ++ receipts_by w.hive ws ds))) (mark_by w.hive (mark_at w.hive s) ws ds)
+    (handles_by w.hive (handles_at w.hive s) ws ds) w.moment w.ask d
 
 lawful_more : {C : Type 0} (answers : C → Answers) (s : SessionState) (ws : List Work) (w : Work) (ds : List Done) (d : Done) → are_of_kinds ws ds ≡ true → AreLawful answers s ws ds
     → lawful_after answers s ws ds w d → AreLawful answers s (ws ++ w ∷ []) (ds ++ d ∷ [])
@@ -176,17 +189,20 @@ still_wait h before mid after ws w ds d same one other =
     let long = length-append (notices_by h ws ds) (fetched h w d) in
     omega (arith, one, other, more, long)
 
--- the seat and the mark that a session has after works are those by these works
+-- the seat, the mark and the handles that a session has after works are those by these works
 lawful_next : {C : Type 0} (answers : C → Answers) (old mid : SessionState) (ws : List Work) (ds : List Done) (w : Work) (d : Done) → mid.number ≡ old.number
     → receipts_at w.hive mid ≡ receipts_at w.hive old ++ receipts_by w.hive ws ds → dropped_at w.hive mid ≡ dropped_at w.hive old
-    → mark_at w.hive mid ≡ mark_by w.hive (mark_at w.hive old) ws ds
-    → IsLawfulDone answers (seat_at w.hive mid) (mark_at w.hive mid) w.moment w.ask d → lawful_after answers old ws ds w d
+    → mark_at w.hive mid ≡ mark_by w.hive (mark_at w.hive old) ws ds → handles_at w.hive mid ≡ handles_by w.hive (handles_at w.hive old) ws ds
+    → IsLawfulDone answers (seat_at w.hive mid) (mark_at w.hive mid) (handles_at w.hive mid) w.moment w.ask d → lawful_after answers old ws ds w d
 unfolding lawful_after
-lawful_next answers old mid ws ds w d number receipts dropped mark one =
-    subst (λ (m : ℕ). IsLawfulDone answers (seat old.number (dropped_at w.hive old + length (receipts_at w.hive old ++ receipts_by w.hive ws ds))) m w.moment w.ask d) mark
-    (subst (λ (k : ℕ). IsLawfulDone answers (seat old.number (k + length (receipts_at w.hive old ++ receipts_by w.hive ws ds))) (mark_at w.hive mid) w.moment w.ask d) dropped
-    (subst (λ (l : List Receipt). IsLawfulDone answers (seat old.number (dropped_at w.hive mid + length l)) (mark_at w.hive mid) w.moment w.ask d) receipts
-    (subst (λ (n : ℕ). IsLawfulDone answers (seat n (dropped_at w.hive mid + length (receipts_at w.hive mid))) (mark_at w.hive mid) w.moment w.ask d) number one)))
+lawful_next answers old mid ws ds w d number receipts dropped mark handles one =
+    let P : ℕ → ℕ → List Receipt → (reached left : ℕ) → Type 0 = λ n k l reached left. IsLawfulDone answers (seat n (k + length l)) reached left w.moment w.ask d in
+    let all : List Receipt = receipts_at w.hive old ++ receipts_by w.hive ws ds in
+    subst (λ (n : ℕ). P old.number (dropped_at w.hive old) all (mark_by w.hive (mark_at w.hive old) ws ds) n) handles
+    (subst (λ (n : ℕ). P old.number (dropped_at w.hive old) all n (handles_at w.hive mid)) mark
+    (subst (λ (n : ℕ). P old.number n all (mark_at w.hive mid) (handles_at w.hive mid)) dropped
+    (subst (λ (l : List Receipt). P old.number (dropped_at w.hive mid) l (mark_at w.hive mid) (handles_at w.hive mid)) receipts
+    (subst (λ (n : ℕ). P n (dropped_at w.hive mid) (receipts_at w.hive mid) (mark_at w.hive mid) (handles_at w.hive mid)) number one))))
 
 pub done_none : {C : Type 0} (answers : C → Answers) (s : SessionState) (b : List Done) → AreDone answers s [] b s b
 done_none answers s b = record {
@@ -200,6 +216,7 @@ done_none answers s b = record {
   taken = λ h. sym (append-nil (taken_at h s));
   popped = λ h. sym (append-nil (popped_at h s));
   notifies = λ h. refl;
+  handles = λ h. refl;
   missed = λ i w d is told. absurd (none_there w i is);
   waiting = λ h. omega arith;
   number = refl;
@@ -207,23 +224,25 @@ done_none answers s b = record {
 }
 
 done_more : {C : Type 0} (answers : C → Answers) (old : SessionState) (ws : List Work) (w : Work) (b a : List Done) (mid new : SessionState) (d : Done) → AreDone answers old ws b mid a
-    → is_of_kind w.ask d ≡ true → IsLawfulDone answers (seat_at w.hive mid) (mark_at w.hive mid) w.moment w.ask d
+    → is_of_kind w.ask d ≡ true → IsLawfulDone answers (seat_at w.hive mid) (mark_at w.hive mid) (handles_at w.hive mid) w.moment w.ask d
     → ((h : ℕ) → receipts_at h new ≡ receipts_at h mid ++ (if h == w.hive then receipts_of_one w.moment w.ask d else []))
     → ((h : ℕ) → dropped_at h new ≡ dropped_at h mid)
     → ((h : ℕ) → mark_at h new ≡ (if h == w.hive then mark_by_one (mark_at h mid) w.ask d else mark_at h mid))
     → ((h : ℕ) → taken_at h new ≡ taken_at h mid ++ (if h == w.hive then notices_of_one w.ask d else []))
     → ((h : ℕ) → popped_at h new ≡ popped_at h mid ++ (if h == w.hive then notices_of_one w.ask d else []))
     → ((h : ℕ) → notifies_at h new ≡ (if h == w.hive then notifies_by_one (notifies_at h mid) w.ask d else notifies_at h mid))
+    → ((h : ℕ) → handles_at h new ≡ (if h == w.hive then handles_by_one (handles_at h mid) w.ask d else handles_at h mid))
     → MayMiss (length (waiting_at w.hive mid)) (notifies_at w.hive mid) (length (taken_at w.hive mid)) d
     → ((h : ℕ) → length (waiting_at h mid) ≤ length (waiting_at h new) + length (if h == w.hive then notices_of_one w.ask d else []))
     → new.number ≡ mid.number → length new.places ≡ length mid.places
     → AreDone answers old (ws ++ w ∷ []) b new (a ++ d ∷ [])
-unfolding given fetched moved counted
-done_more answers old ws w b a mid new d p kind lawful receipt dropped mark taken popped notify miss wait number hives = record {
+unfolding given fetched moved counted left_open
+done_more answers old ws w b a mid new d p kind lawful receipt dropped mark taken popped notify opened miss wait number hives = record {
   done = p.done ++ d ∷ [];
   outcomes = ap (λ (l : List Done). l ++ d ∷ []) p.outcomes ∙ append_assoc b p.done (d ∷ []);
   kinds = kinds_more ws w p.done d p.kinds kind;
-  lawful = lawful_more answers old ws w p.done d p.kinds p.lawful (lawful_next answers old mid ws p.done w d p.number (p.receipts w.hive) (p.dropped w.hive) (p.marks w.hive) lawful);
+  lawful = lawful_more answers old ws w p.done d p.kinds p.lawful (lawful_next answers old mid ws p.done w d p.number (p.receipts w.hive) (p.dropped w.hive) (p.marks w.hive)
+      (p.handles w.hive) lawful);
   dropped = λ h. dropped h ∙ p.dropped h;
   marks = λ h. mark h ∙ ap (λ (m : ℕ). moved h m w d) (p.marks h) ∙ sym (mark_more h (mark_at h old) ws w p.done d p.kinds);
   receipts = λ h. (
@@ -236,6 +255,7 @@ done_more answers old ws w b a mid new d p kind lawful receipt dropped mark take
   missed = missed_more old ws w p.done d p.kinds p.missed (missed_next old mid ws p.done w d (p.waiting w.hive) (p.notifies w.hive) (p.taken w.hive) miss);
   waiting = λ h. still_wait h _ _ _ ws w p.done d p.kinds (p.waiting h) (wait h);
   notifies = λ h. notify h ∙ ap (λ (n : ℕ). counted h n w d) (p.notifies h) ∙ sym (notifies_more h (notifies_at h old) ws w p.done d p.kinds);
+  handles = λ h. opened h ∙ ap (λ (n : ℕ). left_open h n w d) (p.handles h) ∙ sym (handles_more h (handles_at h old) ws w p.done d p.kinds);
   number = number ∙ p.number;
   hives = hives ∙ p.hives;
 }
@@ -243,21 +263,22 @@ done_more answers old ws w b a mid new d p kind lawful receipt dropped mark take
 -- one work more of a list
 pub done_next : {C : Type 0} (answers : C → Answers) (old : SessionState) (ws : List Work) (i : ℕ) (w : Work) (b a : List Done) (mid new : SessionState) (d : Done) → i < length ws
     → w ≡ get_or ws i w → AreDone answers old (take i ws) b mid a → is_of_kind w.ask d ≡ true
-    → IsLawfulDone answers (seat_at w.hive mid) (mark_at w.hive mid) w.moment w.ask d
+    → IsLawfulDone answers (seat_at w.hive mid) (mark_at w.hive mid) (handles_at w.hive mid) w.moment w.ask d
     → ((h : ℕ) → receipts_at h new ≡ receipts_at h mid ++ (if h == w.hive then receipts_of_one w.moment w.ask d else []))
     → ((h : ℕ) → dropped_at h new ≡ dropped_at h mid)
     → ((h : ℕ) → mark_at h new ≡ (if h == w.hive then mark_by_one (mark_at h mid) w.ask d else mark_at h mid))
     → ((h : ℕ) → taken_at h new ≡ taken_at h mid ++ (if h == w.hive then notices_of_one w.ask d else []))
     → ((h : ℕ) → popped_at h new ≡ popped_at h mid ++ (if h == w.hive then notices_of_one w.ask d else []))
     → ((h : ℕ) → notifies_at h new ≡ (if h == w.hive then notifies_by_one (notifies_at h mid) w.ask d else notifies_at h mid))
+    → ((h : ℕ) → handles_at h new ≡ (if h == w.hive then handles_by_one (handles_at h mid) w.ask d else handles_at h mid))
     → MayMiss (length (waiting_at w.hive mid)) (notifies_at w.hive mid) (length (taken_at w.hive mid)) d
     → ((h : ℕ) → length (waiting_at h mid) ≤ length (waiting_at h new) + length (if h == w.hive then notices_of_one w.ask d else []))
     → new.number ≡ mid.number → length new.places ≡ length mid.places
     → AreDone answers old (take (i + 1) ws) b new (a ++ d ∷ [])
-done_next answers old ws i w b a mid new d below is p kind lawful receipt dropped mark taken popped notify miss wait number hives =
+done_next answers old ws i w b a mid new d below is p kind lawful receipt dropped mark taken popped notify opened miss wait number hives =
     let Q : List Work → Type 0 = λ l. AreDone answers old l b new (a ++ d ∷ []) in
     subst Q (sym (take_more ws i w below ∙ ap (λ x. take i ws ++ x ∷ []) (sym is)))
-    (done_more answers old (take i ws) w b a mid new d p kind lawful receipt dropped mark taken popped notify miss wait number hives)
+    (done_more answers old (take i ws) w b a mid new d p kind lawful receipt dropped mark taken popped notify opened miss wait number hives)
 
 -- ---- jobs
 
@@ -293,12 +314,3 @@ is_done answers {a} {b} {c} p q = record {
       let R : List Done → Type 0 = λ o. AreDone answers b.session b.work.items o c.session c.outcomes.items in
       subst P p.session (subst Q (ap (λ v. v.items) p.work) (subst R p.outcomes q.done)));
 }
-
-pub still_ready : (hives : ℕ) {a b : Job} → IsSameJob a b → IsReady hives a → IsReady hives b
-still_ready hives {a} {b} p r =
-    let works : b.work.items ≡ a.work.items = ap (λ v. v.items) p.work in
-    let places : length b.session.places ≡ length a.session.places = ap (λ (s : SessionState). length s.places) p.session in
-    record {
-      within = subst (λ (ws : List Work). AreWithin hives ws) (sym works) r.within;
-      seats = subst (λ (n : ℕ). AreWithin n b.work.items) (sym places) (subst (λ (ws : List Work). AreWithin (length a.session.places) ws) (sym works) r.seats);
-    }

@@ -12,3 +12,4 @@ pub mod Rings
 pub mod HeldHives
 pub mod Dropped
 pub mod RegistryCuts
+pub mod SparedCloses

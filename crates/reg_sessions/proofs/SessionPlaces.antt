@@ -25,13 +25,13 @@ one_place_more ps p n all one h below =
 pub own-place : (ps : List PlaceState) (h : ℕ) (found : PlaceState) → h < length ps → found ≡ get_or ps h found → found ≡ place_of ps h
 own-place ps h found within is = is ∙ get_or_default ps h found no_place within
 
--- the seat there, and the mark: the session's own
-pub own-seat : (P : Seat → ℕ → Type 0) (ps : List PlaceState) (h number : ℕ) (found : PlaceState) → h < length ps → found ≡ get_or ps h found
-    → ((k : ℕ) → k < length ps → (place_of ps k).seat.session ≡ number) → P (seat_of found) found.mark
-    → P (seat number ((place_of ps h).dropped + length (place_of ps h).receipts)) (place_of ps h).mark
+-- the seat there, the mark and how many handles are open: the session's own
+pub own-seat : (P : Seat → (mark handles : ℕ) → Type 0) (ps : List PlaceState) (h number : ℕ) (found : PlaceState) → h < length ps → found ≡ get_or ps h found
+    → ((k : ℕ) → k < length ps → (place_of ps k).seat.session ≡ number) → P (seat_of found) found.mark found.handles
+    → P (seat number ((place_of ps h).dropped + length (place_of ps h).receipts)) (place_of ps h).mark (place_of ps h).handles
 own-seat P ps h number found within is all p =
-    subst (λ (n : ℕ). P (seat n ((place_of ps h).dropped + length (place_of ps h).receipts)) (place_of ps h).mark) (all h within)
-    (subst (λ (x : PlaceState). P (seat_of x) x.mark) (own-place ps h found within is) p)
+    subst (λ (n : ℕ). P (seat n ((place_of ps h).dropped + length (place_of ps h).receipts)) (place_of ps h).mark (place_of ps h).handles) (all h within)
+    (subst (λ (x : PlaceState). P (seat_of x) x.mark x.handles) (own-place ps h found within is) p)
 
 -- a place that stays as it was
 pub set_same : (ps : List PlaceState) (h : ℕ) (found : PlaceState) → found ≡ get_or ps h found → h < length ps → set ps h found ≡ ps

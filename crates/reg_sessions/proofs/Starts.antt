@@ -12,7 +12,7 @@ use Rattle.reg_sessions.specs.Sessions.{PlaceState, SessionState, IsFresh, AreFr
 -- ---- sessions without a seat
 
 pub fresh_new : (n : ℕ) → IsFresh n 0 (record { number = n; places = [] })
-fresh_new n = record { is_number = refl; seats = refl; receipts = λ h. refl; dropped = λ h. refl; marks = λ h. refl; taken = λ h. refl; popped = λ h. refl; waiting = λ h. refl; notifies = λ h. refl }
+fresh_new n = record { is_number = refl; seats = refl; receipts = λ h. refl; dropped = λ h. refl; marks = λ h. refl; taken = λ h. refl; popped = λ h. refl; waiting = λ h. refl; notifies = λ h. refl; handles = λ h. refl }
 
 not_below_0 : (n : ℕ) → nat_lt n 0 ≡ false
 not_below_0 n = grind (arith, nat_tests)
@@ -36,9 +36,9 @@ by_place P (q ∷ ps) p all one none (suc h) = by_place P ps p (λ i. all (suc i
 
 -- the seat that a session gets at the next hive
 place_more : (n k : ℕ) (x : SessionState) (p : PlaceState) → IsFresh n k x → p.receipts ≡ [] → p.dropped ≡ 0 → p.mark ≡ 0 → p.taken ≡ [] → p.popped ≡ [] →
-    p.waiting ≡ [] → p.notifies ≡ 0 →
+    p.waiting ≡ [] → p.notifies ≡ 0 → p.handles ≡ 0 →
     IsFresh n (k + 1) (record x { places = x.places ++ p ∷ [] })
-place_more n k x p f r z m t o w e = record {
+place_more n k x p f r z m t o w e c = record {
   is_number = f.is_number;
   seats = length-append x.places (p ∷ []) ∙ ap (λ (l : ℕ). l + 1) f.seats;
   receipts = λ h. by_place (λ q. q.receipts ≡ []) x.places p (λ i. f.receipts i) r refl h;
@@ -48,6 +48,7 @@ place_more n k x p f r z m t o w e = record {
   popped = λ h. by_place (λ q. q.popped ≡ []) x.places p (λ i. f.popped i) o refl h;
   waiting = λ h. by_place (λ q. q.waiting ≡ []) x.places p (λ i. f.waiting i) w refl h;
   notifies = λ h. by_place (λ q. q.notifies ≡ 0) x.places p (λ i. f.notifies i) e refl h;
+  handles = λ h. by_place (λ q. q.handles ≡ 0) x.places p (λ i. f.handles i) c refl h;
 }
 
 below_next : (n : ℕ) → nat_lt n (n + 1) ≡ true
@@ -70,7 +71,7 @@ fresh_set k at ss x within all is s below =
     elim (cases_eq s at) [
       | inl e ↦ (let P : ℕ → Type 0 = λ n. IsFresh n (if nat_lt n (at + 1) then k + 1 else k) (get_or (set ss at x) n no_session) in
           subst P (sym e) (rw (get_or-set_same ss at x no_session within, below_next at, is) (place_more at k (get_or ss at no_session) _
-          (let Q : Bool → Type 0 = λ b. IsFresh at (if b then k + 1 else k) (get_or ss at no_session) in subst Q (not_self at) (all at within)) refl refl refl refl refl refl refl)))
+          (let Q : Bool → Type 0 = λ b. IsFresh at (if b then k + 1 else k) (get_or ss at no_session) in subst Q (not_self at) (all at within)) refl refl refl refl refl refl refl refl)))
       | inr ne ↦ (let P : SessionState → Type 0 = λ y. IsFresh s (if nat_lt s (at + 1) then k + 1 else k) y in
           subst P (sym (get_or-set_other ss at s x no_session ne))
           (let Q : Bool → Type 0 = λ b. IsFresh s (if b then k + 1 else k) (get_or ss s no_session) in

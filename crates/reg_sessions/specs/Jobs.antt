@@ -15,7 +15,7 @@ use Rattle.reg_sessions.specs.declared.job.Done.{Done}
 use Rattle.reg_sessions.specs.declared.job.Done.TheVariants.{Outcome, Notice}
 use Rattle.reg_sessions.specs.declared.job.Job.{Job}
 use Rattle.reg_sessions.specs.Locked.{IsLawfulOrLacks, IsLawfulAnswer}
-use Rattle.reg_sessions.specs.Sessions.{SessionState, receipts_at, dropped_at, mark_at, taken_at, popped_at, waiting_at, notifies_at, notice_of, receipt_of, mark_after, mark_told, notifies_after}
+use Rattle.reg_sessions.specs.Sessions.{SessionState, receipts_at, dropped_at, mark_at, taken_at, popped_at, waiting_at, notifies_at, handles_at, notice_of, receipt_of, mark_after, mark_told, notifies_after, handles_after}
 
 -- an outcome is of the kind that was asked for: a reply to a change, an answer to a question, a notice or none to who takes one
 abbrev pub is_of_kind : Ask → Done → Bool
@@ -89,21 +89,36 @@ notifies_by h n [] ds = n
 notifies_by h n (w ∷ ws) [] = n
 notifies_by h n (w ∷ ws) (d ∷ ds) = notifies_by h (if h == w.hive then notifies_by_one n w.ask d else n) ws ds
 
--- what a session with this seat and mark at a hive may be told there, 1009 aside; a notice that it takes is compared when all are gathered
-abbrev pub IsLawfulDone : {C : Type 0} → (C → Answers) → Seat → (mark moment : ℕ) → Ask → Done → Type 0
-IsLawfulDone answers share mark moment (Call (Change change)) (Outcome (Changed reply)) =
-    reply.status ≢ BAD_DATABASE → IsLawfulOrLacks answers share mark moment change reply
-IsLawfulDone answers share mark moment (Call (Query query)) (Outcome (Answered answer)) =
-    answer.body ≢ Refused BAD_DATABASE → IsLawfulAnswer answers share mark query answer
-IsLawfulDone answers share mark moment TakeNotice (Notice notice) = Unit {0}
-IsLawfulDone answers share mark moment ask done = ⊥
+-- how many handles are open, after one outcome
+abbrev pub handles_by_one : ℕ → Ask → Done → ℕ
+handles_by_one n (Call (Change change)) (Outcome (Changed reply)) = handles_after n change reply
+handles_by_one n (Call (Change change)) (Outcome (Answered answer)) = n
+handles_by_one n (Call (Query query)) (Outcome outcome) = n
+handles_by_one n (Call call) (Notice notice) = n
+handles_by_one n TakeNotice done = n
 
--- of works and their outcomes each is lawful by the seat and the mark that the session has by those before it
+-- how many are at a hive after works and their outcomes
+abbrev pub handles_by : ℕ → ℕ → List Work → List Done → ℕ
+handles_by h n [] ds = n
+handles_by h n (w ∷ ws) [] = n
+handles_by h n (w ∷ ws) (d ∷ ds) = handles_by h (if h == w.hive then handles_by_one n w.ask d else n) ws ds
+
+-- what a session with this seat, this mark and so many open handles at a hive may be told there, 1009 aside; a notice that it takes is
+-- compared when all are gathered
+abbrev pub IsLawfulDone : {C : Type 0} → (C → Answers) → Seat → (mark handles moment : ℕ) → Ask → Done → Type 0
+IsLawfulDone answers share mark handles moment (Call (Change change)) (Outcome (Changed reply)) =
+    reply.status ≢ BAD_DATABASE → IsLawfulOrLacks answers share mark handles moment change reply
+IsLawfulDone answers share mark handles moment (Call (Query query)) (Outcome (Answered answer)) =
+    answer.body ≢ Refused BAD_DATABASE → IsLawfulAnswer answers share mark query answer
+IsLawfulDone answers share mark handles moment TakeNotice (Notice notice) = Unit {0}
+IsLawfulDone answers share mark handles moment ask done = ⊥
+
+-- of works and their outcomes each is lawful by the seat, the mark and the handles that the session has by those before it
 abbrev pub AreLawful : {C : Type 0} → (C → Answers) → SessionState → List Work → List Done → Type 0
 AreLawful answers s work done =
     (i : ℕ) (w : Work) (d : Done) → slice_get work i ≡ Some w → slice_get done i ≡ Some d →
     IsLawfulDone answers (seat s.number (dropped_at w.hive s + length (receipts_at w.hive s ++ receipts_by w.hive (take i work) (take i done))))
-    (mark_by w.hive (mark_at w.hive s) (take i work) (take i done)) w.moment w.ask d
+    (mark_by w.hive (mark_at w.hive s) (take i work) (take i done)) (handles_by w.hive (handles_at w.hive s) (take i work) (take i done)) w.moment w.ask d
 
 -- that there is no notice may be told where none is known to wait, or as many were taken as Notify calls were accepted
 abbrev pub MayMiss : (waiting notifies taken : ℕ) → Done → Type 0
@@ -119,9 +134,9 @@ AreMissed s work done =
     (notifies_by w.hive (notifies_at w.hive s) (take i work) (take i done)) (length (taken_at w.hive s ++ notices_by w.hive (take i work) (take i done))) d
 
 -- the outcomes grew by one for each work, of its kind, lawful, and in order; at each hive the session's receipts grew by just those of its
--- accepted changes with these replies, in order, and none was dropped; its mark is that after them, and so is how many Notify calls were
--- accepted; and the notices that it took, as what came out of its ring, grew by just those among the outcomes, in order;
--- none was passed over that was known to wait
+-- accepted changes with these replies, in order, and none was dropped; its mark is that after them, and so are how many Notify calls were
+-- accepted and how many handles are open; and the notices that it took, as what came out of its ring, grew by just those among the
+-- outcomes, in order; none was passed over that was known to wait
 pub record AreDone {C : Type 0} (answers : C → Answers) (old : SessionState) (work : List Work) (before : List Done) (new : SessionState) (after : List Done) : Type 0 where
   pub done : List Done
   pub outcomes : after ≡ before ++ done
@@ -133,6 +148,7 @@ pub record AreDone {C : Type 0} (answers : C → Answers) (old : SessionState) (
   pub taken : (h : ℕ) → taken_at h new ≡ taken_at h old ++ notices_by h work done
   pub popped : (h : ℕ) → popped_at h new ≡ popped_at h old ++ notices_by h work done
   pub notifies : (h : ℕ) → notifies_at h new ≡ notifies_by h (notifies_at h old) work done
+  pub handles : (h : ℕ) → handles_at h new ≡ handles_by h (handles_at h old) work done
   pub missed : AreMissed old work done
   pub waiting : (h : ℕ) → length (waiting_at h old) ≤ length (waiting_at h new) + length (notices_by h work done)
   pub number : new.number ≡ old.number

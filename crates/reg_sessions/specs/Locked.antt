@@ -1,5 +1,5 @@
 -- What stands behind a hive's lock, and what sessions may be told there.
-use Rattle.std.specs.Prelude.{◌≡◌, ◌+◌, ◌<◌, ◌≤◌, ◌⊎◌, ℕ, List, [], None, length, slice_index_or, refl}
+use Rattle.std.specs.Prelude.{◌≡◌, ◌+◌, ◌<◌, ◌≤◌, ◌⊎◌, ℕ, true, List, [], None, length, slice_index_or, refl}
 use Rattle.std.specs.Coded.{Coded, code_by, coded×, coded_list, coded_ℕ}
 use Rattle.reg_model.specs.Callbacks.{change_status}
 use Rattle.reg_model.specs.Causes.{change_cause}
@@ -21,6 +21,7 @@ use Rattle.reg_calls.specs.Views.{View, Booked, coded_view, next_of, state, IsAp
 use Rattle.reg_notify.specs.Tables.{coded_notice}
 use Rattle.reg_model.specs.declared.notice.Notice.{Notice}
 use Rattle.reg_outbox.specs.Rings.{IsAhead, backlog_of}
+use Rattle.reg_sessions.specs.Sessions.{closes}
 
 -- a hive with its book, without its callbacks
 abbrev pub booked_of : {C : Type 0} → Hive C → Booked
@@ -138,10 +139,12 @@ pub record IsUncaused {C : Type 0} (answers : C → Answers) (share : Seat) (mar
   pub uncaused : change_cause (state (view_of hive)) share.session change
       (change_status (asks_of answers hive) (state (view_of hive)).world share.session moment change) ≡ None
 
--- what a session may be told of a change: such a reply, or 8 where there may be no other cause
-abbrev pub IsLawfulOrLacks : {C : Type 0} → (C → Answers) → Seat → (mark moment : ℕ) → Change → ChangeReply → Type 0
-IsLawfulOrLacks answers share mark moment change reply =
-    IsLawfulReply answers share mark moment change reply ⊎ ((reply ≡ refusal NOT_ENOUGH_MEMORY) × IsUncaused answers share mark moment change)
+-- what a session with so many open handles may be told of a change: such a reply, or 8 where there may be no other cause. A hive lacks
+-- memory for no Close (`Lacks` of reg_calls), nor does a session that has a handle open: it is told 8 of none then
+abbrev pub IsLawfulOrLacks : {C : Type 0} → (C → Answers) → Seat → (mark handles moment : ℕ) → Change → ChangeReply → Type 0
+IsLawfulOrLacks answers share mark handles moment change reply =
+    IsLawfulReply answers share mark moment change reply
+    ⊎ ((reply ≡ refusal NOT_ENOUGH_MEMORY) × (closes change ≡ true → handles ≡ 0) × IsUncaused answers share mark moment change)
 
 -- some hive in sight may answer so to a question, with how many entries it has had
 pub record IsLawfulAnswer {C : Type 0} (answers : C → Answers) (share : Seat) (mark : ℕ) (query : Query) (answer : Answer) : Type 0 where

@@ -80,6 +80,10 @@ waiting_at hive s = (place_of s.places hive).waiting
 abbrev pub notifies_at : ℕ → SessionState → ℕ
 notifies_at hive s = (place_of s.places hive).notifies
 
+-- how many handles of the session are open there, as its accepted changes tell; a checkpoint finds none
+abbrev pub handles_at : ℕ → SessionState → ℕ
+handles_at hive s = (place_of s.places hive).handles
+
 -- what is taken: one notice, or none
 abbrev pub notice_of : Option Notice → List Notice
 notice_of None = []
@@ -157,7 +161,7 @@ pub record IsDropped (hive : ℕ) (old new : SessionState) : Type 0 where
 abbrev pub AreInOrder : ℕ → List SessionState → Type 0
 AreInOrder n sessions = (length sessions ≡ n) × ((s : ℕ) → s < n → (session_of sessions s).number ≡ s)
 
--- a session that was just started: it has a seat at each of so many hives, no receipt, marks of 0, and took no notice
+-- a session that was just started: it has a seat at each of so many hives, no receipt, marks of 0, no handle, and took no notice
 pub record IsFresh (number hives : ℕ) (s : SessionState) : Type 0 where
   pub is_number : s.number ≡ number
   pub seats : length s.places ≡ hives
@@ -168,6 +172,7 @@ pub record IsFresh (number hives : ℕ) (s : SessionState) : Type 0 where
   pub popped : (h : ℕ) → popped_at h s ≡ []
   pub waiting : (h : ℕ) → waiting_at h s ≡ []
   pub notifies : (h : ℕ) → notifies_at h s ≡ 0
+  pub handles : (h : ℕ) → handles_at h s ≡ 0
 
 -- all sessions are so; the first of them have seats at one hive more
 abbrev pub AreFresh : ℕ → ℕ → List SessionState → Type 0

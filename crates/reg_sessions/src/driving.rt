@@ -1,6 +1,6 @@
 ghost use Rattle.std.specs.Prelude.{◌≡◌, ◌+◌, ◌<◌, ◌≤◌, ◌==◌, ℕ, [], ◌++◌, length, slice_index_or, vec_len, vec_capacity, OnErr, OnOk, true, if◌then◌else◌};
-ghost use Rattle.reg_sessions.specs.Jobs.{AreDone, MayMiss, AreReady, AreWithin, IsDone, IsReady, HasRoom, IsSameJob, IsLawfulDone, receipts_of_one, notices_of_one, mark_by_one, notifies_by_one, is_of_kind};
-ghost use Rattle.reg_sessions.specs.Sessions.{receipts_at, dropped_at, mark_at, seat_at, taken_at, popped_at, waiting_at, notifies_at};
+ghost use Rattle.reg_sessions.specs.Jobs.{AreDone, MayMiss, AreReady, AreWithin, IsDone, IsReady, HasRoom, IsSameJob, IsLawfulDone, receipts_of_one, notices_of_one, mark_by_one, notifies_by_one, handles_by_one, is_of_kind};
+ghost use Rattle.reg_sessions.specs.Sessions.{receipts_at, dropped_at, mark_at, seat_at, taken_at, popped_at, waiting_at, notifies_at, handles_at};
 
 use crate::gate::HiveGate;
 use crate::job::{Ask, Done, Job, Work};
@@ -39,13 +39,14 @@ fn do_one<Rt: Wait, G: HiveGate, C: Callback>(
     requires hive { work.now.hive < registry.now.hives }
     requires seat { work.now.hive < length session.old.places }
     ensures kind { is_of_kind work.now.ask result ≡ true }
-    ensures lawful { IsLawfulDone C.answers (seat_at work.now.hive session.old) (mark_at work.now.hive session.old) work.now.moment work.now.ask result }
+    ensures lawful { IsLawfulDone C.answers (seat_at work.now.hive session.old) (mark_at work.now.hive session.old) (handles_at work.now.hive session.old) work.now.moment work.now.ask result }
     ensures receipts { (h : ℕ) → receipts_at h session.new ≡ receipts_at h session.old ++ (if h == work.now.hive then receipts_of_one work.now.moment work.now.ask result else []) }
     ensures dropped { (h : ℕ) → dropped_at h session.new ≡ dropped_at h session.old }
     ensures marks { (h : ℕ) → mark_at h session.new ≡ (if h == work.now.hive then mark_by_one (mark_at h session.old) work.now.ask result else mark_at h session.old) }
     ensures taken { (h : ℕ) → taken_at h session.new ≡ taken_at h session.old ++ (if h == work.now.hive then notices_of_one work.now.ask result else []) }
     ensures popped { (h : ℕ) → popped_at h session.new ≡ popped_at h session.old ++ (if h == work.now.hive then notices_of_one work.now.ask result else []) }
     ensures notifies { (h : ℕ) → notifies_at h session.new ≡ (if h == work.now.hive then notifies_by_one (notifies_at h session.old) work.now.ask result else notifies_at h session.old) }
+    ensures handles { (h : ℕ) → handles_at h session.new ≡ (if h == work.now.hive then handles_by_one (handles_at h session.old) work.now.ask result else handles_at h session.old) }
     ensures missed { MayMiss (length (waiting_at work.now.hive session.old)) (notifies_at work.now.hive session.old) (length (taken_at work.now.hive session.old)) result }
     ensures waiting { (h : ℕ) → length (waiting_at h session.old) ≤ length (waiting_at h session.new) + length (if h == work.now.hive then notices_of_one work.now.ask result else []) }
     ensures kept { (session.new.number ≡ session.old.number) × (length session.new.places ≡ length session.old.places) }

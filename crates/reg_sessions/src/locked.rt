@@ -1,5 +1,5 @@
 //! What stands behind a hive's lock, and what is done while it is held.
-ghost use Rattle.std.specs.Prelude.{◌≡◌, ◌≢◌, ◌+◌, ◌<◌, ◌≤◌, ◌↔◌, ◌⊎◌, Some, false, true, IfErr, IfOk, IsErrOf, IsTrue, OnErr, OnOk, unwrap_or};
+ghost use Rattle.std.specs.Prelude.{◌≡◌, ◌≢◌, ◌+◌, ◌<◌, ◌≤◌, ◌↔◌, ◌⊎◌, ℕ, Some, false, true, IfErr, IfOk, IsErrOf, IsTrue, OnErr, OnOk, unwrap_or};
 ghost use Rattle.reg_callbacks.specs.Rows.{is_among};
 ghost use Rattle.reg_callbacks.specs.declared.callbacks.TheConstants.{REGISTRATIONS_LIMIT};
 ghost use Rattle.reg_model.specs.declared.answer.AnswerBody.TheVariants.{Refused};
@@ -9,6 +9,7 @@ ghost use Rattle.reg_model.specs.declared.limits.TheConstants.{JOURNAL_LIMIT, NU
 ghost use Rattle.reg_calls.specs.HiveView.{asks_of, callbacks_of};
 ghost use Rattle.reg_calls.specs.Views.{View, next_of, IsAccepted};
 ghost use Rattle.reg_sessions.specs.Locked.{book_of, booked_of, held_of, AreDelivered, IsAdmitted, IsLawfulReply, IsLawfulOrLacks, IsLawfulAnswer, HaveSameCallbacks, IsRegistered, IsUnregistered};
+ghost use Rattle.reg_sessions.specs.Sessions.{closes};
 ghost use Rattle.reg_sessions.specs.Internal.Answered.{IsAnswered, IsCauseOf, IsAsked};
 ghost use Rattle.reg_sessions.specs.Internal.Moved.{AreHandedOut, AreMoved};
 
@@ -145,10 +146,12 @@ impl<C: Callback> Locked<C> {
         reply
     }
 
-    /// Answers a change for whose receipt there is no memory: 1009 as of `change`, else its first cause, or else 8. Takes no memory.
+    /// Answers a change for whose receipt there is no memory: 1009 as of `change`, else its first cause, or else 8. Takes no memory. That is
+    /// lawful of a Close only where its session has no open handle.
     pub(crate) fn lack(&self, share: &Share, mark: u64, moment: u64, change: &Change) -> ChangeReply
         ensures refused { result.status ≢ 0 }
-        ensures lawful { result.status ≢ BAD_DATABASE → IsLawfulOrLacks C.answers share.now mark moment change.now result }
+        ensures lawful { result.status ≢ BAD_DATABASE → (handles : ℕ) → (closes change.now ≡ true → handles ≡ 0) →
+            IsLawfulOrLacks C.answers share.now mark handles moment change.now result }
     {
         if self.is_behind(mark) {
             return refused(BAD_DATABASE);

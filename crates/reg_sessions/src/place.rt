@@ -1,7 +1,7 @@
 //! What a session has at one hive.
-ghost use Rattle.std.specs.Prelude.{◌≡◌, ◌≢◌, ◌+◌, ◌-◌, ◌^◌, ◌<◌, ◌≤◌, ◌==◌, ◌⊎◌, [], ◌∷◌, ◌++◌, ℕ, length, max, Some, false, true, IfNone, IfOk, IfSome, OnOk, vec_len, vec_capacity, if◌then◌else◌};
+ghost use Rattle.std.specs.Prelude.{◌≡◌, ◌≢◌, ◌+◌, ◌-◌, ◌^◌, ◌<◌, ◌≤◌, ◌==◌, ◌⊎◌, [], ◌∷◌, ◌++◌, ℕ, length, max, Some, false, true, IfNone, IfOk, IfSome, OnErr, OnOk, vec_len, vec_capacity, if◌then◌else◌};
 ghost use Rattle.reg_model.specs.declared.answer.AnswerBody.TheVariants.{Refused};
-ghost use Rattle.reg_model.specs.declared.statuses.TheConstants.{BAD_DATABASE};
+ghost use Rattle.reg_model.specs.declared.statuses.TheConstants.{BAD_DATABASE, NOT_ENOUGH_MEMORY};
 ghost use Rattle.reg_sessions.specs.Locked.{IsLawfulOrLacks, IsLawfulAnswer};
 ghost use Rattle.reg_sessions.specs.Sessions.{PlaceState, notice_of, receipt_of, mark_after, mark_told, seat_of, status_told, closes as closes_of, watches as watches_of, notifies_after as notifies_told, handles_after as handles_told, without_receipts};
 ghost use Rattle.std.specs.Option.{is_some};
@@ -70,6 +70,7 @@ fn make_room(receipts: &mut Vec<Receipt>, handles: usize, is_close: bool) -> Res
     ensures kept { vec_len receipts.new + handles ≤ vec_capacity receipts.new }
     ensures room { OnOk result (vec_len receipts.new < vec_capacity receipts.new) }
     ensures more { OnOk result (is_close ≡ false → vec_len receipts.new + handles + 2 ≤ vec_capacity receipts.new) }
+    ensures spared { OnErr result (is_close ≡ true → handles ≡ 0) }
 {
     if is_close {
         if handles == 0 {
@@ -97,10 +98,15 @@ fn handles_after(handles: usize, is_close: bool, reply: &ChangeReply) -> usize
     }
 }
 
-/// Two copies of a change: for the entry and for the receipt.
+/// Two copies of a change: for the entry and for the receipt. Those of a Close take no memory.
 fn two_copies(alloc: Global, change: &Change) -> Result<(Change, Change), AllocError>
-    ensures { IfOk result (λ both. (both.0 ≡ change.now) × (both.1 ≡ change.now)) }
+    ensures copies { IfOk result (λ both. (both.0 ≡ change.now) × (both.1 ≡ change.now)) }
+    ensures spared { OnErr result (closes_of change.now ≡ false) }
 {
+    if let Change::Close { handle } = change {
+        let handle = *handle;
+        return Ok((Change::Close { handle }, Change::Close { handle }));
+    }
     let entered = change.try_clone(alloc)?;
     let kept = change.try_clone(alloc)?;
     Ok((entered, kept))
@@ -123,6 +129,7 @@ fn make_notice_room(
     ensures taken { taken.new.items ≡ taken.old.items }
     ensures kept { notifies ≤ vec_capacity taken.new }
     ensures more { OnOk result (is_notify ≡ true → notifies + 1 ≤ vec_capacity taken.new) }
+    ensures spared { OnErr result (is_notify ≡ true) }
 {
     if !is_notify {
         return Ok(());
@@ -138,7 +145,7 @@ fn notifies_after(notifies: usize, is_notify: bool) -> usize
     if is_notify { notifies + 1 } else { notifies }
 }
 
-/// All that a change takes of memory here: room and copies.
+/// All that a change takes of memory here: room and copies. A Close takes none, if any handle is open.
 fn prepared(
     alloc: Global,
     receipts: &mut Vec<Receipt>,
@@ -157,6 +164,7 @@ fn prepared(
     ensures room { OnOk result (vec_len receipts.new < vec_capacity receipts.new) }
     ensures more { OnOk result (closes_of change.now ≡ false → vec_len receipts.new + handles + 2 ≤ vec_capacity receipts.new) }
     ensures copies { IfOk result (λ both. (both.0 ≡ change.now) × (both.1 ≡ change.now)) }
+    ensures spared { OnErr result (closes_of change.now ≡ true → handles ≡ 0) }
 {
     make_room(receipts, handles, closes(change))?;
     make_notice_room(taken, notifies, watches(change))?;
@@ -239,7 +247,8 @@ impl Place {
         Some(notice)
     }
 
-    /// Makes a change at the hive behind a lock. What takes memory comes first; where that is refused, the first cause is told, or 8.
+    /// Makes a change at the hive behind a lock. What takes memory comes first; where that is refused, the first cause is told, or 8. It
+    /// isn't refused to a Close, if any handle is open.
     pub fn change<Rt: Wait, G: HiveGate, C: Callback>(
         &mut self,
         rt: &Rt,
@@ -260,7 +269,8 @@ impl Place {
         ensures accepted { result.status ≡ 0 → (n : ℕ) × (result.number ≡ Some n) × (self.old.seat.count ≤ n) × (self.old.mark ≤ n) }
         ensures refused { result.status ≢ 0 → self.new ≡ self.old }
         ensures lawful { result.status ≢ BAD_DATABASE →
-            IsLawfulOrLacks C.answers (seat_of self.old) self.old.mark moment change.now result }
+            IsLawfulOrLacks C.answers (seat_of self.old) self.old.mark self.old.handles moment change.now result }
+        ensures spared { closes_of change.now ≡ true → self.old.handles ≢ 0 → result.status ≢ NOT_ENOUGH_MEMORY }
     {
         let copies = prepared(
             alloc,

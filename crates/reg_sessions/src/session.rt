@@ -1,9 +1,9 @@
-ghost use Rattle.std.specs.Prelude.{◌≡◌, ◌≢◌, ◌+◌, ◌<◌, ◌≤◌, ◌==◌, ◌⊎◌, ℕ, [], ◌∷◌, ◌++◌, length, Some, IfNone, IfSome, OnErr, OnOk, if◌then◌else◌};
+ghost use Rattle.std.specs.Prelude.{◌≡◌, ◌≢◌, ◌+◌, ◌<◌, ◌≤◌, ◌==◌, ◌⊎◌, ℕ, [], ◌∷◌, ◌++◌, length, true, Some, IfNone, IfSome, OnErr, OnOk, if◌then◌else◌};
 ghost use mathlib.Core.List.{IsPrefix};
 ghost use Rattle.reg_model.specs.declared.answer.AnswerBody.TheVariants.{Refused};
-ghost use Rattle.reg_model.specs.declared.statuses.TheConstants.{BAD_DATABASE};
+ghost use Rattle.reg_model.specs.declared.statuses.TheConstants.{BAD_DATABASE, NOT_ENOUGH_MEMORY};
 ghost use Rattle.reg_sessions.specs.Locked.{IsLawfulOrLacks, IsLawfulAnswer};
-ghost use Rattle.reg_sessions.specs.Sessions.{SessionState, IsDropped, receipts_at, dropped_at, count_at, mark_at, seat_at, taken_at, popped_at, waiting_at, notifies_at, notice_of, receipt_of, mark_after, mark_told, notifies_after, status_told};
+ghost use Rattle.reg_sessions.specs.Sessions.{SessionState, IsDropped, receipts_at, dropped_at, count_at, mark_at, seat_at, taken_at, popped_at, waiting_at, notifies_at, handles_at, notice_of, receipt_of, mark_after, mark_told, closes, notifies_after, handles_after, status_told};
 
 use crate::gate::HiveGate;
 use crate::place::Place;
@@ -109,7 +109,7 @@ impl Session {
     /// Makes a change at a hive, at a moment (100 ns units since 1601): it waits for the hive's lock, and is answered as by
     /// `Hive::apply` of reg_calls. Where it is accepted, and only then, the session has one receipt more, of this moment, change and
     /// reply. 1009 also where the hive has had fewer entries than the session's mark there, which is never so at the hive that gave the seat. Want of
-    /// memory is 8, where nothing else refuses the change; a Close takes none.
+    /// memory is 8, where nothing else refuses the change, and never the answer to a Close while a handle of the session is open there.
     #[tactic(auto, using(crate::proofs::SessionPlaces::place_set))]
     pub fn change<Rt: Wait, G: HiveGate, C: Callback>(
         &mut self,
@@ -127,12 +127,14 @@ impl Session {
         ensures notices { (h : ℕ) → (taken_at h self.new ≡ taken_at h self.old) × (popped_at h self.new ≡ popped_at h self.old)
             × (waiting_at h self.new ≡ waiting_at h self.old) }
         ensures notifies { (h : ℕ) → notifies_at h self.new ≡ (if h == hive then notifies_after (notifies_at h self.old) change.now result else notifies_at h self.old) }
+        ensures handles { (h : ℕ) → handles_at h self.new ≡ (if h == hive then handles_after (handles_at h self.old) change.now result else handles_at h self.old) }
         ensures dropped { (h : ℕ) → dropped_at h self.new ≡ dropped_at h self.old }
         ensures kept { (self.new.number ≡ self.old.number) × (length self.new.places ≡ length self.old.places) }
         ensures refused { result.status ≢ 0 → self.new ≡ self.old }
         ensures later { result.status ≡ 0 → (n : ℕ) × (result.number ≡ Some n) × (count_at hive self.old ≤ n) × (mark_at hive self.old ≤ n) }
         ensures lawful { result.status ≢ BAD_DATABASE →
-            IsLawfulOrLacks C.answers (seat_at hive self.old) (mark_at hive self.old) moment change.now result }
+            IsLawfulOrLacks C.answers (seat_at hive self.old) (mark_at hive self.old) (handles_at hive self.old) moment change.now result }
+        ensures spared { closes change.now ≡ true → handles_at hive self.old ≢ 0 → result.status ≢ NOT_ENOUGH_MEMORY }
     {
         let lock = registry.lock(hive);
         let alloc = self.alloc;
@@ -157,6 +159,7 @@ impl Session {
         ensures notices { (h : ℕ) → (taken_at h self.new ≡ taken_at h self.old) × (popped_at h self.new ≡ popped_at h self.old)
             × (waiting_at h self.new ≡ waiting_at h self.old) }
         ensures notifies { (h : ℕ) → notifies_at h self.new ≡ notifies_at h self.old }
+        ensures handles { (h : ℕ) → handles_at h self.new ≡ handles_at h self.old }
         ensures dropped { (h : ℕ) → dropped_at h self.new ≡ dropped_at h self.old }
         ensures kept { (self.new.number ≡ self.old.number) × (length self.new.places ≡ length self.old.places) }
         ensures refused { status_told result.body ≢ 0 → self.new ≡ self.old }
@@ -181,6 +184,7 @@ impl Session {
         ensures none { IfNone result ((self.new ≡ self.old)
             × ((waiting_at hive self.old ≡ []) ⊎ (notifies_at hive self.old ≤ length (taken_at hive self.old)))) }
         ensures notifies { (h : ℕ) → notifies_at h self.new ≡ notifies_at h self.old }
+        ensures handles { (h : ℕ) → handles_at h self.new ≡ handles_at h self.old }
         ensures receipts { (h : ℕ) → receipts_at h self.new ≡ receipts_at h self.old }
         ensures marks { (h : ℕ) → mark_at h self.new ≡ mark_at h self.old }
         ensures dropped { (h : ℕ) → dropped_at h self.new ≡ dropped_at h self.old }

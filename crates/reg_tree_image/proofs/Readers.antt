@@ -22,3 +22,8 @@ pub mod SiblingTests
 pub mod BegunSteps
 pub mod CheckedSteps
 pub mod ValueRows
+pub mod PathSteps
+pub mod NamesListed
+pub mod PathValues
+pub mod PathNames
+pub mod KeysRead

@@ -18,3 +18,14 @@ pub mod TakenBins
 pub mod RingsFound
 pub mod WholePasses
 pub mod MinorVersions
+pub mod PathWalksSteps
+pub mod PathWalksParts
+pub mod PathWalksTold
+pub mod PathWalksNames
+pub mod PathWalksSorted
+pub mod PathWalksSearch
+pub mod PathWalksLists
+pub mod PathWalksKeys
+pub mod PathWalksValues
+pub mod PathWalks
+pub mod PathWalksListed

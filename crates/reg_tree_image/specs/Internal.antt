@@ -17,4 +17,6 @@ pub mod InputParts
 pub mod BlockFields
 pub mod FreeCells
 pub mod KeysNamed
+pub mod ReachedKeys
+pub mod KeysRead
 pub mod WholeTests

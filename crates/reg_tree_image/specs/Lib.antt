@@ -1,5 +1,10 @@
 pub mod WalkSteps
 pub mod LoadingWalk
+pub mod PathWalk
+pub mod KeyListing
+pub mod PathLoads
+pub mod ValuesAtPaths
+pub mod KeysAtPaths
 pub mod BaseBlock
 pub mod Images
 pub mod WalkedKeys

@@ -11,7 +11,8 @@ use Rattle.reg_tree_image.specs.declared.LoadFault.TheVariants.{Twice, NotInProf
 use Rattle.reg_tree_image.specs.declared.block.BaseBlock.{BaseBlock}
 use Rattle.reg_tree_image.specs.WalkSteps.{Seen}
 use Rattle.reg_tree_image.specs.BaseBlock.{block_walk}
-use Rattle.reg_arena.specs.Arena.{IsArena}
+use Rattle.reg_arena.specs.Arena.{IsArena, heap_of, Bins as ArenaBins}
+use Rattle.reg_arena.specs.Cells.{cell_at, cells_of}
 use Rattle.reg_shape.specs.Whole.{Whole}
 use Rattle.reg_tree_image.specs.Images.{nothing, image_of, loaded, fault_of}
 use Rattle.reg_tree_image.specs.CrowdedBins.{AreCrowded}
@@ -67,29 +68,6 @@ IsImageCrowded bytes =
     (block : BaseBlock) × (block_walk bytes nothing ≡ Ok (block, nothing))
     × AreCrowded false (take block.size (drop 4096 bytes)) block.minor block.root
 
--- why loading ended, where so much of an image was read and this is left. A read failed before all was read that was asked for; or the
--- reader came to its end before that. Otherwise all that was asked for was read, and no more, and it meets that fault; or it meets none, and
--- the new bins have no room for a key of it. Once the base block passes its tests, memory may lack at any time
-abbrev pub IsRefused : LoadFault → List ℕ → Option (List ℕ) → Type 0
-IsRefused Read image left = length image < asked_for image
-IsRefused Short image left = (length image < asked_for image) × (fault_of image ≡ Some Short) × IsAtEnd left
-IsRefused Limit image left =
-    (length image ≡ asked_for image) × ((fault_of image ≡ Some Limit) ⊎ ((fault_of image ≡ None) × IsImageCrowded image))
-IsRefused Memory image left = (length image ≤ asked_for image) × HasBlock image
-IsRefused fault image left = (length image ≡ asked_for image) × (fault_of image ≡ Some fault)
-
--- of the input so much was read, and it met that fault
-pub record MeetsFault (fault : LoadFault) (unread left : Option (List ℕ)) : Type 0 where
-  pub image : List ℕ
-  pub consumed : Consumes unread left image
-  pub within : length image ≤ 4096 + BINS_LIMIT
-  pub refused : IsRefused fault image left
-
--- a failed read, after which no more was asked of the reader; or none failed, where it ended otherwise
-abbrev pub IsBlamed : LoadFault → Option ℕ → Option ℕ → Type 0
-IsBlamed Read before after = Fails before after
-IsBlamed fault before after = Stays before after
-
 -- at the start of these bytes stands the image of a whole hive, whose bins are an arena's, with whatever behind it
 pub record HoldsOwn (bytes : List ℕ) : Type 0 where
   pub bins : List ℕ
@@ -101,6 +79,43 @@ pub record HoldsOwn (bytes : List ℕ) : Type 0 where
   pub arena : IsArena bins
   pub whole : Whole bins root
 
+-- why loading ended, where so much of an image was read and this is left. A read failed before all was read that was asked for; or the
+-- reader came to its end before that. Otherwise all that was asked for was read, and no more, and it meets that fault; or it meets none, bins
+-- are built of such an image, and have no room for a key of it. Once the base block passes its tests, memory may lack at any time
+abbrev pub IsRefusedBy : (List ℕ → Type 0) → LoadFault → List ℕ → Option (List ℕ) → Type 0
+IsRefusedBy IsBuilt Read image left = length image < asked_for image
+IsRefusedBy IsBuilt Short image left = (length image < asked_for image) × (fault_of image ≡ Some Short) × IsAtEnd left
+IsRefusedBy IsBuilt Limit image left =
+    (length image ≡ asked_for image) × ((fault_of image ≡ Some Limit) ⊎ ((fault_of image ≡ None) × IsImageCrowded image × IsBuilt image))
+IsRefusedBy IsBuilt Memory image left = (length image ≤ asked_for image) × HasBlock image
+IsRefusedBy IsBuilt fault image left = (length image ≡ asked_for image) × (fault_of image ≡ Some fault)
+
+-- bins are built of those images alone that are not of a whole hive
+abbrev pub IsForeign : List ℕ → Type 0
+IsForeign image = HoldsOwn image → ⊥
+
+-- bins are built of any image
+abbrev pub IsAny : List ℕ → Type 0
+IsAny image = ⊤
+
+abbrev pub IsRefused : LoadFault → List ℕ → Option (List ℕ) → Type 0
+IsRefused = IsRefusedBy IsForeign
+
+-- of the input so much was read, and it met that fault
+pub record MeetsFaultBy (IsBuilt : List ℕ → Type 0) (fault : LoadFault) (unread left : Option (List ℕ)) : Type 0 where
+  pub image : List ℕ
+  pub consumed : Consumes unread left image
+  pub within : length image ≤ 4096 + BINS_LIMIT
+  pub refused : IsRefusedBy IsBuilt fault image left
+
+abbrev pub MeetsFault : LoadFault → (unread left : Option (List ℕ)) → Type 0
+MeetsFault = MeetsFaultBy IsForeign
+
+-- a failed read, after which no more was asked of the reader; or none failed, where it ended otherwise
+abbrev pub IsBlamed : LoadFault → Option ℕ → Option ℕ → Type 0
+IsBlamed Read before after = Fails before after
+IsBlamed fault before after = Stays before after
+
 -- a fault that no bytes are to blame for: a read failed, or memory lacked
 abbrev pub IsOutside : LoadFault → Type 0
 IsOutside Read = ⊤
@@ -110,3 +125,13 @@ IsOutside fault = ⊥
 -- an image of a whole hive meets no other
 abbrev pub SparesOwn : LoadFault → Option (List ℕ) → Type 0
 SparesOwn fault unread = (bytes : List ℕ) → unread ≡ Some bytes → HoldsOwn bytes → IsOutside fault
+
+-- bins are these bytes as they stand, but for what free cells hold: they are as long, have the same cells, and these hold the same
+pub record StandAs (bins : ArenaBins) (bytes : List ℕ) : Type 0 where
+  pub long : length bins.bytes ≡ length bytes
+  pub cells : cells_of bins.bytes ≡ cells_of bytes
+  pub contents : (offset : ℕ) → heap_of bins offset ≡ cell_at bytes offset
+
+-- the image of a whole hive is taken as it stands
+abbrev pub TakesOwn : ArenaBins → Option (List ℕ) → Type 0
+TakesOwn bins unread = (bytes : List ℕ) → unread ≡ Some bytes → (own : HoldsOwn bytes) → StandAs bins own.bins

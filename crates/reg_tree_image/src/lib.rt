@@ -5,8 +5,9 @@
 //! here is one step of that walk, over bytes that nobody vouches for.
 //!
 //! The definitions right in `specs/` are the rules' own: `WalkSteps` (a step meets a fault, or gives what it read), `LoadingWalk`
-//! (the walk, record by record), `BaseBlock` (the first 4,096 bytes), `Images` (an image as it is written, and as it is loaded), and
-//! `WalkedKeys` with `CrowdedBins` (the keys that the walk comes to, and that the new bins have no room for one).
+//! (the walk, record by record), `BaseBlock` (the first 4,096 bytes), `Images` (an image as it is written, and as it is loaded),
+//! `WalkedKeys` with `CrowdedBins` (the keys that the walk comes to, and that the new bins have no room for one), and `PathWalk` with
+//! `KeyListing` and `PathLoads` (the walk along one path, to a key's value, or to a key that is listed).
 //! The readers keep a table of what is known of each cell (`CellTable`): whether it is allocated, and how it was named.
 //!
 //! It stands on reg_shape, whose readings and trees the walk spells, and on reg_records for the records. Its main type is
@@ -15,6 +16,8 @@
 //! `loading` reads an image (`input`), tests its base block (`block`) and cells (`scan`), and then its keys, by `walk` over a stack of
 //! `frames`, or by `checking`, which builds none. `begin` reads a key and builds it (`built_keys`, `first_keys`) where `room` was
 //! made for it, each record by a reader of its own, over `cells`, which names a cell in the `table`. `writing` makes an image, `tree_writing` writes one bin by bin.
+//! `path_loading` finds a value of an image by its path, by `path_walk`, which reads no more keys than it passes, and `path_listing` a
+//! key with its values and the names right below it.
 //! `free_cells` counts what of the bins is free, and `rebuilding` builds a tree anew in bins of its own.
 //!
 //! Suhanov, Windows registry file format specification, sections "Format of primary files", "Base block", "Hive bin" and "Cell".
@@ -39,6 +42,9 @@ mod lists;
 mod loading;
 mod met_names;
 mod names;
+mod path_listing;
+mod path_loading;
+mod path_walk;
 mod rebuilding;
 mod room;
 mod rows;
@@ -56,6 +62,8 @@ mod writing;
 pub use block::checksum;
 pub use free_cells::{free_bytes, is_sparse};
 pub use loading::{NumberedTree, load_anew, load_numbered, load_tree};
+pub use path_listing::{KeyAtPath, ListedValue, key_at_path};
+pub use path_loading::{ValueAtPath, value_at_path};
 pub use rebuilding::rebuild;
 use thiserror::Error;
 pub use tree_writing::write_tree;

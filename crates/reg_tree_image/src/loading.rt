@@ -9,7 +9,7 @@ ghost use Rattle.reg_shape.specs.Whole.{Whole};
 ghost use Rattle.reg_tree.specs.TreeKeys.{IsWholeWith, tree_in as tree_at};
 ghost use Rattle.reg_text.specs.Failures.{Stays};
 ghost use Rattle.reg_tree_image.specs.Images.{nothing, tree_in, bins_walk};
-ghost use Rattle.reg_tree_image.specs.Loads.{fault_number, ReadsImage, ReadsNumbered, MeetsFault, IsBlamed, SparesOwn};
+ghost use Rattle.reg_tree_image.specs.Loads.{fault_number, ReadsImage, ReadsNumbered, MeetsFault, MeetsFaultBy, IsForeign, IsAny, IsBlamed, SparesOwn, StandAs, TakesOwn};
 ghost use Rattle.reg_tree_image.specs.CrowdedBins.{AreCrowded};
 ghost use Rattle.reg_tree_image.specs.Internal.Stacks.{FailsAs};
 ghost use Rattle.reg_tree_image.specs.Internal.CheckedStacks.{Meets};
@@ -200,6 +200,8 @@ fn tree_of(
         × AreCrowded false bins.items block.minor block.root) fault (bins_walk bins.items block.minor block.root nothing)) }
     ensures own { wholes ≡ Wholes.Taken → block.minor ≡ 5 → IsArena bins.items → Whole bins.items block.root →
         IfErr result (λ fault. fault ≡ LoadFault.Memory) }
+    ensures stands { wholes ≡ Wholes.Taken → block.minor ≡ 5 → IsArena bins.items → Whole bins.items block.root →
+        IfOk result (λ tree. StandAs tree.bins bins.items) }
 {
     match ring_to_take(alloc, bins.as_slice(), block, wholes) {
         Ok(Some(ring)) => take_whole(alloc, bins, block.root, ring.as_slice()),
@@ -216,10 +218,12 @@ fn load_by<R: Source>(
 ) -> Result<NumberedTree, LoadFault>
     ensures ok { IfOk result (λ numbered.
         ReadsNumbered (R.remaining input.old) (R.remaining input.new) numbered.tree.tree numbered.sequence) }
-    ensures err { IfErr result (λ fault. MeetsFault fault (R.remaining input.old) (R.remaining input.new)) }
+    ensures err { IfErr result (λ fault. MeetsFaultBy (λ image. wholes ≡ Wholes.Taken → IsForeign image) fault
+        (R.remaining input.old) (R.remaining input.new)) }
     ensures failures { MatchResult result (λ _. Stays (R.failures input.old) (R.failures input.new))
         (λ fault. IsBlamed fault (R.failures input.old) (R.failures input.new)) }
     ensures own { wholes ≡ Wholes.Taken → IfErr result (λ fault. SparesOwn fault (R.remaining input.old)) }
+    ensures stands { wholes ≡ Wholes.Taken → IfOk result (λ numbered. TakesOwn numbered.tree.bins (R.remaining input.old)) }
 {
     let mut head = [0u8; 4096];
     fill(input, &mut head)?;
@@ -249,6 +253,7 @@ pub fn load_tree<R: Source>(alloc: Global, input: &mut R) -> Result<Tree, LoadFa
     ensures failures { MatchResult result (λ _. Stays (R.failures input.old) (R.failures input.new))
         (λ fault. IsBlamed fault (R.failures input.old) (R.failures input.new)) }
     ensures own { IfErr result (λ fault. SparesOwn fault (R.remaining input.old)) }
+    ensures stands { IfOk result (λ tree. TakesOwn tree.bins (R.remaining input.old)) }
 {
     match load_numbered(alloc, input) {
         Ok(numbered) => Ok(numbered.tree),
@@ -264,6 +269,7 @@ pub fn load_numbered<R: Source>(alloc: Global, input: &mut R) -> Result<Numbered
     ensures failures { MatchResult result (λ _. Stays (R.failures input.old) (R.failures input.new))
         (λ fault. IsBlamed fault (R.failures input.old) (R.failures input.new)) }
     ensures own { IfErr result (λ fault. SparesOwn fault (R.remaining input.old)) }
+    ensures stands { IfOk result (λ numbered. TakesOwn numbered.tree.bins (R.remaining input.old)) }
 {
     load_by(alloc, input, Wholes::Taken)
 }
@@ -273,7 +279,7 @@ pub fn load_numbered<R: Source>(alloc: Global, input: &mut R) -> Result<Numbered
 pub fn load_anew<R: Source>(alloc: Global, input: &mut R) -> Result<NumberedTree, LoadFault>
     ensures ok { IfOk result (λ numbered.
         ReadsNumbered (R.remaining input.old) (R.remaining input.new) numbered.tree.tree numbered.sequence) }
-    ensures err { IfErr result (λ fault. MeetsFault fault (R.remaining input.old) (R.remaining input.new)) }
+    ensures err { IfErr result (λ fault. MeetsFaultBy IsAny fault (R.remaining input.old) (R.remaining input.new)) }
     ensures failures { MatchResult result (λ _. Stays (R.failures input.old) (R.failures input.new))
         (λ fault. IsBlamed fault (R.failures input.old) (R.failures input.new)) }
 {

@@ -4,13 +4,14 @@
 
 ghost use Rattle.std.specs.Prelude.{◌≡◌, ◌<◌, ◌≤◌, ◌%◌, ℕ, List, Ok, IfOk, IfErr, IfSome, MatchOption, length, map};
 ghost use Rattle.reg_heap.specs.declared.limits.TheConstants.{BINS_LIMIT};
-ghost use Rattle.reg_arena.specs.Arena.{IsArena, heap_of};
+ghost use Rattle.reg_arena.specs.Arena.{IsArena};
 ghost use Rattle.reg_arena.specs.Cells.{cell_at};
 ghost use Rattle.reg_shape.specs.Whole.{Whole};
 ghost use Rattle.reg_tree.specs.TreeKeys.{IsWholeWith, tree_in as tree_at};
 ghost use Rattle.reg_written.specs.ReadKeys.{security_in};
 ghost use Rattle.reg_written.specs.SecurityRings.{IsRingOf};
 ghost use Rattle.reg_tree_image.specs.Images.{nothing, tree_in, bins_walk};
+ghost use Rattle.reg_tree_image.specs.Loads.{StandAs};
 ghost use Rattle.reg_tree_image.specs.Internal.CheckedStacks.{Meets};
 ghost use Rattle.reg_tree_image.specs.Internal.WholeTests.{IsMet};
 
@@ -110,7 +111,7 @@ pub fn take_whole(alloc: Global, bins: Vec<u8>, root: u32, ring: &[u32]) -> Resu
     requires arena { IsArena bins.items }
     requires whole { IsWholeWith bins.items root ring.now }
     ensures ok { IfOk result (λ tree. tree.tree ≡ tree_at bins.items root) }
-    ensures stands { IfOk result (λ tree. (offset : ℕ) → heap_of tree.bins offset ≡ cell_at bins.items offset) }
+    ensures stands { IfOk result (λ tree. StandAs tree.bins bins.items) }
     ensures err { IfErr result (λ fault. fault ≡ LoadFault.Memory) }
 {
     let Ok(arena) = Arena::adopt(alloc, bins) else {

@@ -2,7 +2,8 @@
 //!
 //! Its one contract: each call writes just the text that its definition says, byte for byte, or a front of it where a write or memory
 //! fails. [`dump`] tells all keys (`specs/DumpTexts.antt`), [`count`] and [`check_line`] how many keys and values there are, [`list`]
-//! and [`list_tree`] a key (`specs/Listings.antt`), and [`value_text`] is a value's data as one line (`specs/ValueTexts.antt`).
+//! and [`list_tree`] a key (`specs/Listings.antt`), and [`value_text`] is a value's data as one line (`specs/ValueTexts.antt`), which
+//! [`tell_value`] writes.
 //! [`list_at`] and [`get_at`] find the key or the value first, by a path and a name (`specs/PathQueries.antt`); where there is none, they say
 //! so and write nothing. It stands on reg_tree, whose trees it reads, and on reg_text.
 //!
@@ -35,5 +36,5 @@ pub use listing::{list, list_tree};
 pub use output::{finish, put_digits, put_escaped, settle};
 pub use path_fault::PathFault;
 pub use value::value_text;
-pub use value_queries::get_at;
+pub use value_queries::{get_at, tell_value};
 pub use walk::{Pending, Walk};

@@ -1,10 +1,11 @@
 //! A value looked up and told.
-ghost use Rattle.std.specs.Prelude.{◌≡◌, ◌<◌, length, slice_get, Some, OnOk, IfOk, IfErr, MatchResult};
+ghost use Rattle.std.specs.Prelude.{◌≡◌, ◌≢◌, ◌<◌, ℕ, List, length, slice_get, Some, OnOk, IfOk, IfErr, MatchResult};
 ghost use Rattle.std.specs.Io.KnownBytes.{Appends};
 ghost use Rattle.reg_heap.specs.Paths.{Path, Member};
 ghost use Rattle.reg_heap.specs.Edits.{values_at};
 ghost use Rattle.reg_tree.specs.TreeKeys.{IsAt};
 ghost use Rattle.reg_text.specs.Failures.{Stays};
+ghost use Rattle.reg_tree_text.specs.declared.fault.DumpFault.{DumpFault};
 ghost use Rattle.reg_tree_text.specs.DumpFronts.{IsStopped, IsBlamed};
 ghost use Rattle.reg_tree_text.specs.PathBlames.{PathBlames};
 ghost use Rattle.reg_tree_text.specs.PathQueries.{value_at, shown as shown_text, IsTold, GetStops};
@@ -14,6 +15,19 @@ use crate::{DumpFault, PathFault, value_text};
 use reg_text::{Sink, write_counted};
 use reg_tree::{Node, Tree};
 use std::alloc::{AllocError, Global};
+
+/// How a value of that type and with these bytes is told.
+fn told(alloc: Global, kind: u32, bytes: Vec<u8>, is_raw: bool) -> Result<Vec<u8>, AllocError>
+    ensures { (name : List ℕ) →
+        IfOk result (λ text. text.items ≡ shown_text is_raw (record { name = name; kind = kind; bytes = bytes.items })) }
+{
+    if is_raw {
+        return Ok(bytes);
+    }
+    let mut text = value_text(alloc, kind, &bytes)?;
+    text.push_str("\n")?;
+    Ok(text.into_bytes())
+}
 
 /// How the value of a key at an index is told.
 fn shown(
@@ -28,21 +42,17 @@ fn shown(
         IfOk result (λ bytes. bytes.items ≡ shown_text is_raw value) }
 {
     let bytes = tree.value_bytes(alloc, node, index)?;
-    if is_raw {
-        return Ok(bytes);
-    }
     let Some(value) = tree.value(node, index) else {
         unreachable!()
     };
-    let mut text = value_text(alloc, value.kind, &bytes)?;
-    text.push_str("\n")?;
-    Ok(text.into_bytes())
+    told(alloc, value.kind, bytes, is_raw)
 }
 
 /// Writes some bytes and has the writer pass them on.
 fn write_whole<W: Sink>(writer: &mut W, bytes: &[u8]) -> Result<(), DumpFault>
     ensures ok { OnOk result (Appends (W.contents writer.old) (W.contents writer.new) bytes.now) }
     ensures err { IfErr result (λ fault. IsStopped (W.contents writer.old) (W.contents writer.new) bytes.now fault) }
+    ensures ample { IfErr result (λ fault. fault ≢ DumpFault.Memory) }
     ensures flushed { OnOk result (W.is_flushed writer.new) }
     ensures failures { MatchResult result (λ _. Stays (W.failures writer.old) (W.failures writer.new))
         (λ fault. IsBlamed fault (W.failures writer.old) (W.failures writer.new)) }
@@ -56,6 +66,32 @@ fn write_whole<W: Sink>(writer: &mut W, bytes: &[u8]) -> Result<(), DumpFault>
         Ok(()) => Ok(()),
         Err(_) => Err(DumpFault::Write { written }),
     }
+}
+
+/// Tells a value of that type and with these bytes: its data as a line ([`crate::value_text`]), or with `is_raw` its bytes.
+///
+/// `Memory` where it lacks, and then nothing was written; `Write` where a write failed, after so many bytes of the text. Of the writer's
+/// calls just one failed where a write is told, and else none.
+pub fn tell_value<W: Sink>(
+    alloc: Global,
+    kind: u32,
+    bytes: Vec<u8>,
+    is_raw: bool,
+    writer: &mut W,
+) -> Result<(), DumpFault>
+    ensures ok { (name : List ℕ) → OnOk result (Appends (W.contents writer.old) (W.contents writer.new)
+        (shown_text is_raw (record { name = name; kind = kind; bytes = bytes.items }))) }
+    ensures err { (name : List ℕ) → IfErr result (λ fault. IsStopped (W.contents writer.old) (W.contents writer.new)
+        (shown_text is_raw (record { name = name; kind = kind; bytes = bytes.items })) fault) }
+    ensures unwritten { IfErr result (λ fault. fault ≡ DumpFault.Memory → W.contents writer.new ≡ W.contents writer.old) }
+    ensures flushed { OnOk result (W.is_flushed writer.new) }
+    ensures failures { MatchResult result (λ _. Stays (W.failures writer.old) (W.failures writer.new))
+        (λ fault. IsBlamed fault (W.failures writer.old) (W.failures writer.new)) }
+{
+    let Ok(text) = told(alloc, kind, bytes, is_raw) else {
+        return Err(DumpFault::Memory);
+    };
+    write_whole(writer, &text)
 }
 
 /// Tells the value of a name, folded, of the key that a path leads to from the root: its data as a line ([`crate::value_text`]),

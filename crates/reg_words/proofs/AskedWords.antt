@@ -107,7 +107,7 @@ word_of (Stream request) = stream_word request
 word_of (Dump file) = codes "dump"
 word_of (Check files) = codes "check"
 word_of (Listing file path is_whole) = codes "ls"
-word_of (Get file path name is_raw) = codes "get"
+word_of (Get file path name is_raw is_whole) = codes "get"
 word_of (Find file pattern places) = codes "find"
 word_of (Diff old new) = codes "diff"
 word_of (Export file path form) = codes "export"
@@ -120,7 +120,7 @@ named found (Stream request) h = stream_named found request h
 named found (Dump file) h = h.0
 named found (Check files) h = h.0
 named found (Listing file path is_whole) h = h.0
-named found (Get file path name is_raw) h = h.0
+named found (Get file path name is_raw is_whole) h = h.0
 named found (Find file pattern places) h = h.0
 named found (Diff old new) h = h.0
 named found (Export file path form) h = h.0
@@ -161,7 +161,7 @@ none_asked name rows none (Stream request) h =
 none_asked name rows none (Dump file) h = none.no_dump_word (named (name, rows) (Dump file) h)
 none_asked name rows none (Check files) h = none.no_check_word (named (name, rows) (Check files) h)
 none_asked name rows none (Listing file path is_whole) h = none.no_ls_word (named (name, rows) (Listing file path is_whole) h)
-none_asked name rows none (Get file path value is_raw) h = none.no_get_word (named (name, rows) (Get file path value is_raw) h)
+none_asked name rows none (Get file path value is_raw is_whole) h = none.no_get_word (named (name, rows) (Get file path value is_raw is_whole) h)
 none_asked name rows none (Find file pattern places) h = none.no_find_word (named (name, rows) (Find file pattern places) h)
 none_asked name rows none (Diff old new) h = none.no_diff_word (named (name, rows) (Diff old new) h)
 none_asked name rows none (Export file path form) h = none.no_export_word (named (name, rows) (Export file path form) h)
@@ -198,8 +198,8 @@ module _ (rows : List Row) where
 
   pub no_get : ((first_of (codes "file") rows ≡ None) ⊎ (first_of (codes "path") rows ≡ None)) → (request : Request) →
       Asks (codes "get", rows) request → ⊥
-  no_get (inl e) (Get file path value is_raw) h = none_there _ file.now e h.1
-  no_get (inr e) (Get file path value is_raw) h = none_there _ path.now e h.2
+  no_get (inl e) (Get file path value is_raw is_whole) h = none_there _ file.now e h.1
+  no_get (inr e) (Get file path value is_raw is_whole) h = none_there _ path.now e h.2
   no_get e (Stream request) h = other_stream (codes "get", rows) (codes "get") request refl refl refl refl refl h
   no_get e request h = other (codes "get") rows request refl refl h
 

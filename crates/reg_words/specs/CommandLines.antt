@@ -82,12 +82,15 @@ abbrev pub list_command : App
 list_command =
     with_rule (with_rule (with_rule (new_app (codes "ls")) (file_rule true)) (place_rule (codes "path") false)) (flag_rule (codes "tree"))
 
--- `get`, of a file and a path, with a value's name that may be left out, and whether the value's bytes alone are written
+-- `get`, of a file and a path, with a value's name that may be left out, whether the value's bytes alone are written, and whether the whole
+-- hive is tested first
 abbrev pub get_command : App
 get_command =
     with_rule
+    (with_rule
     (with_rule (with_rule (with_rule (new_app (codes "get")) (file_rule true)) (place_rule (codes "path") true)) (place_rule (codes "value") false))
-    (flag_rule (codes "raw"))
+    (flag_rule (codes "raw")))
+    (flag_rule (codes "whole"))
 
 -- `find`, of a file and a pattern, and where it is looked for
 abbrev pub find_command : App
@@ -137,11 +140,12 @@ query_commands =
     export_command.top
 
 -- `clap`'s command `regtool`, one of whose subcommands must be there: `run` with the options `--image` of a number of 32 bits and
--- `--workers` of one from 1 to 16, which may be left out; `dump`, which may have a file, and `check`, which may have files; `ls` with a file, a path that may be left out, and the flag
--- `--tree`; `get` with a file, a path, a value's name that may be left out, and the flag `--raw`; `find` with a file, a pattern and the
--- option `--in`; `diff` with two files; `export` with a file, a path that may be left out, the option `--as`, which must be given, and the
--- flag `--utf8`; `new` with a file and the option `--name`; and `edit` and `import`, each with a file, the options `--output` and `--at`,
--- which is a number of 64 bits, and the flags `--now` and `--dry-run`, and `edit` with the flag `--keep-going`
+-- `--workers` of one from 1 to 16, which may be left out; `dump`, which may have a file, and `check`, which may have files; `ls` with a
+-- file, a path that may be left out, and the flag `--tree`; `get` with a file, a path, a value's name that may be left out, and the flags
+-- `--raw` and `--whole`; `find` with a file, a pattern and the option `--in`; `diff` with two files; `export` with a file, a path that may
+-- be left out, the option `--as`, which must be given, and the flag `--utf8`; `new` with a file and the option `--name`; and `edit` and
+-- `import`, each with a file, the options `--output` and `--at`, which is a number of 64 bits, and the flags `--now` and `--dry-run`, and
+-- `edit` with the flag `--keep-going`
 unfoldable pub regtool : App
 regtool =
     with_subcommand
@@ -202,9 +206,10 @@ Asks found (Check files) = (found.0 ≡ codes "check") × (all_of (codes "files"
 Asks found (Listing file path is_whole) =
     (found.0 ≡ codes "ls") × (first_of (codes "file") found.1 ≡ Some file.now) × (path.now ≡ unwrap_or (first_of (codes "path") found.1) [])
     × ((is_whole ≡ true) ↔ IsSet (codes "tree") found.1)
-Asks found (Get file path name is_raw) =
+Asks found (Get file path name is_raw is_whole) =
     (found.0 ≡ codes "get") × (first_of (codes "file") found.1 ≡ Some file.now) × (first_of (codes "path") found.1 ≡ Some path.now)
     × (name.now ≡ unwrap_or (first_of (codes "value") found.1) []) × ((is_raw ≡ true) ↔ IsSet (codes "raw") found.1)
+    × ((is_whole ≡ true) ↔ IsSet (codes "whole") found.1)
 Asks found (Find file pattern places) =
     (found.0 ≡ codes "find") × (first_of (codes "file") found.1 ≡ Some file.now)
     × (first_of (codes "pattern") found.1 ≡ Some pattern.now) × AsksForPlaces found.1 places

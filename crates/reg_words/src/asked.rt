@@ -324,6 +324,7 @@ fn get_of<'a>(file: &'a str, matches: &ArgMatches<'a>) -> Option<Request<'a>>
             path,
             name: matches.get_str("value").unwrap_or(""),
             is_raw: is_set(matches, "raw"),
+            is_whole: is_set(matches, "whole"),
         }),
         None => None,
     }

@@ -218,7 +218,8 @@ fn get_command<'a>(alloc: Global) -> Result<Command<'a>, AllocError>
             "NAME",
             "The value, the default one where none is given",
         ))?
-        .arg(flag_arg(alloc, "raw", "Write its bytes"))
+        .arg(flag_arg(alloc, "raw", "Write its bytes"))?
+        .arg(flag_arg(alloc, "whole", "Test the whole hive first"))
 }
 
 fn new_command<'a>(alloc: Global) -> Result<Command<'a>, AllocError>

@@ -94,6 +94,8 @@ pub enum Request<'a> {
         name: &'a str,
         /// Whether its bytes are written as they are.
         is_raw: bool,
+        /// Whether the whole hive is tested first, and not only what is read on the way.
+        is_whole: bool,
     },
     /// The keys and values of a file that a pattern matches.
     Find {

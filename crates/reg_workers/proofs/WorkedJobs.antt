@@ -14,8 +14,8 @@ use Rattle.reg_script.specs.LineMeanings.{reading, verb_of, by_verb}
 use Rattle.reg_sessions.specs.declared.job.Work.{Work}
 use Rattle.reg_sessions.specs.declared.job.Done.{Done}
 use Rattle.reg_sessions.specs.declared.job.Job.{Job}
-use Rattle.reg_sessions.specs.Sessions.{SessionState, IsFresh, no_session, session_of, receipts_at, dropped_at, mark_at, taken_at}
-use Rattle.reg_sessions.specs.Jobs.{AreReady, AreWithin, IsDone, IsLawfulDone, AreLawful, are_of_kinds, receipts_by, notices_by, mark_by}
+use Rattle.reg_sessions.specs.Sessions.{SessionState, IsFresh, no_session, session_of, receipts_at, dropped_at, mark_at, handles_at, taken_at}
+use Rattle.reg_sessions.specs.Jobs.{AreReady, AreWithin, IsDone, IsLawfulDone, AreLawful, are_of_kinds, receipts_by, notices_by, mark_by, handles_by}
 use Rattle.reg_workers.specs.Tasks.{Settings, first_settings, set_by, Task, bad_line, works, task_of, tasks_of, works_of}
 use Rattle.reg_workers.specs.Workers.{fresh_session}
 use Rattle.reg_workers.specs.Internal.Parts.{PartState, no_part, part_of, part_at}
@@ -163,19 +163,23 @@ ready hives sessions parts jobs made same fresh all s d below =
           subst (λ (n : ℕ). AreWithin n (get_or jobs s d).work.items) (sym seats) (subst (λ (ws : List Work). AreWithin hives ws) (sym j.work) (all s)));
     }
 
--- what is lawful for a session without receipts whose marks are 0 is lawful for a fresh one
+-- what is lawful for a session without receipts and open handles whose marks are 0 is lawful for a fresh one
 lawful_from : {C : Type 0} (answers : C → Answers) (session : SessionState) (s : ℕ) (work : List Work) (done : List Done) → session.number ≡ s →
-    ((h : ℕ) → receipts_at h session ≡ []) → ((h : ℕ) → dropped_at h session ≡ 0) → ((h : ℕ) → mark_at h session ≡ 0) → AreLawful answers session work done →
+    ((h : ℕ) → receipts_at h session ≡ []) → ((h : ℕ) → dropped_at h session ≡ 0) → ((h : ℕ) → mark_at h session ≡ 0) →
+    ((h : ℕ) → handles_at h session ≡ 0) → AreLawful answers session work done →
     AreLawful answers (fresh_session s) work done
-lawful_from answers session s work done is none undropped zeros all i w d asked told =
+lawful_from answers session s work done is none undropped zeros closed all i w d asked told =
     let new : List Receipt = receipts_by w.hive (take i work) (take i done) in
     let seats : seat session.number (dropped_at w.hive session + length (receipts_at w.hive session ++ new)) ≡ seat s (0 + length new) =
     ap (λ (n : ℕ). seat n (dropped_at w.hive session + length (receipts_at w.hive session ++ new))) is
     ∙ ap (λ (n : ℕ). seat s (n + length (receipts_at w.hive session ++ new))) (undropped w.hive)
     ∙ ap (λ (rs : List Receipt). seat s (0 + length (rs ++ new))) (none w.hive) in
-    subst (λ (m : ℕ). IsLawfulDone answers (seat s (0 + length new)) (mark_by w.hive m (take i work) (take i done)) w.moment w.ask d) (zeros w.hive)
-    (subst (λ (p : Seat). IsLawfulDone answers p (mark_by w.hive (mark_at w.hive session) (take i work) (take i done)) w.moment w.ask d) seats
-    (all i w d asked told))
+    let P : Seat → (reached left : ℕ) → Type 0 = λ p reached left.
+    IsLawfulDone answers p (mark_by w.hive reached (take i work) (take i done)) (handles_by w.hive left (take i work) (take i done)) w.moment w.ask d in
+    subst (λ (n : ℕ). P (seat s (0 + length new)) 0 n) (closed w.hive)
+    (subst (λ (m : ℕ). P (seat s (0 + length new)) m (handles_at w.hive session)) (zeros w.hive)
+    (subst (λ (p : Seat). P p (mark_at w.hive session) (handles_at w.hive session)) seats
+    (all i w d asked told)))
 
 worked_one : {C : Type 0} (answers : C → Answers) (s hives : ℕ) (session : SessionState) (part : PartState) (old new : Job) → IsFresh s hives session → IsJob session part old →
     IsDone answers old new → IsWorked answers s part new
@@ -192,7 +196,8 @@ worked_one answers s hives session part old new fresh job done =
           (lawful_from answers old.session s old.work.items done.done.done (ap (λ (x : SessionState). x.number) job.is_session ∙ fresh.is_number)
           (λ h. ap (λ (x : SessionState). receipts_at h x) job.is_session ∙ fresh.receipts h)
           (λ h. ap (λ (x : SessionState). dropped_at h x) job.is_session ∙ fresh.dropped h)
-          (λ h. ap (λ (x : SessionState). mark_at h x) job.is_session ∙ fresh.marks h) done.done.lawful));
+          (λ h. ap (λ (x : SessionState). mark_at h x) job.is_session ∙ fresh.marks h)
+          (λ h. ap (λ (x : SessionState). handles_at h x) job.is_session ∙ fresh.handles h) done.done.lawful));
       receipts = λ h.
           done.done.receipts h
           ∙ ap (λ (rs : List Receipt). rs ++ receipts_by h old.work.items done.done.done) (ap (λ (x : SessionState). receipts_at h x) job.is_session ∙ fresh.receipts h)

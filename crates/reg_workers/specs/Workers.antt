@@ -63,7 +63,7 @@ abbrev pub IsEnd : Bool → List Held → (ℕ → List Task) → (ℕ → List 
 IsEnd true hives tasks done n = AreWhole hives × ((h : ℕ) → h < length hives → HoldsAll hives tasks done n h)
 IsEnd false hives tasks done n = Differs hives tasks done ⊎ (AreWhole hives → ⊥)
 
--- a session before its first line: without receipts, and with marks of 0
+-- a session before its first line: without receipts and open handles, and with marks of 0
 abbrev pub fresh_session : ℕ → SessionState
 fresh_session s = record { number = s; places = [] }
 

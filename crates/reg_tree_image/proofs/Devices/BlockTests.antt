@@ -64,3 +64,21 @@ block-good bytes block seen after e =
         let q : BaseBlock × Seen = (block, after) in
         let same : p ≡ q = cc in
         ap (λ (x : BaseBlock × Seen). x.0.size) same
+
+-- the tests name nothing
+pub block-names-nothing : (bytes : List ℕ) (block : BaseBlock) (seen after : Seen) → block_walk bytes seen ≡ Ok (block, after) → seen ≡ after
+block-names-nothing bytes block seen after e =
+    let a = passes Signature (word bytes 0 == 0x66676572) _ seen (block, after) e in
+    let b = passes Version (is_version bytes) _ seen (block, after) a.1 in
+    let c = passes Checksum (word bytes 508 == checksum_of bytes) _ seen (block, after) b.1 in
+    let d = passes Dirty (word bytes 4 == word bytes 8) _ seen (block, after) c.1 in
+    let f = passes Bins (nat_lt 0 (word bytes 40) && (word bytes 40 % 4096 == 0)) _ seen (block, after) d.1 in
+    let l = passes Limit (nat_le (word bytes 40) 268435456) _ seen (block, after) f.1 in
+    same (record { minor = word bytes 24; root = word bytes 36; size = word bytes 40 }) l.1
+  where
+    same : (b : BaseBlock) → give b seen ≡ Ok (block, after) → seen ≡ after
+    same b e =
+        let p : BaseBlock × Seen = (b, seen) in
+        let q : BaseBlock × Seen = (block, after) in
+        let same : p ≡ q = cc in
+        ap (λ (x : BaseBlock × Seen). x.1) same

@@ -87,7 +87,7 @@ module _ (heap : Heap) where
       meets-bind _ _ (meets-cell heap path (λ _. n.kind) n.offset) (λ content.
       meets-then _ _ (meets-check Record (nat_le n.size (length content)) tt) (meets-give (take n.size content)))
 
-  meets-row : (path : List ℕ) (kind : Kind) (count offset : ℕ) → Meets (row_from heap path kind count offset)
+  pub meets-row : (path : List ℕ) (kind : Kind) (count offset : ℕ) → Meets (row_from heap path kind count offset)
   meets-row path kind count offset = meets-bind _ _ (meets-cell heap path (λ _. kind) offset)
       (λ content. meets-given Record (row_in count content) tt)
 
@@ -118,13 +118,13 @@ module _ (heap : Heap) where
   meets-far path true (suc n) offset = meets-bytes path (record { kind = Data; size = suc n; offset = offset })
   meets-far path false (suc n) offset = meets-big path (suc n) offset
 
-  meets-named_value : (path : List ℕ) (offset : ℕ) → Meets (named_value heap path offset)
+  pub meets-named_value : (path : List ℕ) (offset : ℕ) → Meets (named_value heap path offset)
   meets-named_value path offset =
       meets-bind _ _ (meets-cell heap path (λ _. Value) offset) (λ content.
       meets-bind _ _ (meets-read (vk_of content)) (λ value.
       meets-bind _ _ (meets-value_name value) (λ name. meets-give (value, name))))
 
-  meets-named_key : (path : List ℕ) (offset : ℕ) → Meets (named_key heap path offset)
+  pub meets-named_key : (path : List ℕ) (offset : ℕ) → Meets (named_key heap path offset)
   meets-named_key path offset =
       meets-bind _ _ (meets-cell heap path (λ _. Key) offset) (λ content.
       meets-bind _ _ (meets-read (nk_of content)) (λ key.
@@ -134,7 +134,7 @@ module _ (heap : Heap) where
   meets-head path here offset =
       meets-bind _ _ (meets-named_key path offset) (λ head. meets-then _ _ (meets-no_sibling (here head.1)) (meets-give head))
 
-  meets-leaf_from : (path : List ℕ) (offset : ℕ) → Meets (leaf_from heap path offset)
+  pub meets-leaf_from : (path : List ℕ) (offset : ℕ) → Meets (leaf_from heap path offset)
   meets-leaf_from path offset =
       meets-bind _ _ (meets-cell heap path (λ _. Leaf) offset) (λ content.
       meets-bind _ _ (meets-given Record (list_of content) tt) (λ list. meets-then _ _ (meets-leaf list.form) (meets-give list)))
@@ -153,7 +153,7 @@ module _ (heap : Heap) where
   meets-listed go path entries FastLeaf g = meets-then _ _ (meets-keys go 0 entries g) (meets-give tt)
   meets-listed go path entries HashLeaf g = meets-then _ _ (meets-keys go 0 entries g) (meets-give tt)
 
-  meets-list_from : (path : List ℕ) (offset : ℕ) → Meets (list_from heap path offset)
+  pub meets-list_from : (path : List ℕ) (offset : ℕ) → Meets (list_from heap path offset)
   meets-list_from path offset = meets-bind _ _ (meets-cell heap path (kind_met SubList) offset)
       (λ content. meets-given Record (list_of content) tt)
 
@@ -164,7 +164,7 @@ module _ (heap : Heap) where
       (λ list. meets-listed go path list.entries list.form g)
 
 module _ (heap : Heap) (minor : ℕ) where
-  meets-data : (path : List ℕ) (inline : Bool) (size offset : ℕ) → Meets (data_by heap minor path inline size offset)
+  pub meets-data : (path : List ℕ) (inline : Bool) (size offset : ℕ) → Meets (data_by heap minor path inline size offset)
   meets-data path true size offset =
       meets-then _ _ (meets-check Record (nat_le (inline_size size) 4) tt) (meets-give (take (inline_size size) (little_bytes 4 offset)))
   meets-data path false size offset =
@@ -183,7 +183,7 @@ module _ (heap : Heap) (minor : ℕ) where
   meets-values_each path before (offset ∷ offsets) =
       meets-bind _ _ (meets-value path before offset) (λ member. meets-values_each path (before ++ member ∷ []) offsets)
 
-  meets-values : (path : List ℕ) (count offset : ℕ) → Meets (values_from heap minor path count offset)
+  pub meets-values : (path : List ℕ) (count offset : ℕ) → Meets (values_from heap minor path count offset)
   meets-values path zero offset = meets-give []
   meets-values path (suc n) offset =
       meets-then _ _ (meets-check Limit (nat_le (suc n) VALUES_LIMIT) tt)

@@ -12,7 +12,7 @@ use Rattle.reg_tree_image.specs.declared.block.BaseBlock.{BaseBlock}
 use Rattle.reg_tree_image.specs.WalkSteps.{Seen, Step, ◌>>=◌, ◌>>◌, onward, check}
 use Rattle.reg_tree_image.specs.BaseBlock.{block_walk}
 use Rattle.reg_tree_image.specs.Images.{nothing, bins_walk, image_walk, tree_in, fault_in, loaded, fault_of}
-use Rattle.reg_tree_image.specs.Loads.{asked_for, HasBlock, IsRefused}
+use Rattle.reg_tree_image.specs.Loads.{asked_for, HasBlock, IsRefusedBy}
 use Rattle.reg_tree_image.specs.Internal.InputParts.{IsCut, IsGivenUp}
 use Rattle.reg_tree_image.specs.CrowdedBins.{AreCrowded}
 use Rattle.reg_tree_image.specs.Internal.Stacks.{FailsAs}
@@ -21,16 +21,16 @@ use Rattle.reg_tree_image.proofs.Devices.FaultsOfSteps.{IsOfImage}
 use Rattle.reg_tree_image.proofs.Devices.FaultsOfWalks.{bins-meet}
 use Rattle.reg_tree_image.proofs.Devices.BlockTests.{block-meets, block-good}
 
-at-least : (a b : ℕ) → a ≤ b → nat_le a b ≡ true
+pub at-least : (a b : ℕ) → a ≤ b → nat_le a b ≡ true
 at-least a b l = grind (arith, nat_tests)
 
-too-few : (a b : ℕ) → b < a → nat_le a b ≡ false
+pub too-few : (a b : ℕ) → b < a → nat_le a b ≡ false
 too-few a b l = grind (arith, nat_tests)
 
-below : (a b : ℕ) → a < b → nat_lt a b ≡ true
+pub below : (a b : ℕ) → a < b → nat_lt a b ≡ true
 below a b l = grind (arith, nat_tests)
 
-not-below : (a b : ℕ) → b ≤ a → nat_lt a b ≡ false
+pub not-below : (a b : ℕ) → b ≤ a → nat_lt a b ≡ false
 not-below a b l = grind (arith, nat_tests)
 
 -- what follows the base block
@@ -54,26 +54,26 @@ none-is bytes ok = by (image_walk bytes nothing) ok
 
 -- ---- fewer bytes than a base block has
 
-asked-first : (bytes : List ℕ) → length bytes < 4096 → asked_for bytes ≡ 4096
+pub asked-first : (bytes : List ℕ) → length bytes < 4096 → asked_for bytes ≡ 4096
 asked-first bytes l = rw (below (length bytes) 4096 l) refl
 
 short-block : (bytes : List ℕ) → length bytes < 4096 → image_walk bytes nothing ≡ Err Short
 unfolding image_walk
 short-block bytes l = rw (too-few 4096 (length bytes) l) refl
 
-pub refused-before-block : (fault : LoadFault) (bytes : List ℕ) (left : _) → IsCut fault 4096 bytes left →
-    (length bytes ≤ 268439552) × IsRefused fault bytes left
-refused-before-block Read bytes left k = (omega (arith, k), let a = asked-first bytes k in omega (arith, k, a))
-refused-before-block Short bytes left k = (
+pub refused-before-block : (IsBuilt : List ℕ → Type 0) (fault : LoadFault) (bytes : List ℕ) (left : _) → IsCut fault 4096 bytes left →
+    (length bytes ≤ 268439552) × IsRefusedBy IsBuilt fault bytes left
+refused-before-block IsBuilt Read bytes left k = (omega (arith, k), let a = asked-first bytes k in omega (arith, k, a))
+refused-before-block IsBuilt Short bytes left k = (
   let l = k.0 in omega (arith, l),
   ((let a = asked-first bytes k.0 in let l = k.0 in omega (arith, l, a)), fault-is bytes Short (short-block bytes k.0), k.1),
 )
-refused-before-block fault bytes left k = absurd k
+refused-before-block IsBuilt fault bytes left k = absurd k
 
 -- ---- a base block that doesn't pass
 
 module _ (head : List ℕ) (long : length head ≡ 4096) where
-  asked-bad : (fault : LoadFault) → block_walk head nothing ≡ Err fault → asked_for head ≡ 4096
+  pub asked-bad : (fault : LoadFault) → block_walk head nothing ≡ Err fault → asked_for head ≡ 4096
   asked-bad fault e = let l = not-below (length head) 4096 (omega (arith, long)) in rw (l, e) refl
 
   bad-block : (fault : LoadFault) → block_walk head nothing ≡ Err fault → image_walk head nothing ≡ Err fault
@@ -82,14 +82,14 @@ module _ (head : List ℕ) (long : length head ≡ 4096) where
       let l = at-least 4096 (length head) (omega (arith, long)) in
       ap (λ b. onward (λ _. block_walk head >>= after-block head) (check Short b nothing)) l ∙ ap (onward (after-block head)) e
 
-  pub refused-at-block : (fault : LoadFault) (left : _) → block_walk head nothing ≡ Err fault →
-      (length head ≤ 268439552) × IsRefused fault head left
-  refused-at-block fault left e = (
+  pub refused-at-block : (IsBuilt : List ℕ → Type 0) (fault : LoadFault) (left : _) → block_walk head nothing ≡ Err fault →
+      (length head ≤ 268439552) × IsRefusedBy IsBuilt fault head left
+  refused-at-block IsBuilt fault left e = (
     omega (arith, long),
     by fault e (fault-is head fault (bad-block fault e)) (block-meets head nothing fault e),
   )
     where
-      by : (f : LoadFault) → block_walk head nothing ≡ Err f → fault_of head ≡ Some f → IsOfImage f → IsRefused f head left
+      by : (f : LoadFault) → block_walk head nothing ≡ Err f → fault_of head ≡ Some f → IsOfImage f → IsRefusedBy IsBuilt f head left
       by Read e w i = absurd i
       by Short e w i = absurd i
       by Memory e w i = absurd i
@@ -102,19 +102,19 @@ module _ (head : List ℕ) (long : length head ≡ 4096) where
     front : take 4096 (head ++ more) ≡ head
     front = ap (λ n. take n (head ++ more)) (sym long) ∙ take-append_seam head more
 
-    behind : drop 4096 (head ++ more) ≡ more
+    pub behind : drop 4096 (head ++ more) ≡ more
     behind = ap (λ n. drop n (head ++ more)) (sym long) ∙ drop-append_seam head more
 
-    size-is : length (head ++ more) ≡ 4096 + length more
+    pub size-is : length (head ++ more) ≡ 4096 + length more
     size-is = length-append head more ∙ ap (λ n. n + length more) long
 
-    block-is : block_walk (head ++ more) nothing ≡ Ok (block, nothing)
+    pub block-is : block_walk (head ++ more) nothing ≡ Ok (block, nothing)
     block-is = sym (block-front (head ++ more) nothing) ∙ (ap (λ bytes. block_walk bytes nothing) front ∙ e)
 
     pub has-block : HasBlock (head ++ more)
     has-block = ((let s = size-is in omega (arith, s)), subst (λ (r : Result (BaseBlock × Seen) LoadFault). IsOk r) (sym block-is) refl)
 
-    asked-good : asked_for (head ++ more) ≡ 4096 + block.size
+    pub asked-good : asked_for (head ++ more) ≡ 4096 + block.size
     asked-good = let s = size-is in let l = not-below (length (head ++ more)) 4096 (omega (arith, s)) in rw (l, block-is) refl
 
     opened : image_walk (head ++ more) nothing ≡ after-block (head ++ more) block nothing
@@ -157,40 +157,42 @@ module _ (head : List ℕ) (long : length head ≡ 4096) where
     pub whole-numbered : (number : ℕ) → number ≡ word head 4 → number ≡ word (head ++ more) 4
     whole-numbered number is = is ∙ (ap (λ bytes. word bytes 4) (sym front) ∙ word-front 4096 4 (head ++ more) (omega arith))
 
-    pub refused-before-bins : (fault : LoadFault) (left : _) → block.size ≤ 268435456 → IsGivenUp fault block.size more left →
-        (length (head ++ more) ≤ 268439552) × IsRefused fault (head ++ more) left
-    refused-before-bins Read left m k = let s = size-is in let a = asked-good in (omega (arith, s, k, m), omega (arith, s, k, a))
-    refused-before-bins Short left m k =
+    pub refused-before-bins : (IsBuilt : List ℕ → Type 0) (fault : LoadFault) (left : _) → block.size ≤ 268435456 → IsGivenUp fault block.size more left →
+        (length (head ++ more) ≤ 268439552) × IsRefusedBy IsBuilt fault (head ++ more) left
+    refused-before-bins IsBuilt Read left m k = let s = size-is in let a = asked-good in (omega (arith, s, k, m), omega (arith, s, k, a))
+    refused-before-bins IsBuilt Short left m k =
         let s = size-is in
         let a = asked-good in
         let l = k.0 in (omega (arith, s, l, m), (omega (arith, s, l, a), fault-is (head ++ more) Short (short-bins k.0), k.1))
-    refused-before-bins Memory left m k = let s = size-is in let a = asked-good in
+    refused-before-bins IsBuilt Memory left m k = let s = size-is in let a = asked-good in
         (omega (arith, s, k, m), (omega (arith, s, k, a), has-block))
-    refused-before-bins fault left m k = absurd k
+    refused-before-bins IsBuilt fault left m k = absurd k
 
-    pub refused-at-bins : (fault : LoadFault) (left : _) → block.size ≤ 268435456 → length more ≡ block.size →
+    pub refused-at-bins : (IsBuilt : List ℕ → Type 0) (fault : LoadFault) (left : _) → (fault ≡ Limit → IsBuilt (head ++ more)) →
+        block.size ≤ 268435456 → length more ≡ block.size →
         FailsAs (IsOk (bins_walk more block.minor block.root nothing) × AreCrowded false more block.minor block.root) fault
         (bins_walk more block.minor block.root nothing) →
-        (length (head ++ more) ≤ 268439552) × IsRefused fault (head ++ more) left
-    refused-at-bins fault left m k w =
+        (length (head ++ more) ≤ 268439552) × IsRefusedBy IsBuilt fault (head ++ more) left
+    refused-at-bins IsBuilt fault left built m k w =
         let s = size-is in
-        let a = asked-good in (omega (arith, s, k, m), by fault (omega (arith, s, k, a)) w)
+        let a = asked-good in (omega (arith, s, k, m), by fault built (omega (arith, s, k, a)) w)
       where
         is : (f : LoadFault) → bins_walk more block.minor block.root nothing ≡ Err f → fault_of (head ++ more) ≡ Some f
         is f w = fault-is (head ++ more) f (whole-walked k ∙ w)
 
-        by : (f : LoadFault) → length (head ++ more) ≡ asked_for (head ++ more) →
+        by : (f : LoadFault) → (f ≡ Limit → IsBuilt (head ++ more)) → length (head ++ more) ≡ asked_for (head ++ more) →
             FailsAs (IsOk (bins_walk more block.minor block.root nothing) × AreCrowded false more block.minor block.root) f
-            (bins_walk more block.minor block.root nothing) → IsRefused f (head ++ more) left
-        by Read a w = absurd (bins-meet more block.minor block.root nothing Read w)
-        by Short a w = absurd (bins-meet more block.minor block.root nothing Short w)
-        by Memory a w = (omega (arith, a), has-block)
-        by Limit a (inl w) = (a, inl (is Limit w))
-        by Limit a (inr c) = (
+            (bins_walk more block.minor block.root nothing) → IsRefusedBy IsBuilt f (head ++ more) left
+        by Read b a w = absurd (bins-meet more block.minor block.root nothing Read w)
+        by Short b a w = absurd (bins-meet more block.minor block.root nothing Short w)
+        by Memory b a w = (omega (arith, a), has-block)
+        by Limit b a (inl w) = (a, inl (is Limit w))
+        by Limit b a (inr c) = (
           a,
           inr (
             none-is (head ++ more) (subst (λ (r : Result (Unit {0} × Seen) LoadFault). IsOk r) (sym (whole-walked k)) c.0),
             (block, block-is, subst (λ bytes. AreCrowded false bytes block.minor block.root) (sym (its-bins k)) c.1),
+            b refl,
           ),
         )
-        by f a w = (a, is f w)
+        by f b a w = (a, is f w)

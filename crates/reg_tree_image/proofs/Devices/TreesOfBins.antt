@@ -41,7 +41,7 @@ module _ (bins : List ℕ) (minor root : ℕ) where
 
   module _ (states : List CellState) (s : IsScanned bins states) where
     -- the cells are those of the bins
-    heap-is : content_in bins s.cells ≡ cell_at bins
+    pub heap-is : content_in bins s.cells ≡ cell_at bins
     unfolding cells_of cell_at
     heap-is = ap (λ c. content_of bins c) (sym (ap (option_and_then (cells_of_bins bins)) s.places_are ∙ s.cells_are))
 

@@ -20,7 +20,7 @@ any-read : (test : Member → Bool) (values : List ReadValue) → list_any test 
 any-read test [] = refl
 any-read test (v ∷ values) = ap (λ b. test (member_in v) || b) (any-read test values)
 
-take-all : (values : List ReadValue) (n : ℕ) → length values ≤ n → take n values ≡ values
+pub take-all : (values : List ReadValue) (n : ℕ) → length values ≤ n → take n values ≡ values
 take-all [] zero l = refl
 take-all [] (suc n) l = refl
 take-all (v ∷ values) zero l = absurd (omega (arith, l))

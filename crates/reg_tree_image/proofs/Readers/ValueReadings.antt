@@ -72,7 +72,7 @@ name-open single most ok name read seen after e =
     (check-open Limit (nat_le (length chars) most) last seen read after
     (check-open Record (single || (length name % 2 == 0)) short seen read after e)))
 
-named-open : (heap : Heap) (path : List ℕ) (offset : ℕ) (v : KeyValueRecord × List ℕ) (seen after : Seen) →
+pub named-open : (heap : Heap) (path : List ℕ) (offset : ℕ) (v : KeyValueRecord × List ℕ) (seen after : Seen) →
     named_value heap path offset seen ≡ Ok (v, after) → letters (not (bit_and v.0.fields.flags 1 == 0)) v.0.name ≡ v.1
 named-open heap path offset v seen after e =
     let named : KeyValueRecord → Step (KeyValueRecord × List ℕ) = λ value. value_name value >>= (λ name. give (value, name)) in

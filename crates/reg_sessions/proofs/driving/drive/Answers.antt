@@ -1,5 +1,5 @@
 use Rattle.std.proofs.Common.{◌<◌, length, arith}
-use Rattle.reg_sessions.proofs.JobsDone.{still_ready}
+use Rattle.reg_sessions.proofs.ReadyJobs.{still_ready}
 use Rattle.reg_sessions.proofs.driving.drive.Goals as goal
 
 pub run_jobs-requires-clause-ready : goal.run_jobs-requires-clause-ready

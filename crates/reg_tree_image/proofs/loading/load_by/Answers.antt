@@ -7,7 +7,7 @@ use Rattle.reg_tree_image.proofs.Devices.BlockTests.{block-good, block-meets}
 use Rattle.reg_tree_image.proofs.Devices.LoadedImages.{refused-before-block, refused-at-block, refused-before-bins, refused-at-bins}
 use Rattle.reg_tree_image.proofs.Devices.LoadedImages.{whole-loaded, whole-size, whole-numbered}
 use Rattle.reg_tree_image.proofs.Devices.FaultsOfWalks.{bins-meet}
-use Rattle.reg_tree_image.proofs.Devices.OwnLoads.{spared-cut, spared-block, spared-bins, spared-tree}
+use Rattle.reg_tree_image.proofs.Devices.OwnLoads.{spared-cut, spared-block, spared-bins, spared-tree, foreign, stood}
 use Rattle.reg_tree_image.proofs.Devices.ReadFailures.{exit-either, blamed-then, image-stays, walk-stays}
 use Rattle.reg_text.proofs.FailureCounts.{stays-then}
 use Rattle.reg_tree_image.proofs.loading.load_by.Goals as goal
@@ -15,13 +15,13 @@ use Rattle.reg_tree_image.proofs.loading.load_by.Goals as goal
 pub returns-in_err-fill-clause-err : goal.returns-in_err-fill-clause-err
 returns-in_err-fill-clause-err g c =
     exit-with _ c.from_residual.result _ c.from_residual.ensures.1
-    (let p = c.in_err-fill.ensures.err in let r = refused-before-block _ p.0 _ p.2 in
+    (let p = c.in_err-fill.ensures.err in let r = refused-before-block _ _ p.0 _ p.2 in
     record { image = p.0; consumed = p.1; within = r.0; refused = r.1 })
 
 pub returns-in_err-block-clause-err : goal.returns-in_err-block-clause-err
 returns-in_err-block-clause-err g c =
     exit-with _ c.from_residual-in_err-block.result _ c.from_residual-in_err-block.ensures.1
-    (let r = refused-at-block c.fill.new.buffer (search rules) _ _ (c.in_err-block.ensures nothing) in
+    (let r = refused-at-block c.fill.new.buffer (search rules) _ _ _ (c.in_err-block.ensures nothing) in
     record { image = c.fill.new.buffer; consumed = c.in_ok-fill.ensures.ok; within = r.0; refused = r.1 })
 
 pub returns-in_err-bins-clause-err : goal.returns-in_err-bins-clause-err
@@ -30,7 +30,7 @@ returns-in_err-bins-clause-err g c =
     let good = block-good _ _ _ _ block in
     exit-with _ c.from_residual-in_err-bins.result _ c.from_residual-in_err-bins.ensures.1
     (let p = c.in_err-bins.ensures.err in
-    let r = refused-before-bins c.fill.new.buffer (search rules) c.in_ok-block.block block p.0 _ _ good.small p.2 in
+    let r = refused-before-bins c.fill.new.buffer (search rules) c.in_ok-block.block block p.0 _ _ _ good.small p.2 in
     record {
       image = c.fill.new.buffer ++ p.0;
       consumed = Consumes-trans _ _ _ c.fill.new.buffer p.0 c.in_ok-fill.ensures.ok p.1;
@@ -60,7 +60,9 @@ returns-in_err-tree-clause-err g c =
     let bins = c.in_ok-bins.bins.items in
     let good = block-good _ _ _ _ passed in
     exit-with _ c.from_residual-in_err-tree.result _ c.from_residual-in_err-tree.ensures.1
-    (let r = refused-at-bins c.fill.new.buffer (search rules) block passed bins _ _ good.small c.in_ok-bins.ensures.ok.1 c.in_err-tree.ensures.err in
+    (let r = refused-at-bins c.fill.new.buffer (search rules) block passed bins _ _ _
+    (λ limit taken. foreign c.fill.new.buffer block (search rules) passed bins c.in_ok-bins.ensures.ok.1 _ limit (c.in_err-tree.ensures.own taken))
+    good.small c.in_ok-bins.ensures.ok.1 c.in_err-tree.ensures.err in
     record {
       image = c.fill.new.buffer ++ bins;
       consumed = Consumes-trans _ _ _ c.fill.new.buffer bins c.in_ok-fill.ensures.ok c.in_ok-bins.ensures.ok.0;
@@ -132,3 +134,10 @@ returns-in_err-tree-clause-own g c = λ taken.
     exit-with _ c.from_residual-in_err-tree.result _ c.from_residual-in_err-tree.ensures.1
     (spared-tree _ _ c.fill.new.buffer c.in_ok-block.block c.in_ok-fill.ensures.ok (search rules) (c.in_ok-block.ensures nothing) _ c.in_ok-bins.bins.items _
     c.in_ok-bins.ensures.ok.0 c.in_ok-bins.ensures.ok.1 (c.in_err-tree.ensures.own taken))
+
+-- ---- that an image of a whole hive is taken as it stands
+
+pub returns-clause-stands : goal.returns-clause-stands
+returns-clause-stands g c = λ taken.
+    stood _ _ c.fill.new.buffer c.in_ok-block.block c.in_ok-fill.ensures.ok (search rules) (c.in_ok-block.ensures nothing) _ c.in_ok-bins.bins.items
+    c.in_ok-bins.ensures.ok.0 c.in_ok-bins.ensures.ok.1 c.in_ok-tree.tree.bins (c.in_ok-tree.ensures.stands taken)

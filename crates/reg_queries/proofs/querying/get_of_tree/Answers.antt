@@ -1,6 +1,6 @@
 use Rattle.std.proofs.Common.{refl}
 use Rattle.reg_text.proofs.FailureCounts.{stays-at}
-use Rattle.reg_queries.proofs.querying.get.Goals as goal
+use Rattle.reg_queries.proofs.querying.get_of_tree.Goals as goal
 
 pub returns-in-Err-clause-err : goal.returns-in-Err-clause-err
 returns-in-Err-clause-err g c = (c.in-Err.ensures.err, refl)
