@@ -92,7 +92,7 @@ def locked(crate):
 def lines_of_crates(names):
     """The lines of crates.txt that list these crates."""
     with open(f"{TOP}/crates.txt", encoding="utf-8") as lines:
-        return "".join(line for line in lines if line.partition(":")[0].strip() in names)
+        return "".join(line for line in lines if line.partition(":")[0].partition(" ")[0] in names)
 
 
 class Room:
@@ -241,13 +241,13 @@ class Build:
             for room, _ in self.running.values():
                 room.empty(False)
 
-    def link(self):
-        """Proves and builds the program itself, in its place, and runs it as its file args says, on nothing."""
+    def link(self, verb):
+        """Proves and builds the program itself, in its place, and runs it as its file args says, on nothing; with `lib` a static library."""
         folder = folder_of(self.program)
-        words = open(f"{folder}/args", encoding="utf-8").read().splitlines() if os.path.isfile(f"{folder}/args") else []
+        words = ["--", *words_of(folder)] if verb == "run" else []
         log = f"{folder}/out/build.log"
         jobs = JOBS if taken(JOBS) <= self.memory else FEWEST
-        command = started(folder, log, "run", "--jobs", str(jobs), "--", *words)
+        command = started(folder, log, verb, "--jobs", str(jobs), *words)
         try:
             status = command.wait()
         finally:
@@ -256,19 +256,27 @@ class Build:
         self.note(self.program, status, log)
 
 
+def words_of(folder):
+    """The words that a program's file args has, one a line."""
+    if not os.path.isfile(f"{folder}/args"):
+        return []
+    with open(f"{folder}/args", encoding="utf-8") as lines:
+        return lines.read().splitlines()
+
+
 def end_of(log):
     with open(log, encoding="utf-8", errors="replace") as lines:
         return "".join(lines.readlines()[-40:]).strip()
 
 
-def build(program, at_once=None, out=sys.stdout):
+def build(program, at_once=None, out=sys.stdout, verb="run"):
     """Builds a program and all below it, and prints a line for each crate as it is done. Raises `Failed` where one isn't built."""
     if not shutil.which("rt"):
         raise Untried("rt isn't on the path")
     with rooms_of() as rooms:
         work = Build(program, at_once or checks_at_once(), rooms, out)
         work.libraries()
-        work.link()
+        work.link(verb)
 
 
 @contextmanager

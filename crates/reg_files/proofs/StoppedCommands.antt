@@ -1,9 +1,9 @@
 -- What stopped a command on a file, put together of what stopped the call that did it.
 use Rattle.std.proofs.Common.{◌≡◌, List, ℕ, Bool, true, inr, inl, subst, sym}
 use Rattle.std.specs.Prelude.{Option, Result, Ok, Err, IfErr, IsErrAnd, codes}
-use Rattle.reg_tree_text.specs.PathQueries.{ListStops}
 use Rattle.reg_tables.specs.Tables.{json_text, csv_text, TableStops}
 use Rattle.reg_find.specs.declared.scope.Scope.{Scope}
+use Rattle.reg_queries.specs.KeyQueries.{ListEnds}
 use Rattle.reg_queries.specs.Queries.{is_look, GetEnds, QueryStops}
 use Rattle.reg_queries.specs.Finds.{FindStops}
 use Rattle.reg_queries.specs.Differs.{Differs, DiffStops}
@@ -23,17 +23,17 @@ from_err P Q (Ok v) made says = absurd made
 from_err P Q (Err e) made says = says e made
 
 module _ (fault : QueryFault) (cut : Bool) (same_cut : cut ≡ is_query_cut fault) (unread left before after : Option (List ℕ)) where
-  pub stops_listing : (given path : List ℕ) (is_whole : Bool) → given ≡ path →
-      QueryStops fault unread left (λ tree stopped. ListStops stopped tree given is_whole before after) before after →
-      StopsListing cut path is_whole before after
-  stops_listing given path is_whole same h =
+  pub stops_listing : (given path : List ℕ) (is_tree is_whole : Bool) → given ≡ path →
+      ListEnds (is_look is_whole given) fault unread left given is_tree before after →
+      StopsListing cut (is_look is_whole path) path is_tree before after
+  stops_listing given path is_tree is_whole same h =
       inr (
         fault,
         same_cut,
         (
           unread,
           left,
-          subst (λ (p : List ℕ). QueryStops fault unread left (λ tree stopped. ListStops stopped tree p is_whole before after) before after) same h,
+          subst (λ (p : List ℕ). ListEnds (is_look is_whole p) fault unread left p is_tree before after) same h,
         ),
       )
 

@@ -1,5 +1,5 @@
 -- What the tool did with files (this project's own).
-use Rattle.std.specs.Prelude.{◌≡◌, ◌<◌, ◌⊎◌, ℕ, zero, suc, max, nat_lt, Bool, true, false, ◌&&◌, Option, ⊤}
+use Rattle.std.specs.Prelude.{◌≡◌, ◌<◌, ◌⊎◌, ℕ, zero, suc, max, nat_lt, Bool, true, false, ◌&&◌, ◌||◌, Option, ⊤}
 use Rattle.std.specs.Prelude.{List, [], ◌∷◌, ◌++◌, length, take, map, codes}
 use Rattle.std.specs.Io.KnownBytes.{Appends}
 use Rattle.reg_text.specs.Texts.{line_feed}
@@ -19,9 +19,9 @@ use Rattle.reg_command.specs.Failures.{Does, Stops, EndsEarly, IsSaid, IsStopSai
 use Rattle.reg_command.specs.declared.failure.Stop.{Stop}
 use Rattle.reg_command.specs.declared.failure.Stop.TheVariants as stop
 use Rattle.reg_find.specs.declared.scope.Scope.{Scope}
-use Rattle.reg_tree_text.specs.PathQueries.{ListStops}
 use Rattle.reg_tables.specs.Tables.{json_text, csv_text, TableStops}
-use Rattle.reg_queries.specs.Queries.{is_look, Lists, Gets, GetEnds, Tabulates, QueryStops}
+use Rattle.reg_queries.specs.KeyQueries.{Lists, ListEnds}
+use Rattle.reg_queries.specs.Queries.{is_look, Gets, GetEnds, Tabulates, QueryStops}
 use Rattle.reg_queries.specs.Finds.{Finds, FindStops}
 use Rattle.reg_queries.specs.Differs.{Differs, DiffStops}
 use Rattle.reg_queries.specs.ImageExports.{Exports, ExportEnds}
@@ -170,11 +170,11 @@ Enters edit unread left =
 
 -- why a key wasn't listed, or not to the end: the file wasn't opened, and nothing was written; or what ended it. Here and below `cut` says
 -- whether that was a failed write of the output
-abbrev pub StopsListing : (cut : Bool) → (path : List ℕ) → (is_whole : Bool) → (before after : Option (List ℕ)) → Type 0
-StopsListing cut path is_whole before after =
+abbrev pub StopsListing : (cut is_look : Bool) → (path : List ℕ) → (is_tree : Bool) → (before after : Option (List ℕ)) → Type 0
+StopsListing cut is_look path is_tree before after =
     ((cut ≡ false) × (after ≡ before))
     ⊎ ((fault : QueryFault) × (cut ≡ is_query_cut fault)
-    × OfFile (λ unread left. QueryStops fault unread left (λ tree stopped. ListStops stopped tree path is_whole before after) before after))
+    × OfFile (λ unread left. ListEnds is_look fault unread left path is_tree before after))
 
 -- why a value wasn't written
 abbrev pub StopsGetting : (cut is_look : Bool) → (path name : List ℕ) → (is_raw : Bool) → (before after : Option (List ℕ)) → Type 0
@@ -249,8 +249,9 @@ Serves (Dump file) unread left before after told told_after = (left ≡ unread) 
 Serves (Check files) unread left before after told told_after =
     (left ≡ unread) × ((closed : Bool) × (failed : Option ℕ) × (now_failed : Option ℕ)
     × ChecksFiles (map (λ file. file.now) files.items) 0 closed before after told told_after failed now_failed)
-Serves (Listing file path is_whole) unread left before after told told_after =
-    (left ≡ unread) × OfFile (λ image image_left. Lists image image_left path.now is_whole before after)
+Serves (Listing file path is_tree is_whole) unread left before after told told_after =
+    (left ≡ unread)
+    × OfFile (λ image image_left. Lists (is_look (is_tree || is_whole) path.now) image image_left path.now is_tree before after)
 Serves (Get file path name is_raw is_whole) unread left before after told told_after =
     (left ≡ unread) × OfFile (λ image image_left. Gets (is_look is_whole path.now) image image_left path.now name.now is_raw before after)
 Serves (Find file pattern places) unread left before after told told_after =
@@ -281,8 +282,8 @@ Fails (Edit edit keeps_going) closed unread left before after told told_after fa
     (cut : Bool) × StopsEditing edit keeps_going cut unread left before after × IsReported (closed && cut) told told_after failed now_failed
 Fails (Import edit) closed unread left before after told told_after failed now_failed =
     StopsImporting edit unread left × (after ≡ before) × IsReported false told told_after failed now_failed
-Fails (Listing file path is_whole) closed unread left before after told told_after failed now_failed =
-    (left ≡ unread) × ((cut : Bool) × StopsListing cut path.now is_whole before after
+Fails (Listing file path is_tree is_whole) closed unread left before after told told_after failed now_failed =
+    (left ≡ unread) × ((cut : Bool) × StopsListing cut (is_look (is_tree || is_whole) path.now) path.now is_tree before after
     × IsReported (closed && cut) told told_after failed now_failed)
 Fails (Get file path name is_raw is_whole) closed unread left before after told told_after failed now_failed =
     (left ≡ unread) × ((cut : Bool) × StopsGetting cut (is_look is_whole path.now) path.now name.now is_raw before after

@@ -71,15 +71,16 @@ fn list_asked<H: Files, W: Output, E: Sink>(
     host: &H,
     file: &str,
     path: &str,
+    is_tree: bool,
     is_whole: bool,
     output: &mut W,
     errors: &mut E,
 ) -> u8
-    ensures { (unread : Option (List ℕ)) → Outcome (Request.Listing file.entry path.entry is_whole) result (W.closed output.new) unread unread
+    ensures { (unread : Option (List ℕ)) → Outcome (Request.Listing file.entry path.entry is_tree is_whole) result (W.closed output.new) unread unread
         (W.contents output.old) (W.contents output.new)
         (E.contents errors.old) (E.contents errors.new) (E.failures errors.old) (E.failures errors.new) }
 {
-    let done = list_key(alloc, host, file, path, is_whole, output);
+    let done = list_key(alloc, host, file, path, is_tree, is_whole, output);
     settle(alloc, errors, file, output.is_closed(), done)
 }
 
@@ -231,8 +232,9 @@ where
         Request::Listing {
             file,
             path,
+            is_tree,
             is_whole,
-        } => list_asked(alloc, host, file, path, is_whole, output, errors),
+        } => list_asked(alloc, host, file, path, is_tree, is_whole, output, errors),
         Request::Get {
             file,
             path,

@@ -1,7 +1,8 @@
 //! The commands that only look into files.
 
-ghost use Rattle.std.specs.Prelude.{◌≡◌, ◌≤◌, ℕ, List, Option, false, IfOk, IfErr, OnOk};
-ghost use Rattle.reg_queries.specs.Queries.{is_look, Lists, Gets};
+ghost use Rattle.std.specs.Prelude.{◌≡◌, ◌≤◌, ◌||◌, ℕ, List, Option, false, IfOk, IfErr, OnOk};
+ghost use Rattle.reg_queries.specs.KeyQueries.{Lists};
+ghost use Rattle.reg_queries.specs.Queries.{is_look, Gets};
 ghost use Rattle.reg_queries.specs.Finds.{Finds};
 ghost use Rattle.reg_files.specs.Serving.{scope_of, AreSame, AreOther, WritesAs};
 ghost use Rattle.reg_files.specs.Serving.{StopsListing, StopsGetting, StopsFinding, StopsDiffing, WriteStops, StopsWriting};
@@ -29,21 +30,30 @@ pub fn open<H: Files>(host: &H, file: &str) -> Result<Device<H::File>, Fault>
     Ok(Device::new(taken(Step::Open, File::open(host, file))?))
 }
 
-/// Lists a key of a file's hive, by its path.
+/// Lists a key of a file's hive, by its path, with all below it or without; with `is_whole` the hive is loaded first.
 pub fn list_key<H: Files, W: Write>(
     alloc: Global,
     host: &H,
     file: &str,
     path: &str,
+    is_tree: bool,
     is_whole: bool,
     output: &mut W,
 ) -> Result<(), Fault>
     ensures ok { OnOk result ((unread : Option (List ℕ)) × (left : Option (List ℕ))
-        × Lists unread left path.now is_whole (W.contents output.old) (W.contents output.new)) }
-    ensures err { IfErr result (λ fault. StopsListing (is_cut fault) path.now is_whole (W.contents output.old) (W.contents output.new)) }
+        × Lists (is_look (is_tree || is_whole) path.now) unread left path.now is_tree (W.contents output.old) (W.contents output.new)) }
+    ensures err { IfErr result (λ fault. StopsListing (is_cut fault) (is_look (is_tree || is_whole) path.now) path.now is_tree
+        (W.contents output.old) (W.contents output.new)) }
 {
     let mut image = open(host, file)?;
-    match list(alloc, &mut image, path.as_bytes(), is_whole, output) {
+    match list(
+        alloc,
+        &mut image,
+        path.as_bytes(),
+        is_tree,
+        is_whole,
+        output,
+    ) {
         Ok(()) => Ok(()),
         Err(fault) => Err(Fault::from(fault).of_file(&mut image)),
     }

@@ -1,2 +1,3 @@
 pub mod FindSteps
 pub mod DiffSteps
+pub mod LookSteps

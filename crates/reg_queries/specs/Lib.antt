@@ -1,5 +1,6 @@
 pub mod Blames
 pub mod Queries
+pub mod KeyQueries
 pub mod Finds
 pub mod Differs
 pub mod ImageExports

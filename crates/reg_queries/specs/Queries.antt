@@ -1,22 +1,17 @@
 -- What is asked of an image (this project's own).
-use Rattle.std.specs.Prelude.{◌≡◌, ◌&&◌, not, ℕ, Bool, true, false, List, Option, Some, None}
+use Rattle.std.specs.Prelude.{◌≡◌, ◌&&◌, not, ℕ, Bool, true, false, List, Option, Some, None, Ok}
 use Rattle.std.specs.Io.KnownBytes.{Appends}
 use Rattle.reg_names.specs.Names.{is_path, path_of}
 use Rattle.reg_heap.specs.Paths.{Path, Tree, Member}
+use Rattle.reg_tree_image.specs.Images.{loaded}
 use Rattle.reg_tree_image.specs.Loads.{ReadsImage, MeetsFault}
 use Rattle.reg_tree_image.specs.PathLoads.{FindsThere, MissesThere}
 use Rattle.reg_tree_text.specs.DumpFronts.{IsStopped}
-use Rattle.reg_tree_text.specs.PathQueries.{key_at, value_at, listed, shown, IsTold, GetStops}
+use Rattle.reg_tree_text.specs.PathQueries.{key_at, value_at, shown, IsTold, GetStops}
 use Rattle.reg_tree_text.specs.declared.path_fault.PathFault.{PathFault}
 use Rattle.reg_tree_text.specs.declared.path_fault.PathFault.TheVariants.{NoKey, NoValue, Stopped}
 use Rattle.reg_queries.specs.declared.fault.QueryFault.{QueryFault}
 use Rattle.reg_queries.specs.declared.fault.QueryFault.TheVariants.{Load, Query}
-
--- an image was read, and the key at a path of its tree was listed
-pub record Lists (unread left : Option (List ℕ)) (path : List ℕ) (is_whole : Bool) (before after : Option (List ℕ)) : Type 0 where
-  pub tree : Tree
-  pub reads : ReadsImage unread left tree
-  pub written : IsTold (key_at tree path) (listed tree is_whole) before after
 
 -- an image was read, and the key at a path of its tree was written as a table
 pub record Tabulates (unread left : Option (List ℕ)) (path : List ℕ) (table : Tree → Path → List ℕ) (before after : Option (List ℕ)) : Type 0 where
@@ -40,8 +35,9 @@ pub record LooksUp (unread left : Option (List ℕ)) (path name : List ℕ) (is_
   pub found : Option (Option Member)
   pub finds : FindsThere unread left (path_of path) name found
   pub written : IsFoundTold found is_raw before after
+  pub as_loaded : (tree : Tree) → loaded finds.image ≡ Ok tree → IsTold (value_at tree path name) (shown is_raw) before after
 
--- whether only what leads to a value is read: where the whole isn't to be tested, and the text is a path
+-- whether only what is on the way is read: where the whole isn't to be tested, and the text is a path
 abbrev pub is_look : (is_whole : Bool) → (path : List ℕ) → Bool
 is_look is_whole path = not is_whole && is_path path
 

@@ -1,48 +1,20 @@
-//! A tree loaded from an image, and a key of it listed, or a value of a key written.
+//! A value of a key of an image written.
 
 ghost use Rattle.std.specs.Prelude.{◌≡◌, true, OnOk, IfErr, MatchResult};
 ghost use Rattle.reg_names.specs.Names.{is_path};
 ghost use Rattle.reg_text.specs.Failures.{Stays};
 ghost use Rattle.reg_tree_image.specs.ValuesAtPaths.{value_there};
 ghost use Rattle.reg_tree_text.specs.PathBlames.{PathBlames};
-ghost use Rattle.reg_tree_text.specs.PathQueries.{ListStops, GetStops};
-ghost use Rattle.reg_queries.specs.Queries.{is_look, Lists, Gets, GetsOfTree, GetEnds, LooksUp, LookStops, IsFoundTold, IsFoundUntold, QueryStops};
+ghost use Rattle.reg_tree_text.specs.PathQueries.{GetStops};
+ghost use Rattle.reg_queries.specs.Queries.{is_look, Gets, GetsOfTree, GetEnds, LooksUp, LookStops, IsFoundTold, IsFoundUntold, QueryStops};
 ghost use Rattle.reg_queries.specs.Blames.{NoneFailed, QueryBlames};
 
 use crate::QueryFault;
 use reg_names::check_path;
 use reg_text::{Sink, Source};
 use reg_tree_image::{ValueAtPath, load_tree, value_at_path};
-use reg_tree_text::{PathFault, get_at, list_at, tell_value};
+use reg_tree_text::{PathFault, get_at, tell_value};
 use std::alloc::Global;
-
-/// Loads a tree from an image and lists the key at a path, with all that is below it or without.
-pub fn list<R: Source, W: Sink>(
-    alloc: Global,
-    image: &mut R,
-    path: &[u8],
-    is_whole: bool,
-    output: &mut W,
-) -> Result<(), QueryFault>
-    ensures ok { OnOk result (Lists (R.remaining image.old) (R.remaining image.new) path.now is_whole
-        (W.contents output.old) (W.contents output.new)) }
-    ensures err { IfErr result (λ fault. QueryStops fault (R.remaining image.old) (R.remaining image.new)
-        (λ tree ended. ListStops ended tree path.now is_whole (W.contents output.old) (W.contents output.new))
-        (W.contents output.old) (W.contents output.new)) }
-    ensures flushed { OnOk result (W.is_flushed output.new) }
-    ensures failures { MatchResult result
-        (λ _. NoneFailed (R.failures image.old) (R.failures image.new) (W.failures output.old) (W.failures output.new))
-        (λ fault. QueryBlames fault (R.failures image.old) (R.failures image.new) (W.failures output.old) (W.failures output.new)) }
-{
-    let tree = match load_tree(alloc, image) {
-        Ok(tree) => tree,
-        Err(fault) => return Err(QueryFault::Load(fault)),
-    };
-    match list_at(alloc, &tree, path, is_whole, output) {
-        Ok(()) => Ok(()),
-        Err(fault) => Err(QueryFault::Query(fault)),
-    }
-}
 
 /// Loads a tree from an image and writes the value of a name of the key at a path.
 fn get_of_tree<R: Source, W: Sink>(

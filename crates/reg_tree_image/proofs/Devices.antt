@@ -11,6 +11,7 @@ pub mod ImagesRead
 pub mod ReadFailures
 pub mod MadeImages
 pub mod WrittenBins
+pub mod ImageParts
 pub mod FaultsOfPaths
 pub mod PathsAsLoaded
 pub mod PathsRead

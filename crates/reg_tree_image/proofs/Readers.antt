@@ -13,6 +13,7 @@ pub mod BigSegments
 pub mod DataForms
 pub mod EqualNames
 pub mod FewNames
+pub mod RisingNames
 pub mod ValueReadings
 pub mod FitNames
 pub mod NewValues

@@ -7,6 +7,7 @@ pub mod ValuesAtPaths
 pub mod KeysAtPaths
 pub mod BaseBlock
 pub mod Images
+pub mod Rooms
 pub mod WalkedKeys
 pub mod CrowdedBins
 pub mod Loads

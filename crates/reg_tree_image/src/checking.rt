@@ -20,7 +20,7 @@ use crate::key_parts::enter_key;
 use crate::keys::named_key;
 use crate::list_part::ListPart;
 use crate::lists::leaf_from;
-use crate::met_names::MetNames;
+use crate::sibling_names::SiblingNames;
 use crate::subkeys::subkeys_from;
 use crate::table::CellTable;
 use reg_heap::limits::SUBKEYS_LIMIT;
@@ -37,7 +37,7 @@ pub struct CheckedKey<'a> {
     /// How many of its subkeys were named.
     pub count: u32,
     /// The names of these.
-    pub names: MetNames,
+    pub names: SiblingNames<'a>,
     /// What is left of the present list of keys.
     pub leaf: ListPart<'a>,
     /// What is left of the index root's lists, if it has one.
@@ -63,7 +63,7 @@ fn check_key<'a>(
     minor: u32,
     table: &mut CellTable,
     levels: u32,
-    siblings: &mut MetNames,
+    siblings: &mut SiblingNames<'a>,
     noted: &mut Vec<u32>,
     offset: u32,
 ) -> Result<CheckedKey<'a>, LoadFault>
@@ -75,11 +75,11 @@ fn check_key<'a>(
     ensures fewer { OnOk result (unnamed table.new.states.items < unnamed table.old.states.items) }
 {
     let named = named_key(alloc, bins, table, offset)?;
-    siblings.put(alloc, named.name.as_slice())?;
+    let fields = named.node.fields;
+    siblings.put(alloc, named.name)?;
     if levels == 0 {
         return Err(LoadFault::Limit);
     }
-    let fields = named.node.fields;
     let _parts = enter_key(alloc, bins, table, minor, offset, &fields)?;
     let subkeys = subkeys_from(bins, table, fields.subkeys, fields.subkeys_list)?;
     if noted.push(offset).is_err() {
@@ -89,7 +89,7 @@ fn check_key<'a>(
         offset,
         levels: levels - 1,
         count: 0,
-        names: MetNames::new(alloc),
+        names: SiblingNames::new(alloc),
         leaf: subkeys.leaf,
         lists: subkeys.lists,
     })
@@ -163,7 +163,7 @@ pub fn check_keys(
         × ((minor == 3) ≡ false → noted.new.items ≡ key_offsets seen.found)) }
     ensures err { IfErr result (λ fault. Meets fault (key_from (cell_at bins.now) minor (suc PATH_LIMIT) [] root_path root nothing)) }
 {
-    let mut siblings = MetNames::new(alloc);
+    let mut siblings = SiblingNames::new(alloc);
     let levels = PATH_LIMIT as u32 + 1;
     let first = check_key(
         alloc,

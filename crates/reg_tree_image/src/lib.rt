@@ -14,8 +14,9 @@
 //! [`LoadFault`].
 //!
 //! `loading` reads an image (`input`), tests its base block (`block`) and cells (`scan`), and then its keys, by `walk` over a stack of
-//! `frames`, or by `checking`, which builds none. `begin` reads a key and builds it (`built_keys`, `first_keys`) where `room` was
-//! made for it, each record by a reader of its own, over `cells`, which names a cell in the `table`. `writing` makes an image, `tree_writing` writes one bin by bin.
+//! `frames`, or by `checking`, which builds none and keeps the names of siblings (`sibling_names`). `begin` reads a key and builds it
+//! (`built_keys`, `first_keys`) where `room` was made for it, each record by a reader of its own, over `cells`, which names a cell in the
+//! `table`. `writing` makes an image, `tree_writing` writes one bin by bin, and `parts` copies a part of one.
 //! `path_loading` finds a value of an image by its path, by `path_walk`, which reads no more keys than it passes, and `path_listing` a
 //! key with its values and the names right below it.
 //! `free_cells` counts what of the bins is free, and `rebuilding` builds a tree anew in bins of its own.
@@ -42,6 +43,7 @@ mod lists;
 mod loading;
 mod met_names;
 mod names;
+mod parts;
 mod path_listing;
 mod path_loading;
 mod path_walk;
@@ -50,6 +52,7 @@ mod room;
 mod rows;
 mod scan;
 mod security;
+mod sibling_names;
 mod subkeys;
 mod table;
 mod tree_writing;
@@ -62,6 +65,7 @@ mod writing;
 pub use block::checksum;
 pub use free_cells::{free_bytes, is_sparse};
 pub use loading::{NumberedTree, load_anew, load_numbered, load_tree};
+pub use parts::{fill, image_part};
 pub use path_listing::{KeyAtPath, ListedValue, key_at_path};
 pub use path_loading::{ValueAtPath, value_at_path};
 pub use rebuilding::rebuild;

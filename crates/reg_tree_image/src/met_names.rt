@@ -1,13 +1,13 @@
 //! The names that were met in one key, of its values or of its subkeys.
 
-ghost use Rattle.std.specs.Prelude.{◌≡◌, ◌≢◌, ◌↔◌, ◌≤◌, ◌<◌, ◌||◌, ◌++◌, ◌∷◌, ℕ, List, [], IsTrue, false, not, length, IfOk, IfErr, OnOk};
+ghost use Rattle.std.specs.Prelude.{◌≡◌, ◌≢◌, ◌↔◌, ◌≤◌, ◌<◌, ◌||◌, ◌++◌, ◌∷◌, ℕ, List, [], IsTrue, true, false, not, length, IfOk, IfErr, OnOk};
 ghost use Rattle.std.specs.List.{list_any};
 ghost use Rattle.reg_names.specs.Names.{folded};
 ghost use Rattle.reg_heap.specs.Paths.{Member};
 ghost use Rattle.reg_heap.specs.Members.{same_name as is_same};
 ghost use Rattle.reg_tree_image.specs.declared.LoadFault.{LoadFault};
 ghost use Rattle.reg_tree_image.specs.WalkSteps.{check};
-ghost use Rattle.reg_tree_image.specs.Internal.NamesMet.{is_among, is_met, text_hash, AreMet, AreKnown};
+ghost use Rattle.reg_tree_image.specs.Internal.NamesMet.{is_among, is_met, is_one_of, text_hash, AreMet, AreKnown};
 ghost use Rattle.reg_tree_image.specs.Internal.NamedRecords.{member_in, members_in};
 ghost use Rattle.reg_tree_image.specs.Internal.ReaderOutcomes.{Gives};
 
@@ -15,6 +15,7 @@ use crate::LoadFault;
 use crate::values::ReadValue;
 use reg_names::{fold, same_name};
 use std::alloc::{AllocError, Global};
+use std::borrow::CowSlice;
 use std::collections::BTreeSet;
 use std::hash::{FoldHasher, Hasher};
 
@@ -123,6 +124,28 @@ impl MetNames {
         };
         if !is_new {
             return Err(LoadFault::Twice);
+        }
+        Ok(())
+    }
+
+    /// Whether the tree has no names.
+    pub fn is_empty(&self) -> bool
+        ensures { result ≡ true → self.now.folded.keys ≡ [] }
+    {
+        self.folded.is_empty()
+    }
+
+    /// Puts names into the tree, of which no two are the same and none is in it, so that it is memory alone that may be lacking.
+    pub fn put_all(&mut self, alloc: Global, names: &[CowSlice<'_, u8>]) -> Result<(), LoadFault>
+        ensures met { OnOk result ((other : List ℕ) →
+            is_met self.new.folded.keys other ≡ (is_met self.old.folded.keys other || is_one_of other names.now)) }
+        ensures err { IfErr result (λ fault. fault ≡ LoadFault.Memory) }
+    {
+        for name in names {
+            match self.put(alloc, name.as_slice()) {
+                Ok(()) => {}
+                Err(_) => return Err(LoadFault::Memory),
+            }
         }
         Ok(())
     }

@@ -301,7 +301,8 @@ fn key_in_bins(
 /// those are read that are passed in looking for the key, its values and their data, and the key nodes right below it. Names are
 /// compared after folding.
 ///
-/// The first test that fails is the fault, as for loading. Where the image would load, it is what its tree has there, and only `Memory`
+/// The first test that fails is the fault, as for loading, but names of subkeys aren't compared, nor are subkeys and levels counted. Where
+/// the image would load, it is what its tree has there, and only `Memory`
 /// can be lacking: so whoever loaded the image gets the same answer from it. Of an image that doesn't load there may be an answer, since
 /// not all is read.
 pub fn key_at_path<R: Source>(

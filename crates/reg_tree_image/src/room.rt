@@ -6,9 +6,11 @@ ghost use Rattle.std.specs.Prelude.{◌≡◌, ◌≤◌, ◌<◌, ◌%◌, IfSo
 ghost use Rattle.reg_tree.specs.TreeKeys.{IsThere};
 ghost use Rattle.reg_tree_image.specs.CrowdedBins.{IsReserved, IsListRoomier};
 
+use crate::cells::content;
 use crate::free_cells::free_bytes;
 use crate::key_parts::KeyParts;
 use crate::keys::NamedKey;
+use crate::table::{CellState, CellTable};
 use crate::values::ReadValue;
 use reg_arena::Arena;
 use reg_heap::limits::{LEAF_LIMIT, SUBKEYS_LIMIT, VALUES_LIMIT};
@@ -186,7 +188,7 @@ fn built_of_value(value: &ValueRecord<'_>) -> u32 {
 
 /// About how many bytes the cells have that are built of what a cell holds. What is no record of a key, a value or a security is a part of
 /// one.
-pub fn bytes_built_of(content: &[u8]) -> u32 {
+fn bytes_built_of(content: &[u8]) -> u32 {
     if let Ok(node) = read_nk(content) {
         return built_of_key(&node);
     }
@@ -197,6 +199,19 @@ pub fn bytes_built_of(content: &[u8]) -> u32 {
         Ok(security) => cell_bytes(20 + security.descriptor.len().min(MOST_COUNTED)),
         Err(_) => 0,
     }
+}
+
+/// About how many bytes the cells have that are built of the allocated ones of foreign bins.
+pub fn bytes_to_build(bins: &[u8], table: &CellTable) -> u32 {
+    let mut to_build = 0u32;
+    let mut offset = 0u32;
+    for state in table.states.as_slice() {
+        if *state != CellState::Unallocated {
+            to_build = to_build.saturating_add(bytes_built_of(content(bins, offset)));
+        }
+        offset = offset.wrapping_add(8);
+    }
+    to_build
 }
 
 /// How many bytes the lists have that come with one subkey more of a key that has so many, where they are built in their order: the first

@@ -9,8 +9,7 @@ ghost use Rattle.reg_arena.specs.Cells.{bins_of, cells_from};
 ghost use Rattle.reg_tree_image.specs.Internal.CellScans.{is_header_in, is_size_in, cell_there, Marks, Scans};
 
 use crate::LoadFault;
-use crate::cells::{content, size_at, word_at};
-use crate::room::bytes_built_of;
+use crate::cells::{size_at, word_at};
 use crate::table::{CellState, CellTable};
 use std::alloc::Global;
 
@@ -62,8 +61,7 @@ fn note_cell(bins: &[u8], table: &mut CellTable, at: usize)
     if word_at(bins, at) < 0x8000_0000 {
         return;
     }
-    let to_build = bytes_built_of(content(bins, at as u32));
-    table.allocate(at as u32, to_build);
+    table.allocate(at as u32);
 }
 
 /// Notes the allocated cells of a bin, from behind its header to its end. Where a size is bad the answer is no.
@@ -105,10 +103,7 @@ pub fn scan(alloc: Global, bins: &[u8]) -> Result<CellTable, LoadFault>
     {
         return Err(LoadFault::Memory);
     }
-    let mut table = CellTable {
-        states,
-        to_build: 0,
-    };
+    let mut table = CellTable { states };
     let mut at = 0;
     while at < bins.len() {
         let size = word_at(bins, at + 8) as usize;

@@ -21,11 +21,10 @@ pub enum CellState {
     OnPath,
 }
 
-/// What is known of each cell, one state for each eight bytes of the bins, and about how many bytes of cells are to be built of them.
+/// What is known of each cell: one state for each eight bytes of the bins.
 #[derive(Drop)]
 pub struct CellTable {
     pub states: Vec<CellState>,
-    pub to_build: u32,
 }
 
 /// Whether a place is none of an allocated cell that wasn't named.
@@ -76,15 +75,14 @@ impl CellTable {
         self.states[index] = state;
     }
 
-    /// Notes that an allocated cell begins at an offset, of which cells of so many bytes are to be built.
-    pub fn allocate(&mut self, offset: u32, to_build: u32)
+    /// Notes that an allocated cell begins at an offset.
+    pub fn allocate(&mut self, offset: u32)
         requires { (offset % 8 ≡ 0) × (offset < 8 * length self.old.states.items) }
         ensures puts { Puts self.old.states.items self.new.states.items offset CellState.Unnamed }
         ensures long { length self.new.states.items ≡ length self.old.states.items }
     {
         let index = (offset / 8) as usize;
         self.states[index] = CellState::Unnamed;
-        self.to_build = self.to_build.saturating_add(to_build);
     }
 
     /// Notes that the cell at an offset is named, as a security or as another record. An `Err` changes nothing.

@@ -19,7 +19,7 @@ use crate::begin::{BegunRoot, begin_key, begin_root};
 use crate::first_keys::FirstKeys;
 use crate::frames::KeyFrame;
 use crate::lists::leaf_from;
-use crate::room::{Building, Room};
+use crate::room::{Building, Room, bytes_to_build};
 use crate::table::CellTable;
 use reg_heap::limits::SUBKEYS_LIMIT;
 use reg_tree::Tree;
@@ -120,6 +120,14 @@ fn walk_below<'a>(
     Ok(())
 }
 
+/// The room for what is to be built of foreign bins.
+fn room_for(building: Building, bins: &[u8], table: &CellTable) -> Room {
+    match building.to_build {
+        Some(to_build) => Room::new(to_build),
+        None => Room::new(bytes_to_build(bins, table)),
+    }
+}
+
 /// Walks the keys of foreign bins from the root's key node on, and builds them in a new tree. Of the cells none was named yet.
 ///
 /// Its faults are the walk's, the first that is met; `Limit` also where the new bins have no room for the key that was told last;
@@ -138,7 +146,7 @@ pub fn walk(
     ensures err { IfErr result (λ fault. FailsAs (IsRootCrowded building.ahead (cell_at bins.now) minor root) fault
         (key_from (cell_at bins.now) minor (suc PATH_LIMIT) [] root_path root nothing)) }
 {
-    let mut room = Room::new(building.to_build.unwrap_or(table.to_build));
+    let mut room = room_for(building, bins, table);
     let BegunRoot { mut tree, key } = begin_root(building, bins, minor, table, root, &mut room)?;
     walk_below(building, bins, minor, table, &mut tree, key, &mut room)?;
     Ok(tree)

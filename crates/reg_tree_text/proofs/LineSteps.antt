@@ -7,7 +7,7 @@ use Rattle.reg_tree_text.specs.Internal.LineParts.{marks_part, time_part, kind_p
 use Rattle.reg_tree_text.proofs.SentTexts.{opened, then_gathered}
 
 -- a first part was gathered, and the next one is to be told
-part : (begin now : WriterState) (whole first next rest left gathered more : List ℕ) (written : ℕ) →
+pub part : (begin now : WriterState) (whole first next rest left gathered more : List ℕ) (written : ℕ) →
     IsSoFar begin now whole ((first ++ (next ++ rest)) ++ left) gathered written → more ≡ gathered ++ first →
     IsSoFar begin now whole (next ++ (rest ++ left)) more written
 part begin now whole first next rest left gathered more written s e =

@@ -7,16 +7,10 @@ use Rattle.reg_text.specs.Texts.{line_feed, escaped}
 use Rattle.reg_values.specs.ValueLists.{Tells}
 use Rattle.reg_tree_text.specs.Internal.Gathered.{WriterState, IsSoFar}
 use Rattle.reg_tree_text.specs.DumpTexts.{Told}
-use Rattle.reg_tree_text.proofs.SentTexts.{opened, swapped, then_gathered}
+use Rattle.reg_tree_text.proofs.SentTexts.{opened, swapped}
+use Rattle.reg_tree_text.proofs.LineSteps.{part}
 use Rattle.reg_names.specs.Names.{text_of}
 use Rattle.reg_tree_text.specs.Listings.{after_name, value_line, value_lines, key_line, told_lines}
-
--- a first part was gathered, and the next one is to be told
-part : (begin now : WriterState) (whole first next rest left gathered more : List ℕ) (written : ℕ) →
-    IsSoFar begin now whole ((first ++ (next ++ rest)) ++ left) gathered written → more ≡ gathered ++ first →
-    IsSoFar begin now whole (next ++ (rest ++ left)) more written
-part begin now whole first next rest left gathered more written s e =
-    opened begin now whole next rest left more written (then_gathered begin now whole first (next ++ rest) left gathered more written s e)
 
 module _ (begin now : WriterState) (whole left gathered more : List ℕ) (written : ℕ) where
   abbrev SoFar : List ℕ → List ℕ → Type 0

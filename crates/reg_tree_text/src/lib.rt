@@ -7,9 +7,10 @@
 //! [`list_at`] and [`get_at`] find the key or the value first, by a path and a name (`specs/PathQueries.antt`); where there is none, they say
 //! so and write nothing. It stands on reg_tree, whose trees it reads, and on reg_text.
 //!
-//! `walk` goes from key to key with a stack of those on the present path, `dump_line` and `list_line` tell a key, and `output` sends what
-//! was gathered ([`settle`], [`finish`]), and names and data piece by piece ([`put_escaped`], [`put_digits`]). Its types are [`Counts`],
-//! [`DumpFault`] and [`PathFault`], and [`Walk`], by which other texts of a tree are told.
+//! `walk` goes from key to key with a stack of those on the present path, `dump_line` and `list_line` tell a key ([`put_value_line`] and
+//! [`put_key_line`] its lines, one by one), and `output` sends what was gathered ([`settle`], [`finish`]), and names and data piece by
+//! piece ([`put_escaped`], [`put_digits`]). Its types are [`Counts`], [`DumpFault`] and [`PathFault`], and [`Walk`], by which other texts
+//! of a tree are told.
 #![tactic(auto)]
 
 mod counting;
@@ -32,6 +33,7 @@ pub use counts::Counts;
 pub use dumping::dump;
 pub use fault::DumpFault;
 pub use key_queries::{find_key, list_at};
+pub use list_line::{put_key_line, put_value_line};
 pub use listing::{list, list_tree};
 pub use output::{finish, put_digits, put_escaped, settle};
 pub use path_fault::PathFault;

@@ -30,8 +30,9 @@ fn write_kind_and_size(text: &mut String, kind: u32, size: u32) -> Result<(), Al
     writeln!(text, " type {kind} size {size}")
 }
 
-/// Tells the line of a value of that name and type and of so many bytes.
-fn put_member<W: Sink>(
+/// Tells the line of a value of that name and type and of so many bytes, in a listing: it is gathered, and what was gathered is sent once
+/// it is enough ([`crate::settle`]).
+pub fn put_value_line<W: Sink>(
     output: &mut Output<String>,
     writer: &mut W,
     name: &[u8],
@@ -62,7 +63,7 @@ fn put_value<W: Sink>(
     let Some(value) = tree.value(node, index) else {
         unreachable!()
     };
-    put_member(output, writer, value.name, value.kind, value.size)
+    put_value_line(output, writer, value.name, value.kind, value.size)
 }
 
 /// Tells the lines of a key's values, in their order.
@@ -82,8 +83,8 @@ pub fn put_values<W: Sink>(
     Ok(())
 }
 
-/// Tells the line of a key of that name, or at the end of names joined by backslashes.
-pub fn put_name<W: Sink>(
+/// Tells the line of a key of that name, or at the end of names joined by backslashes, in a listing, as [`put_value_line`] does.
+pub fn put_key_line<W: Sink>(
     output: &mut Output<String>,
     writer: &mut W,
     name: &[u8],
@@ -111,7 +112,7 @@ pub fn put_subkeys<W: Sink>(
     let mut next = tree.first_subkey(node);
     for _index in 0..tree.subkeys(node) {
         let Some(subkey) = next else { unreachable!() };
-        put_name(output, writer, tree.name(subkey.node))?;
+        put_key_line(output, writer, tree.name(subkey.node))?;
         next = tree.next_subkey(node, subkey);
     }
     Ok(())
@@ -129,6 +130,6 @@ pub fn put_key<W: Sink>(
     ensures { (p : Path) → IsAt tree.now p node → (told : Told) → get tree.now.tree p ≡ Some told.key → path.now ≡ text_of told.names →
         Puts output.old (W.contents writer.old, W.failures writer.old) output.new (W.contents writer.new, W.failures writer.new) (told_lines told) result }
 {
-    put_name(output, writer, path)?;
+    put_key_line(output, writer, path)?;
     put_values(output, writer, tree, node)
 }

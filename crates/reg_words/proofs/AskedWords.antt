@@ -106,7 +106,7 @@ abbrev pub word_of : Request → List ℕ
 word_of (Stream request) = stream_word request
 word_of (Dump file) = codes "dump"
 word_of (Check files) = codes "check"
-word_of (Listing file path is_whole) = codes "ls"
+word_of (Listing file path is_tree is_whole) = codes "ls"
 word_of (Get file path name is_raw is_whole) = codes "get"
 word_of (Find file pattern places) = codes "find"
 word_of (Diff old new) = codes "diff"
@@ -119,7 +119,7 @@ pub named : (found : Text × List Row) (request : Request) → Asks found reques
 named found (Stream request) h = stream_named found request h
 named found (Dump file) h = h.0
 named found (Check files) h = h.0
-named found (Listing file path is_whole) h = h.0
+named found (Listing file path is_tree is_whole) h = h.0
 named found (Get file path name is_raw is_whole) h = h.0
 named found (Find file pattern places) h = h.0
 named found (Diff old new) h = h.0
@@ -160,7 +160,7 @@ none_asked name rows none (Stream request) h =
     stream_apart (name, rows) request none.no_run_word none.no_dump_word none.no_check_word h
 none_asked name rows none (Dump file) h = none.no_dump_word (named (name, rows) (Dump file) h)
 none_asked name rows none (Check files) h = none.no_check_word (named (name, rows) (Check files) h)
-none_asked name rows none (Listing file path is_whole) h = none.no_ls_word (named (name, rows) (Listing file path is_whole) h)
+none_asked name rows none (Listing file path is_tree is_whole) h = none.no_ls_word (named (name, rows) (Listing file path is_tree is_whole) h)
 none_asked name rows none (Get file path value is_raw is_whole) h = none.no_get_word (named (name, rows) (Get file path value is_raw is_whole) h)
 none_asked name rows none (Find file pattern places) h = none.no_find_word (named (name, rows) (Find file pattern places) h)
 none_asked name rows none (Diff old new) h = none.no_diff_word (named (name, rows) (Diff old new) h)
@@ -192,7 +192,7 @@ module _ (rows : List Row) where
   no_new e request h = other (codes "new") rows request refl refl h
 
   pub no_list : first_of (codes "file") rows ≡ None → (request : Request) → Asks (codes "ls", rows) request → ⊥
-  no_list e (Listing file path is_whole) h = none_there _ file.now e h.1
+  no_list e (Listing file path is_tree is_whole) h = none_there _ file.now e h.1
   no_list e (Stream request) h = other_stream (codes "ls", rows) (codes "ls") request refl refl refl refl refl h
   no_list e request h = other (codes "ls") rows request refl refl h
 

@@ -16,7 +16,7 @@ pub of_files : (found : Text × List Row) (request : Request) (stream : StreamRe
 of_files found (Stream other) stream e h asks = cc
 of_files found (Dump file) stream e h asks = dump_of_file found file.now stream h.0 h.1 asks
 of_files found (Check files) stream e h asks = check_of_files found (map (λ file. file.now) files.items) stream h.0 h.1 asks
-of_files found (Listing file path is_whole) stream e h asks = other_stream found (codes "ls") stream h.0 refl refl refl refl asks
+of_files found (Listing file path is_tree is_whole) stream e h asks = other_stream found (codes "ls") stream h.0 refl refl refl refl asks
 of_files found (Get file path name is_raw is_whole) stream e h asks = other_stream found (codes "get") stream h.0 refl refl refl refl asks
 of_files found (Find file pattern places) stream e h asks = other_stream found (codes "find") stream h.0 refl refl refl refl asks
 of_files found (Diff old new) stream e h asks = other_stream found (codes "diff") stream h.0 refl refl refl refl asks
@@ -45,7 +45,7 @@ stream_is : (request : Request) (stream : StreamRequest) → stream_of request �
 stream_is (Stream other) stream e = cc
 stream_is (Dump file) stream e = cc
 stream_is (Check files) stream e = cc
-stream_is (Listing file path is_whole) stream e = cc
+stream_is (Listing file path is_tree is_whole) stream e = cc
 stream_is (Get file path name is_raw is_whole) stream e = cc
 stream_is (Find file pattern places) stream e = cc
 stream_is (Diff old new) stream e = cc

@@ -77,10 +77,12 @@ dump_command = with_rule (new_app (codes "dump")) (file_rule false)
 abbrev pub check_command : App
 check_command = with_rule (new_app (codes "check")) files_rule
 
--- `ls`, of a file, with a path that may be left out, and whether the whole tree is listed
+-- `ls`, of a file, with a path that may be left out, whether all below it is listed, and whether the whole hive is tested first
 abbrev pub list_command : App
 list_command =
-    with_rule (with_rule (with_rule (new_app (codes "ls")) (file_rule true)) (place_rule (codes "path") false)) (flag_rule (codes "tree"))
+    with_rule
+    (with_rule (with_rule (with_rule (new_app (codes "ls")) (file_rule true)) (place_rule (codes "path") false)) (flag_rule (codes "tree")))
+    (flag_rule (codes "whole"))
 
 -- `get`, of a file and a path, with a value's name that may be left out, whether the value's bytes alone are written, and whether the whole
 -- hive is tested first
@@ -141,7 +143,7 @@ query_commands =
 
 -- `clap`'s command `regtool`, one of whose subcommands must be there: `run` with the options `--image` of a number of 32 bits and
 -- `--workers` of one from 1 to 16, which may be left out; `dump`, which may have a file, and `check`, which may have files; `ls` with a
--- file, a path that may be left out, and the flag `--tree`; `get` with a file, a path, a value's name that may be left out, and the flags
+-- file, a path that may be left out, and the flags `--tree` and `--whole`; `get` with a file, a path, a value's name that may be left out, and the flags
 -- `--raw` and `--whole`; `find` with a file, a pattern and the option `--in`; `diff` with two files; `export` with a file, a path that may
 -- be left out, the option `--as`, which must be given, and the flag `--utf8`; `new` with a file and the option `--name`; and `edit` and
 -- `import`, each with a file, the options `--output` and `--at`, which is a number of 64 bits, and the flags `--now` and `--dry-run`, and
@@ -203,9 +205,9 @@ abbrev pub Asks : Text × List Row → Request → Type 0
 Asks found (Stream request) = AsksOfStream found request
 Asks found (Dump file) = (found.0 ≡ codes "dump") × (first_of (codes "file") found.1 ≡ Some file.now)
 Asks found (Check files) = (found.0 ≡ codes "check") × (all_of (codes "files") found.1 ≡ Some (map (λ file. file.now) files.items))
-Asks found (Listing file path is_whole) =
+Asks found (Listing file path is_tree is_whole) =
     (found.0 ≡ codes "ls") × (first_of (codes "file") found.1 ≡ Some file.now) × (path.now ≡ unwrap_or (first_of (codes "path") found.1) [])
-    × ((is_whole ≡ true) ↔ IsSet (codes "tree") found.1)
+    × ((is_tree ≡ true) ↔ IsSet (codes "tree") found.1) × ((is_whole ≡ true) ↔ IsSet (codes "whole") found.1)
 Asks found (Get file path name is_raw is_whole) =
     (found.0 ≡ codes "get") × (first_of (codes "file") found.1 ≡ Some file.now) × (first_of (codes "path") found.1 ≡ Some path.now)
     × (name.now ≡ unwrap_or (first_of (codes "value") found.1) []) × ((is_raw ≡ true) ↔ IsSet (codes "raw") found.1)

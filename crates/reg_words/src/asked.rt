@@ -307,7 +307,8 @@ fn list_asked<'a>(matches: &ArgMatches<'a>) -> Option<Request<'a>>
         Some(file) => Some(Request::Listing {
             file,
             path: matches.get_str("path").unwrap_or(""),
-            is_whole: is_set(matches, "tree"),
+            is_tree: is_set(matches, "tree"),
+            is_whole: is_set(matches, "whole"),
         }),
         None => None,
     }

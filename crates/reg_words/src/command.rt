@@ -194,7 +194,8 @@ fn list_command<'a>(alloc: Global) -> Result<Command<'a>, AllocError>
         "The hive",
     )?
     .arg(path_arg(alloc))?
-    .arg(flag_arg(alloc, "tree", "List all that is below it"))
+    .arg(flag_arg(alloc, "tree", "List all that is below it"))?
+    .arg(flag_arg(alloc, "whole", "Test the whole hive first"))
 }
 
 /// `get` with its file and its path.

@@ -83,6 +83,8 @@ pub enum Request<'a> {
         /// The key's path; the empty one is the root's.
         path: &'a str,
         /// Whether all that is below it is listed, and not only what is right below.
+        is_tree: bool,
+        /// Whether the whole hive is tested first, and not only what is read on the way.
         is_whole: bool,
     },
     /// A value of a file.

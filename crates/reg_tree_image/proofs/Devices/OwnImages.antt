@@ -68,7 +68,7 @@ all-given bytes piece (Some xs) c e =
     ap length c ∙ (length-append piece xs ∙ (let n : length xs ≡ 0 = ap length e in omega (arith, n)))
 all-given bytes piece None c e = absurd c
 
-block-length : (size root moment sequence : ℕ) → length (block_of size root moment sequence) ≡ 4096
+pub block-length : (size root moment sequence : ℕ) → length (block_of size root moment sequence) ≡ 4096
 unfolding block_of
 block-length size root moment sequence = refl
 

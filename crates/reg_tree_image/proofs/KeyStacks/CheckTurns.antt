@@ -12,7 +12,7 @@ use Rattle.reg_tree_image.specs.declared.LoadFault.TheVariants.{Memory}
 use Rattle.reg_tree_image.specs.declared.table.CellState.{CellState}
 use Rattle.reg_tree_image.specs.declared.table.CellState.TheVariants.{Named, OnPath}
 use Rattle.reg_tree_image.specs.declared.list_part.ListPart.{ListPart}
-use Rattle.reg_tree_image.specs.declared.met_names.MetNames.{MetNames}
+use Rattle.reg_tree_image.specs.declared.sibling_names.SiblingNames.{SiblingNames}
 use Rattle.reg_tree_image.specs.declared.checking.CheckedKey.{CheckedKey}
 use Rattle.reg_tree_image.specs.WalkSteps.{Seen, Step, ◌>>=◌, onward}
 use Rattle.reg_tree_image.specs.LoadingWalk.{is_free, root_path, key_from, leaf_from, keys_each, lists_each}
@@ -161,7 +161,7 @@ module _ (heap : Heap) (minor : ℕ) (whole : Told) (key : CheckedKey) (above : 
   -- ---- the next key
   module _ (e : Entry) (part : ListPart) (more : entries_in key.leaf ≡ e ∷ entries_in part) (few : key.count < SUBKEYS_LIMIT) where
     -- the next subkey is checked, or its fault is met, wherever the lowest key stands and whatever was seen by then
-    abbrev Goes : MetNames → Result CheckedKey LoadFault → Type 0
+    abbrev Goes : SiblingNames → Result CheckedKey LoadFault → Type 0
     Goes names result =
         (path : List ℕ) → (here : List ℕ → Path) → (seen : Seen) → IsTable heap seen.found path old → AreSiblings here seen.told key.names →
         MatchResult result (λ below. IsChecked heap minor key.levels path here e.offset seen new key.names names below)
@@ -185,7 +185,7 @@ module _ (heap : Heap) (minor : ℕ) (whole : Told) (key : CheckedKey) (above : 
         (λ m. lists_each heap (go heap minor levels f) f.path m f.lists)
         (λ _. left heap minor (suc levels) frames) (go heap minor levels f e.offset seen))
 
-    pub checking-key : (below : CheckedKey) (names : MetNames) → Goes names (Ok below) →
+    pub checking-key : (below : CheckedKey) (names : SiblingNames) → Goes names (Ok below) →
         IsChecking heap minor whole (below ∷ record key { count = key.count + 1; leaf = part; names = names } ∷ above) new (noted ++ e.offset ∷ [])
     checking-key below names goes = by-frame by
       where
@@ -237,7 +237,7 @@ module _ (heap : Heap) (minor : ℕ) (whole : Told) (key : CheckedKey) (above : 
               keys = λ n. ap (λ (l : List ℕ). l ++ e.offset ∷ []) (w.keys n) ∙ sym (b.keys n);
             }
 
-    pub checking-key-fails : (names : MetNames) (fault : LoadFault) → Goes names (Err fault) → Meets fault whole
+    pub checking-key-fails : (names : SiblingNames) (fault : LoadFault) → Goes names (Err fault) → Meets fault whole
     checking-key-fails names fault goes = by-frame by
       where
         by : FromLowest (Meets fault whole)
@@ -249,7 +249,7 @@ module _ (heap : Heap) (minor : ℕ) (whole : Told) (key : CheckedKey) (above : 
 
 -- ---- the first key
 
-pub checking-first : (heap : Heap) (minor root : ℕ) (states : List CellState) (old new : MetNames) (key : CheckedKey) →
+pub checking-first : (heap : Heap) (minor root : ℕ) (states : List CellState) (old new : SiblingNames) (key : CheckedKey) →
     IsChecked heap minor (suc PATH_LIMIT) [] root_path root nothing states old new key →
     IsChecking heap minor (key_from heap minor (suc PATH_LIMIT) [] root_path root nothing) (key ∷ []) states (root ∷ [])
 checking-first heap minor root states old new key b = record {

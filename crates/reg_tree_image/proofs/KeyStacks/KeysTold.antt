@@ -14,7 +14,7 @@ use Rattle.reg_tree.proofs.InsertKey.PathGrowth.{path-self}
 use Rattle.reg_values.proofs.ValueListing.FoundValues.{same-is}
 use Rattle.reg_tree_image.specs.WalkSteps.{Seen}
 use Rattle.reg_tree_image.specs.LoadingWalk.{is_free}
-use Rattle.reg_tree_image.specs.declared.met_names.MetNames.{MetNames}
+use Rattle.reg_tree_image.specs.declared.sibling_names.SiblingNames.{SiblingNames}
 use Rattle.reg_tree_image.specs.Internal.CheckedStacks.{has_met, AreSiblings, HasAllAbove}
 
 -- ---- paths
@@ -132,7 +132,7 @@ all-above-more a m r told there above p n e =
 -- ---- the names of siblings
 
 -- a key's own names, as one of its subkeys is told
-pub one-sibling : (p : Path) (m : List ℕ) (r : Rec) (seen after : Seen) (old new : MetNames) →
+pub one-sibling : (p : Path) (m : List ℕ) (r : Rec) (seen after : Seen) (old new : SiblingNames) →
     after.told ≡ seen.told ++ (child_path p m, r) ∷ [] →
     ((other : List ℕ) → has_met new other ≡ (has_met old other || same_name m other)) →
     AreSiblings (child_path p) seen.told old → AreSiblings (child_path p) after.told new
@@ -148,14 +148,14 @@ one-sibling p m r seen after old new told one s n =
     by false b = refl
 
 -- those of a key of another depth
-pub same-siblings : (p q : Path) (r : Rec) (seen after : Seen) (names : MetNames) → after.told ≡ seen.told ++ (q, r) ∷ [] →
+pub same-siblings : (p q : Path) (r : Rec) (seen after : Seen) (names : SiblingNames) → after.told ≡ seen.told ++ (q, r) ∷ [] →
     length q ≢ length p + 1 → AreSiblings (child_path p) seen.told names → AreSiblings (child_path p) after.told names
 same-siblings p q r seen after names told l s n =
     ap (is_free (child_path p n)) told
     ∙ (free-still (child_path p n) q r seen.told (λ e. let k = child-length p n in l (e ∙ k)) ∙ s n)
 
 -- and of the key that is told, which has none yet
-pub no-siblings : (q : Path) (r : Rec) (seen after : Seen) (names : MetNames) → after.told ≡ seen.told ++ (q, r) ∷ [] →
+pub no-siblings : (q : Path) (r : Rec) (seen after : Seen) (names : SiblingNames) → after.told ≡ seen.told ++ (q, r) ∷ [] →
     is_free q seen.told ≡ true → HasAllAbove seen.told → ((other : List ℕ) → has_met names other ≡ false) →
     AreSiblings (child_path q) after.told names
 no-siblings q r seen after names told free above none n =

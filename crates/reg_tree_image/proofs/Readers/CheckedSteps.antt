@@ -14,7 +14,7 @@ use Rattle.reg_tree_image.specs.declared.table.CellState.{CellState}
 use Rattle.reg_tree_image.specs.declared.keys.NamedKey.{NamedKey}
 use Rattle.reg_tree_image.specs.declared.key_parts.KeyParts.{KeyParts}
 use Rattle.reg_tree_image.specs.declared.subkeys.SubkeyParts.{SubkeyParts}
-use Rattle.reg_tree_image.specs.declared.met_names.MetNames.{MetNames}
+use Rattle.reg_tree_image.specs.declared.sibling_names.SiblingNames.{SiblingNames}
 use Rattle.reg_tree_image.specs.WalkSteps.{Seen, Step, onward, give, check}
 use Rattle.reg_tree_image.specs.LoadingWalk.{is_free, named_key, head_from, parts_from, key_from}
 use Rattle.reg_tree_image.specs.Internal.CellStates.{IsTable}
@@ -54,14 +54,16 @@ module _ (heap : Heap) (minor levels : ℕ) (path : List ℕ) (here : List ℕ �
   pub not-named : (fault : LoadFault) → Fails fault (named_key heap path offset) seen → Whole fault
   not-named fault f = stopped fault (head-stops heap levels path here offset seen fault f)
 
-  module _ (siblings : MetNames) (are : AreSiblings here seen.told siblings) (named : NamedKey) (states : List CellState)
-      (done : IsDone heap path (named_key heap path offset) seen (key_of named) states)
-      (given : List ℕ) (same : given ≡ cow_slice_items named.name) where
+  module _ (siblings : SiblingNames) (are : AreSiblings here seen.told siblings) (named : NamedKey) (states : List CellState)
+      (done : IsDone heap path (named_key heap path offset) seen (key_of named) states) where
+    abbrev given : List ℕ
+    given = cow_slice_items named.name
+
     abbrev at : Path
-    at = here (cow_slice_items named.name)
+    at = here given
 
     free-by : is_free at seen.told ≡ not (has_met siblings given)
-    free-by = are (cow_slice_items named.name) ∙ ap (λ name. not (has_met siblings name)) (sym same)
+    free-by = are given
 
     -- a sibling has its name, or memory lacks for it
     pub not-new : (fault : LoadFault) → Gives {X = Unit {0}} (λ _. tt) (check Twice (not (has_met siblings given))) (Err fault) → Whole fault
@@ -124,7 +126,7 @@ module _ (heap : Heap) (minor levels : ℕ) (path : List ℕ) (here : List ℕ �
             (l below (told_then heap minor lower path here offset seen named mid head parts next own) own.table)))
 
         pub is-checked : (subkeys : SubkeyParts) → ListsAny next last (Ok subkeys) → is_free (here (cow_slice_items named.name)) seen.told ≡ true →
-            (old new names : MetNames) → ((other : List ℕ) → has_met new other ≡ (has_met old other || same_name (cow_slice_items named.name) other)) →
+            (old new names : SiblingNames) → ((other : List ℕ) → has_met new other ≡ (has_met old other || same_name (cow_slice_items named.name) other)) →
             ((other : List ℕ) → has_met names other ≡ false) → (left : ℕ) → left ≡ lower →
             IsChecked heap minor levels path here offset seen last old new
             (record { offset = offset; levels = left; count = 0; names = names; leaf = subkeys.leaf; lists = subkeys.lists })

@@ -15,7 +15,7 @@ use Rattle.reg_names.proofs.NameOrders.{same_from_Equal}
 use Rattle.reg_heap.specs.Members.{same_name}
 use Rattle.reg_tree_image.specs.Internal.NamesMet.{is_met, hashed_cmp, text_hash}
 
-or-turned : (a b : Bool) → (a || b) ≡ (b || a)
+pub or-turned : (a b : Bool) → (a || b) ≡ (b || a)
 or-turned true true = refl
 or-turned true false = refl
 or-turned false true = refl

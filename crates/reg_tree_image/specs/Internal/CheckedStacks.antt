@@ -8,13 +8,13 @@ use Rattle.reg_heap.specs.Members.{same_name}
 use Rattle.reg_tree_image.specs.declared.LoadFault.{LoadFault}
 use Rattle.reg_tree_image.specs.declared.LoadFault.TheVariants.{Memory}
 use Rattle.reg_tree_image.specs.declared.table.CellState.{CellState}
-use Rattle.reg_tree_image.specs.declared.met_names.MetNames.{MetNames}
+use Rattle.reg_tree_image.specs.declared.sibling_names.SiblingNames.{SiblingNames}
 use Rattle.reg_tree_image.specs.declared.checking.CheckedKey.{CheckedKey}
 use Rattle.reg_tree_image.specs.WalkSteps.{Seen}
 use Rattle.reg_tree_image.specs.LoadingWalk.{is_free, key_from}
 use Rattle.reg_tree_image.specs.Internal.CellStates.{IsTable}
 use Rattle.reg_tree_image.specs.Internal.ListParts.{entries_in}
-use Rattle.reg_tree_image.specs.Internal.NamesMet.{is_met}
+use Rattle.reg_tree_image.specs.Internal.NamesMet.{is_met, is_one_of}
 use Rattle.reg_tree_image.specs.Internal.Frames.{Frame, frame_left, left}
 use Rattle.reg_tree_image.specs.Internal.KeysNamed.{key_offsets}
 use Rattle.reg_tree_image.specs.Internal.Stacks.{path_of}
@@ -25,11 +25,11 @@ Meets Memory whole = ⊤
 Meets fault whole = whole ≡ Err fault
 
 -- among these names is one that folds as another
-abbrev pub has_met : MetNames → List ℕ → Bool
-has_met names name = is_met names.folded.keys name
+abbrev pub has_met : SiblingNames → List ℕ → Bool
+has_met names name = is_one_of name names.rising.items || is_met names.met.folded.keys name
 
 -- the names are just those of the keys that were told where `here` puts a key of a name
-abbrev pub AreSiblings : (List ℕ → Path) → List (Path × Rec) → MetNames → Type 0
+abbrev pub AreSiblings : (List ℕ → Path) → List (Path × Rec) → SiblingNames → Type 0
 AreSiblings here told names = (name : List ℕ) → is_free (here name) told ≡ not (has_met names name)
 
 -- with a key that wasn't told none below it was
@@ -74,7 +74,7 @@ frame_of path at key = record { path = path; at = at; count = 0; entries = entri
 -- a key was checked: its record, class, security and values were read, and then the list of its subkeys; its name is one more of its
 -- siblings'. What is left of it are its subkeys
 pub record IsChecked (heap : Heap) (minor levels : ℕ) (path : List ℕ) (here : List ℕ → Path) (offset : ℕ) (seen : Seen)
-    (states : List CellState) (old new : MetNames) (key : CheckedKey) : Type 0 where
+    (states : List CellState) (old new : SiblingNames) (key : CheckedKey) : Type 0 where
   pub lower : ℕ
   pub levels_are : levels ≡ suc lower
   pub after : Seen

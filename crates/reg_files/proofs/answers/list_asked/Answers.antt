@@ -6,7 +6,7 @@ use Rattle.reg_files.proofs.answers.list_asked.Goals as goal
 
 pub returns : goal.returns
 returns g c =
-    λ unread. settled (Listing c.args.file c.args.path c.args.is_whole) (g.W.Output.closed c.list_key-done.new.output) unread unread
+    λ unread. settled (Listing c.args.file c.args.path c.args.is_tree c.args.is_whole) (g.W.Output.closed c.list_key-done.new.output) unread unread
     (g.W.Write.contents c.args.output.now) (g.W.Write.contents c.list_key-done.new.output)
     (g.E.Sink.contents c.args.errors.now) (g.E.Sink.contents c.settle.new.errors)
     (g.E.Sink.failures c.args.errors.now) (g.E.Sink.failures c.settle.new.errors) is_cut _ _ c.is_closed.result c.list_key-done.result c.settle.result

@@ -19,7 +19,7 @@ loop-key-init c =
     subst (λ (ks : List CheckedKey). IsChecking (cell_at bins) c.args.minor whole ks c.check_key.new.table.states.items c.check_key.new.noted.items) (sym items)
     (subst (λ (l : List ℕ). IsChecking (cell_at bins) c.args.minor whole (c.in_ok-first.first ∷ []) c.check_key.new.table.states.items l) (sym noted)
     (checking-first (cell_at bins) c.args.minor c.args.root c.check_key.new.table.states.items c.new-siblings.result c.check_key.new.siblings c.in_ok-first.first
-    (c.in_ok-first.ensures.checks [] root_path nothing c.requires.table (λ name. ap not (c.new-siblings.ensures name)))))
+    (c.in_ok-first.ensures.checks [] root_path nothing c.requires.table (λ name. ap not (sym (c.new-siblings.ensures name))))))
 
 pub loop-key-preserved : goal.loop-key-preserved
 loop-key-preserved c =

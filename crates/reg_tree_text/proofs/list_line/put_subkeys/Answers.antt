@@ -22,13 +22,13 @@ name-requires g c =
     let n = next_is _ _ _ _ _ _ v.0 c.in-Some.is in
     (_, n.at)
 
-pub returns-in_err-put_name : goal.returns-in_err-put_name
-returns-in_err-put_name g c =
+pub returns-in_err-put_key_line : goal.returns-in_err-put_key_line
+returns-in_err-put_key_line g c =
     λ p at begin whole left s.
     (let v = c.loop-index.invariant p at in
     let n = next_is _ _ _ _ _ _ v.0 c.in-Some.is in
     exits _ _ _ _ c.from_residual.ensures.1
-    (c.in_err-put_name.ensures begin whole _
+    (c.in_err-put_key_line.ensures begin whole _
     (child_next begin _ whole c.args.tree.now.tree (children_of c.args.tree.now.tree p) c.loop-index._index _ left _ _ n.within
     (child_named _ _ _ (c.name.ensures.key _ n.at) (c.name.ensures.told _ n.at)) (v.1 begin whole left s))))
 
@@ -44,7 +44,7 @@ loop-index-preserved g c =
     let n = next_is _ _ _ _ _ _ v.0 c.in-Some.is in (
       next_behind _ p _ _ _ (c.next_subkey-next.ensures p at _ n),
       λ begin whole left s.
-          c.in_ok-put_name.ensures begin whole _
+          c.in_ok-put_key_line.ensures begin whole _
           (child_next begin _ whole c.args.tree.now.tree (children_of c.args.tree.now.tree p) c.loop-index._index _ left _ _ n.within
           (child_named _ _ _ (c.name.ensures.key _ n.at) (c.name.ensures.told _ n.at)) (v.1 begin whole left s)),
     ))

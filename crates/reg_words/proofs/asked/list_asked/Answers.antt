@@ -10,6 +10,7 @@ returns-in-Some c = (
   first_is (found_of c.args.matches.now) (codes "file") _ c.get_str.ensures ∙ ap (option_map (λ s. s.now)) c.in-Some.is,
   given_or (found_of c.args.matches.now) (codes "path") [] c.get_str-in-Some.result (λ s. s.now) _ _ c.get_str-in-Some.ensures c.unwrap_or.ensures refl,
   c.is_set.ensures,
+  c.is_set-in-Some.ensures,
 )
 
 pub returns-in-None : goal.returns-in-None

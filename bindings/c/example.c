@@ -1,0 +1,41 @@
+/* Makes a hive, sets a value, asks for it, and saves the hive's image:
+ *
+ *     cc bindings/c/example.c $(PKG_CONFIG_PATH=dist pkg-config --cflags --libs zugmeled) && ./a.out example.hive
+ */
+#include "zugmeled.h"
+
+#include <stdio.h>
+#include <stdlib.h>
+
+#define TEXT(text) (const uint8_t *)(text), sizeof(text) - 1
+
+static const uint8_t descriptor[20] = {1, 0, 4, 0x80};
+
+static int save(zug_hive *hive, const char *path) {
+    uint64_t size, entries;
+    zug_image_size(hive, &size, &entries);
+    uint8_t *image = malloc(size);
+    FILE *out = fopen(path, "wb");
+    if (!image || !out || zug_image_part(hive, 0, 1, entries, 0, image, size) || fwrite(image, 1, size, out) != size)
+        return 1;
+    free(image);
+    return fclose(out) != 0;
+}
+
+int main(int count, char **words) {
+    zug_hive hive = {0};
+    uint64_t root, key;
+    uint32_t disposition, kind, size;
+    uint8_t room[16];
+    if (count < 2 || zug_hive_new(&hive, TEXT("ROOT"), descriptor, sizeof descriptor, 0) || zug_open_root(&hive, 0, 0, ZUG_ALL_ACCESS, &root))
+        return 1;
+    if (zug_create_key(&hive, 0, 0, root, TEXT("Software\\Zug"), ZUG_ALL_ACCESS, NULL, 0, &key, &disposition))
+        return 1;
+    if (zug_set_value(&hive, 0, 0, key, TEXT("Version"), 4, (const uint8_t *)"\1\0\0\0", 4))
+        return 1;
+    if (zug_query_value(&hive, 0, key, TEXT("version"), room, sizeof room, &kind, &size) == 0)
+        printf("type %u size %u first byte %u\n", (unsigned)kind, (unsigned)size, room[0]);
+    int failed = save(&hive, words[1]);
+    zug_hive_close(&hive);
+    return failed;
+}

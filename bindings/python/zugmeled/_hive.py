@@ -1,0 +1,651 @@
+"""Hives, and the keys in them."""
+
+import datetime
+import itertools
+import threading
+import time
+import weakref
+from collections import deque
+from ctypes import c_uint8, c_uint32, c_uint64, create_string_buffer, string_at
+from types import TracebackType
+from typing import Any, Callable, Deque, Iterator, List, NamedTuple, Optional, Tuple, Type
+
+from . import _files
+from . import _library as c
+from ._errors import error, load_error
+from ._values import Value, from_data, kind_for, to_data
+
+#: A security descriptor without owner, group and lists.
+EMPTY_SECURITY = bytes.fromhex("0100048000000000000000000000000000000000")
+
+# A thread of Python needs no session of its own: the hive's lock lets one call in at a time.
+_SESSION = 0
+
+# In place of a handle's number: the root's, which the hive itself keeps, and that of a key that was deleted.
+_ROOT = -1
+_DELETED = -2
+
+# How many bytes a question is asked with first. More are asked for where they aren't enough.
+_FIRST_ROOM = 1024
+_FIRST_NAME_ROOM = 256
+
+# An entry of the journal takes so many bytes, and what was given. With more than the second number the journal is cut.
+_ENTRY = 200
+_CUT_AT = 16 << 20
+
+_SEQUENCES = 1 << 32
+
+# Units of 100 ns in a second, and from 1601 to 1970.
+_TICKS = 10_000_000
+_TICKS_TO_1970 = 116_444_736_000_000_000
+
+
+def now() -> int:
+    """The clock's moment: units of 100 ns since 1601, in UTC."""
+    return time.time_ns() // 100 + _TICKS_TO_1970
+
+
+class Notice(NamedTuple):
+    """That a watch ended: its number, the number of the entry that ended it, and why (MATCHED, GONE or CLOSED)."""
+
+    watch: int
+    entry: int
+    reason: int
+
+
+class KeyInfo(NamedTuple):
+    """A key's numbers: how many there are, sizes in bytes, and when it was last written, in units of 100 ns since 1601."""
+
+    subkeys: int
+    longest_key: int
+    values: int
+    longest_value: int
+    largest: int
+    security: int
+    time: int
+
+
+class Hive:
+    """A hive in memory: a tree of keys. It is made by `Hive.open`, `Hive.new` or `Hive.loads`, and freed by `close`.
+
+    Threads may share it. What a call refuses is an `Error`, with the status as its `winerror`.
+    """
+
+    def __init__(self, words: c.HiveWords, sequence: int, clock: Callable[[], int]) -> None:
+        """For the three makers: takes over a hive, with the sequence number of its image."""
+        self._words = words
+        self._sequence = sequence
+        self._file: Optional[_files.HeldFile] = None
+        self._lock = threading.Lock()
+        # Handles of keys that went without being closed. A key may go while another call is under way, even in the same thread, so it
+        # closes nothing itself.
+        self._forgotten: Deque[int] = deque()
+        self._keys: "weakref.WeakSet[Key]" = weakref.WeakSet()
+        self._watches = 0
+        self._uncut = 0
+        self._changed = False
+        #: Tells the moment of each call, in units of 100 ns since 1601. It may be set to another function.
+        self.clock = clock
+        self._root = self._opened_root()
+
+    @classmethod
+    def open(cls, path: _files.Path, *, read_only: bool = False) -> "Hive":
+        """Loads the hive of a file, and keeps the file's lock until the hive is closed.
+
+        InUse where somebody else edits the file. With `read_only` the file isn't locked, and `save` needs a path.
+        """
+        if read_only:
+            return cls.loads(_files.read(path))
+        file = _files.HeldFile(path)
+        try:
+            hive = cls.loads(file.read())
+        except BaseException:
+            file.close()
+            raise
+        hive._file = file
+        return hive
+
+    @classmethod
+    def new(cls, root_name: str = "ROOT", *, security: bytes = EMPTY_SECURITY, clock: Callable[[], int] = now) -> "Hive":
+        """Makes a hive of one root, with a name and a security descriptor. It has no file."""
+        words = c.HiveWords()
+        name = _encoded(root_name)
+        security = _bytes_of(security)
+        _told(c.library.zug_hive_new(words, name, len(name), security, len(security), clock()))
+        return cls(words, 0, clock)
+
+    @classmethod
+    def loads(cls, data: bytes) -> "Hive":
+        """Loads a hive from the bytes of a hive file. It has no file. An Error with winerror 1017 tells its `fault` where it doesn't load."""
+        data = _bytes_of(data)
+        words = c.HiveWords()
+        fault = c_uint8()
+        status = c.library.zug_hive_load(words, data, len(data), fault)
+        if status != c.SUCCESS:
+            raise load_error(status, fault.value)
+        return cls(words, int.from_bytes(data[4:8], "little"), now)
+
+    @classmethod
+    def copy_of(cls, key: "Key") -> "Hive":
+        """Makes a hive whose root is a copy of a key, with all that is below it. Times are kept, classes and marks aren't."""
+        with key.open() as source:
+            hive = cls.new(source.name or "ROOT", security=source.security)
+            _copy(source, hive.root)
+        hive.clock = now
+        return hive
+
+    @property
+    def root(self) -> "Key":
+        """The root, with all rights. It needs no closing."""
+        return Key(self, "", c.ALL_ACCESS, _ROOT)
+
+    @property
+    def path(self) -> Optional[str]:
+        """The file that `save` writes, if the hive has one."""
+        return self._file.path if self._file else None
+
+    @property
+    def changed(self) -> bool:
+        """Whether a call may have changed a key since the hive was made, loaded or saved to its own file."""
+        return self._changed
+
+    def image(self) -> bytes:
+        """The bytes of a hive file: this hive's, with the clock's moment and the next sequence number."""
+        size, entries = c_uint64(), c_uint64()
+        while True:
+            _told(self._call(c.library.zug_image_size, size, entries))
+            room = create_string_buffer(size.value)
+            part = (self.clock(), self._next_sequence(), entries.value, 0, room, len(room))
+            status = self._call(c.library.zug_image_part, *part)
+            # It is this status where another thread changed the hive between the two calls.
+            if status != c.INVALID_PARAMETER:
+                _told(status)
+                return room.raw
+
+    def save(self, path: Optional[_files.Path] = None) -> None:
+        """Saves the hive to its own file, or makes another file with it: FileExistsError where one is there.
+
+        Whatever fails, the hive's own file is as it was. ValueError where it has none and no path is given.
+        """
+        if self._file and (path is None or self._file.is_at(path)):
+            self._save_own(self._file)
+        elif path is not None:
+            _files.make(path, self.image())
+        else:
+            raise ValueError("the hive has no file of its own: give a path")
+
+    def notices(self) -> Iterator[Notice]:
+        """Takes the notices that came, each once, until no more are there."""
+        watch, entry, reason = c_uint64(), c_uint64(), c_uint32()
+        while True:
+            status = self._call(c.library.zug_take_notice, _SESSION, watch, entry, reason)
+            if status == c.NO_MORE_ITEMS:
+                return
+            _told(status)
+            with self._lock:
+                self._watches -= 1
+            yield Notice(watch.value, entry.value, reason.value)
+
+    def entries(self) -> Tuple[int, int]:
+        """How many entries the journal has had, and how many of them it keeps."""
+        entries, kept = c_uint64(), c_uint64()
+        _told(self._call(c.library.zug_entries, entries, kept))
+        return entries.value, kept.value
+
+    def cut(self) -> int:
+        """Frees the journal's memory, and tells how many entries that were. Keys stay open.
+
+        An Error with winerror 170 where a notice that was asked for wasn't taken. The hive does so itself where it can, once the journal
+        has some 16 MB.
+        """
+        freed = c_uint64()
+        with self._lock:
+            self._close_forgotten()
+            if self._watches:
+                raise error(c.BUSY, "a notice is waited for")
+            _told(self._cut(freed))
+        return freed.value
+
+    def close(self) -> None:
+        """Frees the hive, and gives up its file. What wasn't saved is lost, and calls on its keys answer 6. A second time nothing happens."""
+        with self._lock:
+            c.library.zug_hive_close(self._words)
+        if self._file:
+            self._file.close()
+
+    def __enter__(self) -> "Hive":
+        return self
+
+    def __exit__(self, kind: Optional[Type[BaseException]], raised: Optional[BaseException], where: Optional[TracebackType]) -> None:
+        self.close()
+
+    def __del__(self) -> None:
+        # It is without a file where making it failed.
+        if hasattr(self, "_file"):
+            self.close()
+
+    def __repr__(self) -> str:
+        return f"<Hive {self.path!r}>" if self.path else "<Hive>"
+
+    def _next_sequence(self) -> int:
+        return (self._sequence + 1) % _SEQUENCES
+
+    def _save_own(self, file: _files.HeldFile) -> None:
+        # What another thread changes from here on is to be saved next time.
+        self._changed = False
+        try:
+            file.replace(self.image())
+        except BaseException:
+            self._changed = True
+            raise
+        self._sequence = self._next_sequence()
+
+    def _call(self, function: Any, *arguments: Any) -> int:
+        """Calls a function of the library on this hive, under its lock, and answers the status."""
+        with self._lock:
+            self._close_forgotten()
+            return function(self._words, *arguments)
+
+    def _ask(self, function: Any, key: "Key", *arguments: Any) -> int:
+        """Asks a question of a key, and answers the status."""
+        with self._lock:
+            self._close_forgotten()
+            return function(self._words, _SESSION, key._number(), *arguments)
+
+    def _change(self, function: Any, key: "Key", *arguments: Any) -> None:
+        """Makes a change by a key's handle."""
+        with self._lock:
+            self._make(function, key, *arguments)
+
+    def _watch(self, function: Any, key: "Key", *arguments: Any) -> None:
+        """Makes a change by a key's handle that asks for a notice."""
+        with self._lock:
+            self._make(function, key, *arguments)
+            self._watches += 1
+
+    def _open_key(self, opens: "Key", opened: c_uint64, function: Any, key: "Key", *arguments: Any) -> None:
+        """Makes a change by a key's handle that opens another key."""
+        with self._lock:
+            self._make(function, key, *arguments)
+            opens._handle = opened.value
+            self._keys.add(opens)
+
+    def _make(self, function: Any, key: "Key", *arguments: Any) -> None:
+        self._close_forgotten()
+        if self._uncut > _CUT_AT and not self._watches:
+            # Where it is refused the journal grows on, which is no fault of this call.
+            self._cut(c_uint64())
+        _told(function(self._words, _SESSION, self.clock(), key._number(), *arguments))
+        self._uncut += _ENTRY + sum(len(given) for given in arguments if isinstance(given, bytes))
+
+    def _close_handle(self, handle: int) -> None:
+        # The status is 6 where the hive was closed before its key.
+        c.library.zug_close(self._words, _SESSION, self.clock(), handle)
+        self._uncut += _ENTRY
+
+    def _close_forgotten(self) -> None:
+        while self._forgotten:
+            self._close_handle(self._forgotten.popleft())
+
+    def _opened_root(self) -> int:
+        opened = c_uint64()
+        _told(c.library.zug_open_root(self._words, _SESSION, self.clock(), c.ALL_ACCESS, opened))
+        return opened.value
+
+    def _cut(self, freed: c_uint64) -> int:
+        """Cuts the journal, and answers the status. No handle may be open for that, so all are closed, and opened again behind it.
+
+        A key has its path as long as it isn't deleted, so that the path leads to it again.
+        """
+        closed = self._closed_keys()
+        self._close_handle(self._root)
+        status = c.library.zug_hive_cut(self._words, freed)
+        self._uncut = 0
+        self._root = self._opened_root()
+        for key in closed:
+            key._handle = self._opened_again(key)
+        return status
+
+    def _closed_keys(self) -> List["Key"]:
+        """Closes all keys that are open, and answers those that weren't deleted."""
+        closed = []
+        for key in list(self._keys):
+            handle = key._take_handle()
+            if handle is None:
+                continue
+            if self._is_deleted(handle):
+                key._handle = _DELETED
+            else:
+                closed.append(key)
+            self._close_handle(handle)
+        return closed
+
+    def _is_deleted(self, handle: int) -> bool:
+        arguments = (c.OPEN_KEY, handle, b"", 0, c.ALL_ACCESS, b"", 0, False)
+        return c.library.zug_cause(self._words, _SESSION, self.clock(), *arguments) == c.KEY_DELETED
+
+    def _opened_again(self, key: "Key") -> int:
+        path = _encoded(key.path)
+        opened = c_uint64()
+        arguments = (self._root, path, len(path), key._mask, opened)
+        _told(c.library.zug_open_key(self._words, _SESSION, self.clock(), *arguments))
+        return opened.value
+
+
+class Key:
+    """A key that is open. Its values are got, set and deleted by name, and looping over it gives its subkeys, as keys.
+
+        key["Version"] = 4
+        for child in key:
+            print(child.name, child.get("Version"))
+
+    It closes by itself when nothing refers to it any more. A path is names joined by backslashes; case makes no difference. A key that
+    was deleted, even if one was made again under its name, answers winerror 1018.
+    """
+
+    _handle: Optional[int] = None
+
+    def __init__(self, hive: Hive, path: str, mask: int, handle: Optional[int] = None) -> None:
+        """For this module: a key that is to be opened, or the root."""
+        self.hive = hive
+        self._path = path
+        self._mask = mask
+        self._handle = handle
+
+    @property
+    def path(self) -> str:
+        """The path from the root by which the key was opened; that of the root is empty."""
+        return self._path
+
+    @property
+    def name(self) -> str:
+        """The last name of the path; that of the root is empty."""
+        return self._path.rpartition("\\")[2]
+
+    def open(self, path: str = "", mask: int = c.ALL_ACCESS) -> "Key":
+        """Opens a key below this one, or this one again, with the rights of a mask. FileNotFoundError where there is none."""
+        text = _encoded(path)
+        opened = c_uint64()
+        key = Key(self.hive, self._joined(path), mask)
+        self.hive._open_key(key, opened, c.library.zug_open_key, self, text, len(text), mask, opened)
+        return key
+
+    def create(self, path: str, mask: int = c.ALL_ACCESS, security: bytes = b"") -> "Key":
+        """Opens a key below this one, and makes those of the path that are missing, at most 32.
+
+        The last that is made has the security descriptor, if one is given; all others have their parent's.
+        """
+        text = _encoded(path)
+        security = _bytes_of(security)
+        opened, disposition = c_uint64(), c_uint32()
+        key = Key(self.hive, self._joined(path), mask)
+        arguments = (text, len(text), mask, security, len(security), opened, disposition)
+        self.hive._open_key(key, opened, c.library.zug_create_key, self, *arguments)
+        if disposition.value == 1:
+            self.hive._changed = True
+        return key
+
+    def subkeys(self) -> List[str]:
+        """The names of the subkeys, in their order."""
+        names: List[str] = []
+        room = create_string_buffer(c.LONGEST_KEY_NAME)
+        size, written = c_uint32(), c_uint64()
+        while True:
+            status = self.hive._ask(c.library.zug_enum_key, self, len(names), room, len(room), size, written)
+            if status == c.NO_MORE_ITEMS:
+                return names
+            _told(status)
+            names.append(_decoded(room, size.value))
+
+    def subkey_at(self, index: int) -> Tuple[str, int]:
+        """The name of the subkey at an index, and when it was last written. An Error with winerror 259 past the last."""
+        room = create_string_buffer(c.LONGEST_KEY_NAME)
+        size, written = c_uint32(), c_uint64()
+        _told(self.hive._ask(c.library.zug_enum_key, self, index, room, len(room), size, written))
+        return _decoded(room, size.value), written.value
+
+    def values(self) -> List[Tuple[str, Value]]:
+        """The names of the values, each with what `key[name]` is, in the order in which they were added."""
+        return [(name, from_data(data, kind)) for name, kind, data in self._raw_values()]
+
+    def value_at(self, index: int) -> Tuple[str, int, bytes]:
+        """The name, type and data of the value at an index. An Error with winerror 259 past the last."""
+        room = _ValueRoom()
+        _told(room.fill(self, index))
+        return room.told()
+
+    def value(self, name: str = "") -> Tuple[int, bytes]:
+        """The type and the data of a value, as they are. FileNotFoundError where there is none. The empty name is the default value's."""
+        text = _encoded(name)
+        room = create_string_buffer(_FIRST_ROOM)
+        kind, size = c_uint32(), c_uint32()
+        while True:
+            status = self.hive._ask(c.library.zug_query_value, self, text, len(text), room, len(room), kind, size)
+            if status != c.MORE_DATA:
+                break
+            room = create_string_buffer(size.value)
+        _told(status)
+        return kind.value, string_at(room, size.value)
+
+    def get(self, name: str = "", default: Any = None) -> Any:
+        """What `key[name]` is, or the default where there is no such value."""
+        try:
+            return self[name]
+        except FileNotFoundError:
+            return default
+
+    def set(self, name: str, kind: int, data: bytes) -> None:
+        """Sets a value to a type and data, as they are."""
+        text = _encoded(name)
+        data = _bytes_of(data)
+        self.hive._change(c.library.zug_set_value, self, text, len(text), kind, data, len(data))
+        self.hive._changed = True
+
+    def delete_value(self, name: str = "") -> None:
+        """Deletes a value. FileNotFoundError where there is none."""
+        text = _encoded(name)
+        self.hive._change(c.library.zug_delete_value, self, text, len(text))
+        self.hive._changed = True
+
+    def delete(self, path: str) -> None:
+        """Deletes a key below this one, with its values. PermissionError where it has subkeys."""
+        text = _encoded(path)
+        self.hive._change(c.library.zug_delete_key, self, text, len(text))
+        self.hive._changed = True
+
+    def delete_tree(self, path: str = "") -> None:
+        """Deletes a key below this one with all below it. Without a path this key stays, but without subkeys and values."""
+        text = _encoded(path)
+        self.hive._change(c.library.zug_delete_tree, self, text, len(text))
+        self.hive._changed = True
+
+    @property
+    def info(self) -> KeyInfo:
+        """The key's numbers."""
+        told = c.Info()
+        _told(self.hive._ask(c.library.zug_query_info, self, told))
+        return KeyInfo(*(getattr(told, field) for field, _kind in c.Info._fields_))
+
+    @property
+    def time(self) -> int:
+        """When the key was last written, in units of 100 ns since 1601, in UTC."""
+        return self.info.time
+
+    @property
+    def modified(self) -> datetime.datetime:
+        """When the key was last written, to the microsecond. OverflowError after the year 9999."""
+        since_1601 = datetime.timedelta(microseconds=self.time * 1_000_000 // _TICKS)
+        return datetime.datetime(1601, 1, 1, tzinfo=datetime.timezone.utc) + since_1601
+
+    @property
+    def security(self) -> bytes:
+        """The key's security descriptor, as it is. It may be set."""
+        room = create_string_buffer(_FIRST_ROOM)
+        size = c_uint32()
+        while True:
+            status = self.hive._ask(c.library.zug_get_security, self, room, len(room), size)
+            if status != c.INSUFFICIENT_BUFFER:
+                break
+            room = create_string_buffer(size.value)
+        _told(status)
+        return string_at(room, size.value)
+
+    @security.setter
+    def security(self, descriptor: bytes) -> None:
+        descriptor = _bytes_of(descriptor)
+        self.hive._change(c.library.zug_set_security, self, descriptor, len(descriptor))
+        self.hive._changed = True
+
+    def notify(self, kinds: int = c.CHANGE_NAME | c.CHANGE_LAST_SET, subtree: bool = False) -> int:
+        """Asks for one notice of the next change of some kinds (CHANGE_NAME, ..), with `subtree` also of keys below this one.
+
+        The number that is told names the watch in `hive.notices()`. The watch ends with the key, too: it has to stay open.
+        """
+        watch = c_uint64()
+        self.hive._watch(c.library.zug_notify, self, kinds, subtree, watch)
+        return watch.value
+
+    def close(self) -> None:
+        """Closes the key. A second time nothing happens."""
+        with self.hive._lock:
+            handle = self._take_handle()
+            if handle is not None:
+                self.hive._close_handle(handle)
+            # The root's own handle, and what stands for a deleted key's, are let go too.
+            self._handle = None
+
+    def __getitem__(self, name: str) -> Value:
+        kind, data = self.value(name)
+        return from_data(data, kind)
+
+    def __setitem__(self, name: str, value: Any) -> None:
+        """Sets a value: a text as REG_SZ, a number as REG_DWORD or REG_QWORD, a list of texts as REG_MULTI_SZ, bytes as REG_BINARY."""
+        kind, value = kind_for(value)
+        self.set(name, kind, to_data(value, kind))
+
+    def __delitem__(self, name: str) -> None:
+        self.delete_value(name)
+
+    def __contains__(self, name: str) -> bool:
+        text = _encoded(name)
+        kind, size = c_uint32(), c_uint32()
+        # A room of length 0 asks for type and size alone.
+        status = self.hive._ask(c.library.zug_query_value, self, text, len(text), None, 0, kind, size)
+        if status == c.FILE_NOT_FOUND:
+            return False
+        _told(status)
+        return True
+
+    def __iter__(self) -> Iterator["Key"]:
+        # The names are taken first, so that what is made or deleted meanwhile moves no index.
+        for name in self.subkeys():
+            try:
+                child = self.open(name)
+            except FileNotFoundError:
+                continue
+            yield child
+
+    def __enter__(self) -> "Key":
+        return self
+
+    def __exit__(self, kind: Optional[Type[BaseException]], raised: Optional[BaseException], where: Optional[TracebackType]) -> None:
+        self.close()
+
+    def __del__(self) -> None:
+        handle = self._take_handle()
+        if handle is not None:
+            self.hive._forgotten.append(handle)
+
+    def __repr__(self) -> str:
+        return f"<Key {self._path!r}>"
+
+    def _raw_values(self) -> Iterator[Tuple[str, int, bytes]]:
+        """The name, type and data of each value. One room is enough for all of them."""
+        room = _ValueRoom()
+        for index in itertools.count():
+            status = room.fill(self, index)
+            if status == c.NO_MORE_ITEMS:
+                return
+            _told(status)
+            yield room.told()
+
+    def _number(self) -> int:
+        """The number of the key's handle. It is asked for under the hive's lock: a cut gives the root another one."""
+        if self._handle is None:
+            raise error(c.INVALID_HANDLE, "the key was closed")
+        if self._handle == _DELETED:
+            raise error(c.KEY_DELETED)
+        return self.hive._root if self._handle == _ROOT else self._handle
+
+    def _take_handle(self) -> Optional[int]:
+        """The key's own handle, if it has one, which it has no more."""
+        handle = self._handle
+        if handle is None or handle < 0:
+            return None
+        self._handle = None
+        return handle
+
+    def _joined(self, path: str) -> str:
+        return "\\".join(part for part in (self._path, path) if part)
+
+
+class _ValueRoom:
+    """Where the library puts a value's name, type and data."""
+
+    def __init__(self) -> None:
+        self._name = create_string_buffer(_FIRST_NAME_ROOM)
+        self._data = create_string_buffer(_FIRST_ROOM)
+        self._name_size, self._kind, self._size = c_uint32(), c_uint32(), c_uint32()
+
+    def fill(self, key: Key, index: int) -> int:
+        """Asks a key for the value at an index, with more room as long as there isn't enough, and answers the status."""
+        while True:
+            names = (self._name, len(self._name), self._name_size)
+            data = (self._data, len(self._data), self._kind, self._size)
+            status = key.hive._ask(c.library.zug_enum_value, key, index, *names, *data)
+            if status != c.MORE_DATA:
+                return status
+            # Which of the two is too short isn't told, nor the name's size.
+            self._name = create_string_buffer(c.LONGEST_VALUE_NAME)
+            self._data = create_string_buffer(max(self._size.value, len(self._data)))
+
+    def told(self) -> Tuple[str, int, bytes]:
+        return _decoded(self._name, self._name_size.value), self._kind.value, string_at(self._data, self._size.value)
+
+
+def _told(status: int) -> None:
+    """Raises the exception of a status that isn't 0."""
+    if status != c.SUCCESS:
+        raise error(status)
+
+
+def _bytes_of(data: Any) -> bytes:
+    # bytes() would take a number too, for so many zeros.
+    return data if isinstance(data, bytes) else memoryview(data).tobytes()
+
+
+def _encoded(text: str) -> bytes:
+    # The library refuses what isn't ASCII, in its own order of refusals, so it is handed all that a text may have.
+    return text.encode("utf-8", "surrogatepass")
+
+
+def _decoded(room: Any, size: int) -> str:
+    return string_at(room, size).decode("ascii")
+
+
+def _copy(source: Key, target: Key) -> None:
+    """Copies a key's values, and all that is below it, to a key of another hive."""
+    hive = target.hive
+    written = source.time
+    _copy_values(source, target)
+    for child in source:
+        with child, target.create(child.name, security=child.security) as copied:
+            _copy(child, copied)
+    # Last, since each call before set the time too.
+    hive.clock = lambda: written
+    target.security = source.security
+
+
+def _copy_values(source: Key, target: Key) -> None:
+    for name, kind, data in source._raw_values():
+        target.set(name, kind, data)

@@ -1,0 +1,162 @@
+//! Memory that is refused to the library: each call answers so and changes nothing, and succeeds
+//! once enough is granted.
+//!
+//! The library calls `malloc` and `realloc`, which stand here. Rust's own memory comes by `calloc`,
+//! and is never refused.
+#![cfg(target_env = "gnu")]
+
+use std::alloc::{GlobalAlloc, Layout, System};
+use std::cell::Cell;
+use std::ffi::c_void;
+use std::ptr;
+use zugmeled::{Change, Filter, Hive, Key, Kind, Result, Rights, Status, EMPTY_SECURITY};
+
+thread_local! {
+    /// How many requests of this thread are granted before all others are refused.
+    static GRANTED: Cell<usize> = const { Cell::new(usize::MAX) };
+}
+
+unsafe extern "C" {
+    fn __libc_malloc(size: usize) -> *mut c_void;
+    fn __libc_realloc(block: *mut c_void, size: usize) -> *mut c_void;
+}
+
+fn is_refused() -> bool {
+    match GRANTED.get() {
+        usize::MAX => false,
+        0 => true,
+        granted => {
+            GRANTED.set(granted - 1);
+            false
+        }
+    }
+}
+
+#[no_mangle]
+extern "C" fn malloc(size: usize) -> *mut c_void {
+    if is_refused() {
+        return ptr::null_mut();
+    }
+    // SAFETY: it is the system's own malloc.
+    unsafe { __libc_malloc(size) }
+}
+
+/// # Safety
+/// As of the system's own realloc.
+#[no_mangle]
+unsafe extern "C" fn realloc(block: *mut c_void, size: usize) -> *mut c_void {
+    if is_refused() {
+        return ptr::null_mut();
+    }
+    // SAFETY: what is owed is the same.
+    unsafe { __libc_realloc(block, size) }
+}
+
+struct Unrefused;
+
+#[global_allocator]
+static UNREFUSED: Unrefused = Unrefused;
+
+// SAFETY: memory of zeros is memory. A realloc is made of these two.
+unsafe impl GlobalAlloc for Unrefused {
+    unsafe fn alloc(&self, layout: Layout) -> *mut u8 {
+        // SAFETY: what is owed is the same.
+        unsafe { System.alloc_zeroed(layout) }
+    }
+
+    unsafe fn dealloc(&self, block: *mut u8, layout: Layout) {
+        // SAFETY: the system gave the block.
+        unsafe { System.dealloc(block, layout) }
+    }
+}
+
+/// Calls with one more request granted each time, until it succeeds. It is refused at least once.
+fn until_granted<T>(call: impl Fn() -> Result<T>) -> T {
+    for granted in 0.. {
+        GRANTED.set(granted);
+        let answer = call();
+        GRANTED.set(usize::MAX);
+        match answer {
+            Ok(answer) => {
+                assert!(granted > 0, "no memory was asked for");
+                return answer;
+            }
+            Err(error) => assert_eq!(error.status(), Status::NOT_ENOUGH_MEMORY),
+        }
+    }
+    unreachable!()
+}
+
+/// The same of a call that takes memory only now and then: it is made until it does.
+fn until_refused<T>(call: impl Fn() -> Result<T>) {
+    let mut answers = Vec::with_capacity(4096);
+    GRANTED.set(0);
+    let refused = (0..4096).find_map(|_| call().map(|answer| answers.push(answer)).err());
+    GRANTED.set(usize::MAX);
+    assert_eq!(refused.unwrap().status(), Status::NOT_ENOUGH_MEMORY);
+}
+
+fn with_root(test: impl FnOnce(&Key<'_>)) {
+    let hive = Hive::new("ROOT", &EMPTY_SECURITY).unwrap();
+    let root = hive.root().unwrap();
+    test(&root);
+}
+
+#[test]
+fn makers_are_refused() {
+    let hive = until_granted(|| Hive::new("ROOT", &EMPTY_SECURITY));
+    let image = hive.image().unwrap();
+    let loaded = until_granted(|| Hive::load(&image));
+    loaded.root().unwrap();
+}
+
+#[test]
+fn changes_are_refused() {
+    with_root(|root| {
+        until_granted(|| root.create_with("made\\below", Rights::ALL, b"own"));
+        until_granted(|| root.open("made"));
+        until_granted(|| root.set("v", 1_u32));
+        until_granted(|| root.set_security(b"third"));
+        until_granted(|| root.delete_value("v"));
+        until_granted(|| root.delete("made\\below"));
+        until_granted(|| root.delete_tree("made"));
+        until_granted(|| {
+            root.check(Change::Set {
+                name: "v",
+                kind: Kind::BINARY,
+                bytes: b"bytes",
+            })
+        });
+    });
+}
+
+#[test]
+fn questions_are_refused() {
+    with_root(|root| {
+        root.create("k").unwrap();
+        root.set("v", 1_u32).unwrap();
+        until_granted(|| root.value("v"));
+        until_granted(|| root.get::<u32>("v"));
+        until_granted(|| root.keys().collect::<Result<Vec<_>>>());
+        until_granted(|| root.values().collect::<Result<Vec<_>>>());
+        until_granted(|| root.security());
+    });
+}
+
+#[test]
+fn handles_and_watches_are_refused() {
+    let hive = Hive::new("ROOT", &EMPTY_SECURITY).unwrap();
+    let root = hive.root().unwrap();
+    until_refused(|| hive.root());
+    until_refused(|| root.notify(Filter::NAME, true));
+}
+
+#[test]
+fn a_drop_needs_no_memory() {
+    let mut hive = Hive::new("ROOT", &EMPTY_SECURITY).unwrap();
+    let root = hive.root().unwrap();
+    GRANTED.set(0);
+    drop(root);
+    GRANTED.set(usize::MAX);
+    hive.cut().unwrap();
+}

@@ -1,0 +1,59 @@
+-- What calls do with the hive that C holds.
+use Rattle.std.specs.Prelude.{◌≡◌, ◌≢◌, ℕ, ◌<◌, ◌≤◌, ◌⊎◌, List, [], Option, Some, None}
+use Rattle.reg_model.specs.declared.statuses.TheConstants.{INVALID_HANDLE, INVALID_PARAMETER, NOT_ENOUGH_MEMORY}
+use Rattle.reg_model.specs.declared.limits.TheConstants.{SESSIONS_LIMIT}
+use Rattle.reg_model.specs.Replies.{refusal}
+use Rattle.reg_model.specs.Callbacks.{Callbacks}
+use Rattle.reg_model.specs.declared.call.Change.{Change}
+use Rattle.reg_model.specs.declared.call.Query.{Query}
+use Rattle.reg_model.specs.declared.answer.AnswerBody.{AnswerBody}
+use Rattle.reg_model.specs.declared.answer.AnswerBody.TheVariants.{Refused}
+use Rattle.reg_model.specs.declared.reply.ChangeReply.{ChangeReply}
+use Rattle.reg_callbacks.specs.declared.callback.NoCallback.{NoCallback}
+use Rattle.reg_callbacks.specs.Asking.{Answers as Answering}
+use Rattle.reg_calls.specs.HiveView.{view_of, asks_of}
+use Rattle.reg_calls.specs.Views.{View, state, IsApplied, IsRead}
+use Rattle.zugmeled.specs.Held.{HeldHive}
+
+-- no callback refuses
+abbrev pub quiet : NoCallback → Answering
+quiet = λ callback session moment path seen. 0
+
+-- what is seen of a hive that C holds
+abbrev pub seen : HeldHive → View
+seen held = view_of held.hive
+
+-- what its callbacks answer: there are none
+abbrev pub asks : HeldHive → Callbacks
+asks held = asks_of quiet held.hive
+
+-- a change of a session is answered by the hive that C holds, and C holds the hive after it; with no hive 6, else of a session from 64 on
+-- 87, and nothing changes
+abbrev pub IsChanged : Option HeldHive → Option HeldHive → ℕ → ℕ → Change → ChangeReply → Type 0
+IsChanged None new session moment change reply = (reply ≡ refusal INVALID_HANDLE) × (new ≡ None)
+IsChanged (Some old) new session moment change reply =
+    ((SESSIONS_LIMIT ≤ session) × (reply ≡ refusal INVALID_PARAMETER) × (new ≡ Some old))
+    ⊎ ((session < SESSIONS_LIMIT) × (hive : HeldHive) × (new ≡ Some hive)
+    × IsApplied (asks old) (seen old) (seen hive) session moment change reply)
+
+-- a question of a session is answered by the hive that C holds; with no hive 6, else of a session from 64 on 87
+abbrev pub IsAsked : Option HeldHive → ℕ → Query → AnswerBody → Type 0
+IsAsked None session query body = body ≡ Refused INVALID_HANDLE
+IsAsked (Some hive) session query body =
+    ((SESSIONS_LIMIT ≤ session) × (body ≡ Refused INVALID_PARAMETER))
+    ⊎ ((session < SESSIONS_LIMIT) × IsRead (asks hive) (state (seen hive)) session query body)
+
+-- before that, 8 where there is no memory for a copy of what is given, of which there is some; then nothing changes
+abbrev pub IsReplied : List ℕ → Option HeldHive → Option HeldHive → ℕ → ℕ → Change → ChangeReply → Type 0
+IsReplied given old new session moment change reply =
+    ((given ≢ []) × (reply ≡ refusal NOT_ENOUGH_MEMORY) × (new ≡ old)) ⊎ IsChanged old new session moment change reply
+
+abbrev pub IsAnswered : List ℕ → Option HeldHive → ℕ → Query → AnswerBody → Type 0
+IsAnswered given hive session query body = ((given ≢ []) × (body ≡ Refused NOT_ENOUGH_MEMORY)) ⊎ IsAsked hive session query body
+
+-- so a call tells what it tells of that reply, or of that answer
+abbrev pub Replies : List ℕ → Option HeldHive → Option HeldHive → ℕ → ℕ → Change → (ChangeReply → Type 0) → Type 0
+Replies given old new session moment change Tells = (reply : ChangeReply) × IsReplied given old new session moment change reply × Tells reply
+
+abbrev pub Answers : List ℕ → Option HeldHive → ℕ → Query → (AnswerBody → Type 0) → Type 0
+Answers given hive session query Tells = (body : AnswerBody) × IsAnswered given hive session query body × Tells body

@@ -1,0 +1,9 @@
+pub mod Held
+pub mod Calls
+pub mod Makers
+pub mod Told
+pub mod Lives
+pub mod Journals
+pub mod Images
+pub mod Notices
+pub mod Causes

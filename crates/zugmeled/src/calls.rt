@@ -1,0 +1,103 @@
+//! The calls of the rules, answered by the hive that C holds.
+ghost use Rattle.std.specs.Prelude.{◌≡◌, ◌≢◌, IfOk, OnErr};
+ghost use Rattle.reg_model.specs.Replies.{refusal};
+ghost use Rattle.reg_model.specs.declared.statuses.TheConstants.{NOT_ENOUGH_MEMORY};
+ghost use Rattle.reg_model.specs.declared.answer.AnswerBody.TheVariants.{Refused};
+ghost use Rattle.zugmeled.specs.Calls.{IsChanged, IsAsked};
+
+use crate::hive::ZugHive;
+use reg_model::limits::SESSIONS_LIMIT;
+use reg_model::statuses::{INVALID_HANDLE, INVALID_PARAMETER, NOT_ENOUGH_MEMORY};
+use reg_model::{AnswerBody, Change, ChangeReply, Query};
+use std::alloc::{AllocError, Global};
+
+/// A refusal.
+fn refused(status: u32) -> ChangeReply
+    ensures { result ≡ refusal status }
+{
+    ChangeReply {
+        status,
+        number: None,
+        handle: None,
+        disposition: None,
+    }
+}
+
+/// Answers a change of a session.
+pub(crate) fn change(
+    alloc: Global,
+    hive: &mut ZugHive,
+    session: u8,
+    moment: u64,
+    change: Change,
+) -> ChangeReply
+    ensures { IsChanged hive.old.held.value hive.new.held.value session moment change result }
+{
+    let Some(mut held) = hive.take(alloc) else {
+        return refused(INVALID_HANDLE);
+    };
+    if session as usize >= SESSIONS_LIMIT {
+        hive.put(held);
+        return refused(INVALID_PARAMETER);
+    }
+    let reply = held.apply(session, moment, change);
+    hive.put(held);
+    reply
+}
+
+/// Answers a change that was made, or refuses one for want of memory.
+pub(crate) fn change_if(
+    alloc: Global,
+    hive: &mut ZugHive,
+    session: u8,
+    moment: u64,
+    made: Result<Change, AllocError>,
+) -> ChangeReply
+    ensures made { IfOk made (λ change. IsChanged hive.old.held.value hive.new.held.value session moment change result) }
+    ensures lack { OnErr made ((result ≡ refusal NOT_ENOUGH_MEMORY) × (hive.new.held.value ≡ hive.old.held.value)) }
+{
+    match made {
+        Ok(made) => change(alloc, hive, session, moment, made),
+        Err(_) => refused(NOT_ENOUGH_MEMORY),
+    }
+}
+
+/// Answers a question of a session.
+pub(crate) fn ask(alloc: Global, hive: &mut ZugHive, session: u8, query: &Query) -> AnswerBody
+    ensures same { hive.new.held.value ≡ hive.old.held.value }
+    ensures asked { IsAsked hive.old.held.value session query.now result }
+{
+    let Some(held) = hive.take(alloc) else {
+        return AnswerBody::Refused {
+            status: INVALID_HANDLE,
+        };
+    };
+    if session as usize >= SESSIONS_LIMIT {
+        hive.put(held);
+        return AnswerBody::Refused {
+            status: INVALID_PARAMETER,
+        };
+    }
+    let answer = held.read(session, query);
+    hive.put(held);
+    answer.body
+}
+
+/// Answers a question that was made, or refuses one for want of memory.
+pub(crate) fn ask_if(
+    alloc: Global,
+    hive: &mut ZugHive,
+    session: u8,
+    made: Result<Query, AllocError>,
+) -> AnswerBody
+    ensures same { hive.new.held.value ≡ hive.old.held.value }
+    ensures made { IfOk made (λ query. IsAsked hive.old.held.value session query result) }
+    ensures lack { OnErr made (result ≡ Refused NOT_ENOUGH_MEMORY) }
+{
+    match made {
+        Ok(query) => ask(alloc, hive, session, &query),
+        Err(_) => AnswerBody::Refused {
+            status: NOT_ENOUGH_MEMORY,
+        },
+    }
+}
