@@ -229,6 +229,43 @@ uint32_t zug_query_info(zug_hive *hive, uint8_t session, uint64_t handle, zug_in
 uint32_t zug_get_security(zug_hive *hive, uint8_t session, uint64_t handle, uint8_t *room, size_t room_length,
                           uint32_t *size);
 
+/* ---- Questions by a path ----
+ * These step through keys without a handle, and so without a session, rights or an entry of the journal. Each is asked of the key at the end
+ * of a path from the root; the empty path is the root's own.
+ * 2: no such key. 6, 87: a path. They take no memory. */
+
+/* A key, as it stands among others. */
+typedef struct zug_subkey {
+    uint64_t time;      /* when the key was last written */
+    uint32_t name_size; /* the size of its name */
+    uint32_t subkeys;   /* how many subkeys it has */
+    uint32_t values;    /* how many values it has */
+    uint32_t marks;     /* its marks: 8 that it may not be deleted; others stand in its key node's flags */
+} zug_subkey;
+
+/* A value, as it stands among others. */
+typedef struct zug_value {
+    uint32_t name_size; /* the size of its name */
+    uint32_t kind;      /* its type */
+    uint32_t size;      /* the size of its data */
+} zug_value;
+
+/* The key itself, with its name in the room.
+ * 234: the room is too short for the name; the key is told all the same. */
+uint32_t zug_key_at(zug_hive *hive, const uint8_t *path, size_t path_length, zug_subkey *key, uint8_t *name_room, size_t name_room_length);
+
+/* The subkeys from an index on, in the order of names, as many as have place: `count` of them, and of each a zug_subkey, and its name in the
+ * room behind those before. Where `count` is all there were, there are no more; else go on from the index behind them.
+ * 234: not one has place. 259: no subkey has the index. */
+uint32_t zug_subkeys_at(zug_hive *hive, const uint8_t *path, size_t path_length, uint32_t index,
+                        zug_subkey *subkeys, size_t subkeys_length, uint8_t *name_room, size_t name_room_length, uint32_t *count);
+
+/* The values from an index on, in the order in which names were added, as many as have place: `count` of them, and of each a zug_value, and its
+ * name and behind that its data in the room, behind those before.
+ * 234: not one has place. 259: no value has the index. */
+uint32_t zug_values_at(zug_hive *hive, const uint8_t *path, size_t path_length, uint32_t index,
+                       zug_value *values, size_t values_length, uint8_t *room, size_t room_length, uint32_t *count);
+
 /* ---- Notices ---- */
 
 /* Why a notice came. */

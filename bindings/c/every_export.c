@@ -158,6 +158,16 @@ static void no_hive(void) {
     a = 7;
     IS(zug_hive_cut(&hive, &a), ZUG_INVALID_HANDLE);
     IS(a, 0);
+    zug_subkey key = {9, 9, 9, 9, 9};
+    zug_value value = {9, 9, 9};
+    uint32_t count = 7;
+    IS(zug_key_at(&hive, TEXT(""), &key, room, 4), ZUG_INVALID_HANDLE);
+    IS(key.time == 0 && key.marks == 0 && are(room, 4, 9), true);
+    IS(zug_subkeys_at(&hive, TEXT(""), 0, &key, 1, room, 4, &count), ZUG_INVALID_HANDLE);
+    IS(count, 0);
+    count = 7;
+    IS(zug_values_at(&hive, TEXT(""), 0, &value, 1, room, 4, &count), ZUG_INVALID_HANDLE);
+    IS(count == 0 && value.kind == 9 && are(room, 4, 9), true);
     zug_hive_close(&hive);
     zug_hive_close(&hive);
 }
@@ -168,6 +178,7 @@ static void nothing_given(void) {
     uint64_t root = 7, opened = 7, size = 7, entries = 7;
     uint32_t kind = 7, length = 7, name_length = 7;
     uint8_t fault = 9;
+    zug_subkey told;
     IS(zug_hive_new(&hive, NULL, 0, descriptor, 20, MOMENT), ZUG_INVALID_PARAMETER);
     IS(zug_hive_new(&hive, TEXT("ROOT"), NULL, 0, MOMENT), ZUG_INVALID_PARAMETER);
     IS(zug_hive_load(&hive, NULL, 0, &fault), ZUG_NOT_REGISTRY_FILE);
@@ -190,6 +201,10 @@ static void nothing_given(void) {
     IS(zug_cause(&hive, 0, MOMENT, ZUG_SET, root, NULL, 0, 3, NULL, 0, false), 0);
     IS(zug_image_size(&hive, &size, &entries), 0);
     IS(zug_image_part(&hive, MOMENT, 5, entries, 0, NULL, 0), 0);
+    IS(zug_key_at(&hive, NULL, 0, &told, NULL, 0), ZUG_MORE_DATA);
+    IS(told.name_size == 4 && told.subkeys == 1, true);
+    IS(zug_subkeys_at(&hive, NULL, 0, 0, NULL, 0, NULL, 0, &length), ZUG_MORE_DATA);
+    IS(zug_values_at(&hive, NULL, 0, 0, NULL, 0, NULL, 0, &length), ZUG_NO_MORE_ITEMS);
     IS(zug_delete_tree(&hive, 0, MOMENT, root, NULL, 0), 0);
     zug_hive_close(&hive);
 }
@@ -299,6 +314,51 @@ static void lists_of_values(zug_hive *hive, uint64_t handle) {
     IS(zug_enum_value(hive, 0, handle, 0, name, 4, &name_size, room, 8, &kind, &size), 0);
     IS(memcmp(room, "bytes\xEE\xEE\xEE", 8) == 0 && are(name + 1, 3, 0xEE), true);
     IS(zug_close(hive, 0, MOMENT, poor), 0);
+}
+
+/* The same by paths, without a handle. */
+static void keys_by_path(zug_hive *hive) {
+    zug_subkey key, keys[3] = {{9, 9, 9, 9, 9}, {9, 9, 9, 9, 9}, {9, 9, 9, 9, 9}};
+    uint32_t count = 7;
+    uint8_t room[8];
+    memset(room, 0xEE, sizeof room);
+    IS(zug_key_at(hive, TEXT("none"), &key, room, 8), ZUG_FILE_NOT_FOUND);
+    IS(zug_key_at(hive, TEXT("\\"), &key, room, 8), ZUG_INVALID_PARAMETER);
+    IS(key.time == 0 && key.name_size == 0 && are(room, 8, 0xEE), true);
+    IS(zug_key_at(hive, TEXT(""), &key, room, 3), ZUG_MORE_DATA);
+    IS(key.time == MOMENT && key.name_size == 4 && key.values == 0 && key.marks == 8 && are(room, 8, 0xEE), true);
+    IS(zug_key_at(hive, TEXT("SOFT\\zug"), &key, room, 3), 0);
+    IS(key.name_size == 3 && key.subkeys == 0 && key.values == 1 && key.marks == 0 && memcmp(room, "Zug\xEE", 4) == 0, true);
+    memset(room, 0xEE, sizeof room);
+    IS(zug_subkeys_at(hive, TEXT("none"), 0, keys, 3, room, 8, &count), ZUG_FILE_NOT_FOUND);
+    IS(zug_subkeys_at(hive, TEXT("\\"), 0, keys, 3, room, 8, &count), ZUG_INVALID_PARAMETER);
+    IS(zug_subkeys_at(hive, TEXT(""), 99, keys, 3, room, 8, &count), ZUG_NO_MORE_ITEMS);
+    IS(zug_subkeys_at(hive, TEXT(""), 0, keys, 0, room, 8, &count), ZUG_MORE_DATA);
+    IS(count == 0 && keys[0].time == 9 && are(room, 8, 0xEE), true);
+    IS(zug_subkeys_at(hive, TEXT(""), 0, keys, 3, room, 3, &count), ZUG_MORE_DATA);
+    IS(count == 0 && keys[0].name_size == 4 && keys[0].subkeys == 1 && keys[1].time == 9 && are(room, 8, 0xEE), true);
+    IS(zug_subkeys_at(hive, TEXT(""), 0, keys, 3, room, 8, &count), 0);
+    IS(count == 1 && keys[0].time == MOMENT && keys[1].time == 9 && memcmp(room, "Soft\xEE\xEE\xEE\xEE", 8) == 0, true);
+}
+
+static void values_by_path(zug_hive *hive, uint64_t handle) {
+    zug_value values[2] = {{9, 9, 9}, {9, 9, 9}};
+    uint32_t count = 7;
+    uint8_t room[16];
+    memset(room, 0xEE, sizeof room);
+    IS(zug_set_value(hive, 0, MOMENT, handle, TEXT("w"), 4, TEXT("more")), 0);
+    IS(zug_values_at(hive, TEXT("none"), 0, values, 2, room, 16, &count), ZUG_FILE_NOT_FOUND);
+    IS(zug_values_at(hive, TEXT("\\"), 0, values, 2, room, 16, &count), ZUG_INVALID_PARAMETER);
+    IS(zug_values_at(hive, TEXT("Soft"), 0, values, 2, room, 16, &count), ZUG_NO_MORE_ITEMS);
+    IS(zug_values_at(hive, TEXT("soft\\zug"), 0, values, 2, room, 5, &count), ZUG_MORE_DATA);
+    IS(count == 0 && values[0].name_size == 1 && values[0].kind == 3 && values[0].size == 5 && are(room, 16, 0xEE), true);
+    IS(zug_values_at(hive, TEXT("soft\\zug"), 0, values, 2, room, 10, &count), 0);
+    IS(count == 1 && memcmp(room, "vbytes\xEE", 7) == 0, true);
+    IS(zug_values_at(hive, TEXT("soft\\zug"), 0, values, 2, room, 16, &count), 0);
+    IS(count == 2 && values[1].name_size == 1 && values[1].kind == 4 && values[1].size == 4 && memcmp(room, "vbyteswmore", 11) == 0, true);
+    IS(zug_values_at(hive, TEXT("soft\\zug"), 1, values, 1, room, 16, &count), 0);
+    IS(count == 1 && memcmp(room, "wmore", 5) == 0, true);
+    IS(zug_delete_value(hive, 0, MOMENT, handle, TEXT("w")), 0);
 }
 
 static void numbers(zug_hive *hive, uint64_t handle) {
@@ -662,6 +722,8 @@ static void calls_of_a_hive(void) {
     values(&hive, handle);
     lists_of_keys(&hive, root);
     lists_of_values(&hive, handle);
+    keys_by_path(&hive);
+    values_by_path(&hive, handle);
     numbers(&hive, handle);
     security(&hive, handle);
     deletions(&hive, root);

@@ -4,3 +4,6 @@ pub mod Beginnings
 pub mod Turns
 pub mod Lacks
 pub mod ImageSizes
+pub mod ItemsTold
+pub mod KeyRows
+pub mod ValueRows

@@ -5,5 +5,6 @@ pub mod Told
 pub mod Lives
 pub mod Journals
 pub mod Images
+pub mod Lists
 pub mod Notices
 pub mod Causes

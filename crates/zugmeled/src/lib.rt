@@ -11,7 +11,7 @@
 //!
 //! `lives` makes, loads (from an `input`) and closes a hive, `journals` counts and cuts its entries, `images` hands out its image. `changes` and `questions`
 //! are the calls of the rules, which `calls` answers; `makers` copies what a change or a question needs, `told` writes an answer to the
-//! caller's rooms. `notices` hands out notices, `causes` tells the refusal that a change would meet.
+//! caller's rooms. `lists` steps through keys by their paths, without handles. `notices` hands out notices, `causes` tells the refusal that a change would meet.
 #![tactic(auto)]
 
 mod calls;
@@ -22,6 +22,7 @@ mod hive;
 mod images;
 mod input;
 mod journals;
+mod lists;
 mod lives;
 mod loose;
 mod makers;
