@@ -37,3 +37,4 @@ pub mod KeptCells
 pub mod LongestNames
 pub mod LastMoved
 pub mod LongerSizes
+pub mod KeysByHash

@@ -22,7 +22,7 @@ parted (suc n) (x ∷ a) (y ∷ b) l k =
     ap (λ o. ordering_then (nat_cmp (fold x) (fold y)) o) (parted n a b (omega (arith, l)) (omega (arith, k)))
     ∙ then-grouped (nat_cmp (fold x) (fold y)) (name_cmp (take n a) (take n b)) (name_cmp (drop n a) (drop n b))
 
-same-name : (a : List ℕ) → name_cmp a a ≡ Equal
+pub same-name : (a : List ℕ) → name_cmp a a ≡ Equal
 same-name [] = refl
 same-name (x ∷ a) = ap (λ o. ordering_then o (name_cmp a a)) (sym (nat_cmp_is (fold x) (fold x) Equal refl)) ∙ same-name a
 

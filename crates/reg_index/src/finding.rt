@@ -1,8 +1,8 @@
 //! Subkeys, found and read.
 
-ghost use Rattle.std.specs.Prelude.{◌≡◌, ◌+◌, ◌<◌, ◌≤◌, ℕ, List, Some, IsSome, IfSome, Err, MatchOption, MatchResult, max, length, get_or};
+ghost use Rattle.std.specs.Prelude.{◌≡◌, ◌+◌, ◌<◌, ◌≤◌, ◌↔◌, ℕ, List, true, Some, IsSome, IfSome, Err, MatchOption, MatchResult, max, length, get_or};
 ghost use Rattle.std.specs.List.{fold};
-ghost use Rattle.reg_names.specs.Names.{folded};
+ghost use Rattle.reg_names.specs.Names.{folded, hash};
 ghost use Rattle.reg_heap.specs.declared.limits.TheConstants.{LEAF_LIMIT};
 ghost use Rattle.reg_heap.specs.ByteWords.{half};
 ghost use Rattle.reg_heap.specs.Heaps.{Heap};
@@ -19,8 +19,13 @@ use crate::order::order;
 use crate::{Place, PlacedKey, SubkeysIndex};
 use byteorder::{ByteOrder, LittleEndian};
 use reg_arena::Arena;
-use reg_records::{ListForm, ListHead, entry_at, nk_name, nk_name_length, read_list};
+use reg_names::name_hash;
+use reg_records::{ListEntry, ListForm, ListHead, entry_at, nk_name, nk_name_length, read_list};
 use std::cmp::Ordering;
+
+/// How many entries of a leaf are looked along by their hashes, at most. Sixteen stand side by side in two or three lines of a
+/// processor's cache. To halve them would be to read four or five key nodes more, each somewhere else.
+const FEW_ENTRIES: u32 = 16;
 
 /// The name of the key at an offset.
 pub(crate) fn name_of(arena: &Arena, key: u32) -> &[u8]
@@ -123,6 +128,17 @@ fn leaf_under<'a>(arena: &'a Arena, root: &'a [u8], number: u32) -> &'a [u8]
     }
 }
 
+/// The entry at an index of a leaf, by what the leaf's cell holds.
+fn entry_in(leaf: &[u8], index: u32) -> ListEntry
+    requires leaf { (heap : Heap) × (offset : ℕ) × (entries : List Entry) × IsLeaf heap offset entries × (heap offset ≡ Some leaf.now)
+        × (index < length entries) }
+    requires few { index < LEAF_LIMIT }
+    ensures { (heap : Heap) → (offset : ℕ) → (entries : List Entry) → IsLeaf heap offset entries → heap offset ≡ Some leaf.now →
+        index < length entries → get_or entries index (record { offset = 0; hint = 0 }) ≡ result }
+{
+    entry_at(leaf, ListForm::HashLeaf, index as u16)
+}
+
 /// The offset of the key at an index of a leaf, by what the leaf's cell holds.
 fn offset_in(leaf: &[u8], index: u32) -> u32
     requires leaf { (heap : Heap) × (offset : ℕ) × (entries : List Entry) × IsLeaf heap offset entries × (heap offset ≡ Some leaf.now)
@@ -131,7 +147,7 @@ fn offset_in(leaf: &[u8], index: u32) -> u32
     ensures { (heap : Heap) → (offset : ℕ) → (entries : List Entry) → IsLeaf heap offset entries → heap offset ≡ Some leaf.now →
         index < length entries → (get_or entries index (record { offset = 0; hint = 0 })).offset ≡ result }
 {
-    entry_at(leaf, ListForm::HashLeaf, index as u16).offset
+    entry_in(leaf, index).offset
 }
 
 /// The offset of the key at an index of the leaf at an offset.
@@ -318,6 +334,75 @@ fn find_in(arena: &Arena, leaf: &[u8], name: &[u8]) -> Result<u32, u32>
     Err(low)
 }
 
+/// The entries of a leaf among which a name stands or belongs, by what the leaf's cell holds: those from the first index up to the
+/// second. It halves by names that it reads in their cells, but only until few entries are left: the names that the last halvings would
+/// read are other ones at each look-up, so that the processor's caches seldom have them.
+fn narrow(arena: &Arena, leaf: &[u8], name: &[u8]) -> (u32, u32)
+    requires { (offset : ℕ) × (entries : List Entry) × IsLeaf (heap_of arena.now) offset entries
+        × (heap_of arena.now offset ≡ Some leaf.now) × AreKeys (heap_of arena.now) entries × (length entries ≤ LEAF_LIMIT) }
+    ensures { (offset : ℕ) → (entries : List Entry) → IsLeaf (heap_of arena.now) offset entries →
+        heap_of arena.now offset ≡ Some leaf.now → AreKeys (heap_of arena.now) entries →
+        Between (names_in (heap_of arena.now) entries) (folded name.now) result.0 result.1 }
+{
+    let mut low = 0;
+    let mut high = count_in(leaf);
+    while high - low > FEW_ENTRIES {
+        let middle = low + (high - low) / 2;
+        let key = offset_in(leaf, middle);
+        match order(name_of(arena, key), name) {
+            Ordering::Less | Ordering::Equal => low = middle,
+            Ordering::Greater => high = middle,
+        }
+    }
+    (low, high)
+}
+
+/// Whether an entry is that of a name, by the name's hash and the name. It reads the key's name only where the hashes are equal. Names
+/// that differ may have one hash, so the names decide.
+fn is_of(arena: &Arena, entry: ListEntry, name: &[u8], sought: u32) -> bool
+    requires key { IsSome (key_at (heap_of arena.now) entry.offset) }
+    requires hint { entry.hint ≡ hash (name_at (heap_of arena.now) entry.offset) }
+    requires sought { sought ≡ hash name.now }
+    ensures { (result ≡ true) ↔ (folded (name_at (heap_of arena.now) entry.offset) ≡ folded name.now) }
+{
+    entry.hint == sought && order(name_of(arena, entry.offset), name) == Ordering::Equal
+}
+
+/// The offset of the key of a name that stands or belongs among the entries of a leaf from one index up to another, if there is one: a
+/// look along their hashes. It is told what the leaf's cell holds.
+fn find_between(arena: &Arena, leaf: &[u8], name: &[u8], low: u32, high: u32) -> Option<u32>
+    requires { (offset : ℕ) × (entries : List Entry) × IsLeaf (heap_of arena.now) offset entries
+        × (heap_of arena.now offset ≡ Some leaf.now) × AreKeys (heap_of arena.now) entries × (length entries ≤ LEAF_LIMIT)
+        × Between (names_in (heap_of arena.now) entries) (folded name.now) low high }
+    ensures { (offset : ℕ) → (entries : List Entry) → IsLeaf (heap_of arena.now) offset entries →
+        heap_of arena.now offset ≡ Some leaf.now → AreKeys (heap_of arena.now) entries →
+        Between (names_in (heap_of arena.now) entries) (folded name.now) low high →
+        IsKeyNamed (heap_of arena.now) entries (folded name.now) result }
+{
+    let sought = name_hash(name);
+    for index in low..high {
+        let entry = entry_in(leaf, index);
+        if is_of(arena, entry, name, sought) {
+            return Some(entry.offset);
+        }
+    }
+    None
+}
+
+/// The offset of the key of a name in a leaf, if there is one, by what the leaf's cell holds: halvings by names until few entries are
+/// left, and then a look along their hashes. Of 500 entries it reads five key nodes, and the one that is found; halvings alone would
+/// read up to nine.
+fn find_by_hash(arena: &Arena, leaf: &[u8], name: &[u8]) -> Option<u32>
+    requires { (offset : ℕ) × (entries : List Entry) × IsLeaf (heap_of arena.now) offset entries
+        × (heap_of arena.now offset ≡ Some leaf.now) × AreKeys (heap_of arena.now) entries × (length entries ≤ LEAF_LIMIT) }
+    ensures { (offset : ℕ) → (entries : List Entry) → IsLeaf (heap_of arena.now) offset entries →
+        heap_of arena.now offset ≡ Some leaf.now → AreKeys (heap_of arena.now) entries →
+        IsKeyNamed (heap_of arena.now) entries (folded name.now) result }
+{
+    let (low, high) = narrow(arena, leaf, name);
+    find_between(arena, leaf, name, low, high)
+}
+
 /// The place behind all subkeys, of which there are some, where a name belongs that comes after the last one's. It looks at that one
 /// alone, so that keys that come in the order of their names, as those of an image do, are put in without a search. It is told what the
 /// cell holds that the key names.
@@ -370,8 +455,9 @@ pub fn find(arena: &Arena, list: SubkeysIndex, name: &[u8]) -> Result<Place, Pla
     }
 }
 
-/// The offset of the key of a name, if there is one: a binary search among the lists, and one in a list. It tells no place, and doesn't
-/// look at the last name first, since a name that is asked for is seldom behind all others.
+/// The offset of the key of a name, if there is one: a binary search among the lists, and in one list halvings by names until few entries
+/// are left, of which their hashes tell the key. It tells no place, and doesn't look at the last name first, since a name that is asked
+/// for is seldom behind all others.
 pub fn find_key(arena: &Arena, list: SubkeysIndex, name: &[u8]) -> Option<u32>
     requires { (entries : List Entry) × AreSubkeys (heap_of arena.now) list.count list.offset entries }
     ensures { (entries : List Entry) → AreSubkeys (heap_of arena.now) list.count list.offset entries →
@@ -382,11 +468,7 @@ pub fn find_key(arena: &Arena, list: SubkeysIndex, name: &[u8]) -> Option<u32>
     }
     let root = arena.content(list.offset);
     let number = list_for(arena, root, name);
-    let leaf = leaf_under(arena, root, number);
-    match find_in(arena, leaf, name) {
-        Ok(index) => Some(offset_in(leaf, index)),
-        Err(_) => None,
-    }
+    find_by_hash(arena, leaf_under(arena, root, number), name)
 }
 
 /// How long the name of the key at an offset is. It reads no more of the key than this number.

@@ -8,7 +8,8 @@
 //! It stands on reg_records, reg_shape and reg_names. Its types are [`SubkeysIndex`], the subkeys as their key node names them,
 //! [`Place`], where one of them stands, and [`IndexCells`], what one more takes.
 //!
-//! `finding` searches: for a place it looks at the last name first, and then halves the lists and one list. `order` compares two names.
+//! `finding` searches: for a place it looks at the last name first, and then halves the lists and one list. For a key alone it halves
+//! the list only until few entries are left, and looks along their hashes, so that it reads fewer key nodes. `order` compares two names.
 //! `plan` says which cells one more takes, `inserting` makes a gap and fills it, `splitting` parts a full list into two, and `removing`
 //! closes up. `lengthening` gives the last list room for many more at once. `leaf` and `root` write a list's entries and the index
 //! root's.

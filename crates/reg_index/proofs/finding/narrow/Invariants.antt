@@ -1,0 +1,17 @@
+use Rattle.std.proofs.Common.{◌≡◌, ℕ, ◌-◌, Some, List}
+use Rattle.reg_names.specs.Names.{folded}
+use Rattle.reg_arena.specs.Arena.{heap_of}
+use Rattle.reg_records.specs.SubkeyLists.{Entry}
+use Rattle.reg_index.specs.Internal.HashLeaves.{IsLeaf}
+use Rattle.reg_index.specs.Internal.IndexLists.{AreKeys}
+use Rattle.reg_index.specs.Internal.NameSearches.{Between}
+use Rattle.reg_index.specs.Subkeys.{names_in}
+use Rattle.reg_index.proofs.finding.narrow.Given as goal
+
+abbrev pub invariant-loop-high : goal.invariant-loop-high
+invariant-loop-high l =
+    (offset : ℕ) → (entries : List Entry) → IsLeaf (heap_of l.arena) offset entries → heap_of l.arena offset ≡ Some l.leaf → AreKeys (heap_of l.arena) entries →
+    Between (names_in (heap_of l.arena) entries) (folded l.name) l.low l.high
+
+abbrev pub decreases-loop-high : goal.decreases-loop-high
+decreases-loop-high l = l.high - l.low
