@@ -1,6 +1,7 @@
 -- A value's data in cells: written and read back.
 pub mod DataPieces
 pub mod SegmentReading
+pub mod FilledRooms
 pub mod DataForms
 pub mod FilledCells
 pub mod StoredData

@@ -2,7 +2,7 @@
 //!
 //! Suhanov, Windows registry file format specification, section "Big data".
 
-ghost use Rattle.std.specs.Prelude.{◌≡◌, ◌<◌, ◌≤◌, ◌*◌, ◌+◌, ℕ, List, Some, IsSome, IfOk, length, get_or, take, drop, [], ◌∷◌};
+ghost use Rattle.std.specs.Prelude.{◌≡◌, ◌<◌, ◌≤◌, ◌*◌, ◌+◌, ℕ, List, Some, IsSome, IfOk, length, get_or, take, drop, [], ◌∷◌, ◌++◌};
 ghost use Rattle.reg_heap.specs.declared.limits.TheConstants.{DATA_LIMIT};
 ghost use Rattle.reg_heap.specs.Heaps.{GivesUp, allocated};
 ghost use Rattle.reg_heap.specs.Kinds.{Found, times};
@@ -54,6 +54,21 @@ pub(crate) fn big_bytes(
     joined(alloc, arena, size, list)
 }
 
+/// The bytes of the segment at an index, counted from 0, of data of a size, where a list names its segments.
+fn segment_at(arena: &Arena, size: usize, list: u32, index: usize) -> &[u8]
+    requires size { size < 4294967296 }
+    requires exists { IsSome (heap_of arena.now list) }
+    requires long { 4 * segments_for_of size ≤ length (held (heap_of arena.now) list) }
+    requires pieces { IsSome (segments_at size (held (heap_of arena.now) list) (heap_of arena.now)) }
+    requires index { index < segments_for_of size }
+    ensures { OfRead (segments_at size (held (heap_of arena.now) list)) (heap_of arena.now)
+        (λ all met. result.now ≡ take SEGMENT_SIZE (drop (SEGMENT_SIZE * index) all)) }
+{
+    let segment = offset_at(arena.content(list), index as u32);
+    let count = (size - SEGMENT_SIZE * index).min(SEGMENT_SIZE);
+    &arena.content(segment)[..count]
+}
+
 /// A copy of the bytes of the segments that a list names.
 fn joined(alloc: Global, arena: &Arena, size: usize, list: u32) -> Result<Vec<u8>, AllocError>
     requires size { size < 4294967296 }
@@ -64,11 +79,47 @@ fn joined(alloc: Global, arena: &Arena, size: usize, list: u32) -> Result<Vec<u8
 {
     let mut bytes = Vec::with_capacity(alloc, size)?;
     for index in 0..segments_for(size) {
-        let segment = offset_at(arena.content(list), index as u32);
-        let count = (size - SEGMENT_SIZE * index).min(SEGMENT_SIZE);
-        bytes.extend_from_slice(&arena.content(segment)[..count])?;
+        bytes.extend_from_slice(segment_at(arena, size, list, index))?;
     }
     Ok(bytes)
+}
+
+/// Copies bytes into a room behind its first few. The rest of the room stays as it was.
+fn fill_behind(room: &mut [u8], done: usize, bytes: &[u8])
+    requires { done + length bytes.now ≤ length room.old }
+    ensures { room.new ≡ take done room.old ++ bytes.now ++ drop (done + length bytes.now) room.old }
+{
+    room[done..done + bytes.len()].copy_from_slice(bytes);
+}
+
+/// Copies the bytes of the segments that a list names over the front of a room that has place for them.
+fn fill_segments(arena: &Arena, size: usize, list: u32, room: &mut [u8])
+    requires size { size < 4294967296 }
+    requires exists { IsSome (heap_of arena.now list) }
+    requires long { 4 * segments_for_of size ≤ length (held (heap_of arena.now) list) }
+    requires pieces { IsSome (segments_at size (held (heap_of arena.now) list) (heap_of arena.now)) }
+    requires room { size ≤ length room.old }
+    ensures { OfRead (segments_at size (held (heap_of arena.now) list)) (heap_of arena.now)
+        (λ all met. room.new ≡ all ++ drop (length all) room.old) }
+{
+    for index in 0..segments_for(size) {
+        fill_behind(
+            room,
+            SEGMENT_SIZE * index,
+            segment_at(arena, size, list, index),
+        );
+    }
+}
+
+/// Copies the bytes behind a big data record over the front of a room that has place for them.
+pub(crate) fn fill_big(arena: &Arena, size: usize, cell: u32, room: &mut [u8])
+    requires size { size < 4294967296 }
+    requires big { IsSome (big_data_at size cell (heap_of arena.now)) }
+    requires room { size ≤ length room.old }
+    ensures { OfRead (big_data_at size cell) (heap_of arena.now) (λ all met. room.new ≡ all ++ drop (length all) room.old) }
+{
+    let list = big_at(arena, cell).list;
+    fill_segments(arena, size, list, room);
 }
 
 /// The bytes of one segment.

@@ -2,7 +2,7 @@
 //!
 //! Suhanov, Windows registry file format specification, sections "Key value" and "Big data".
 
-ghost use Rattle.std.specs.Prelude.{◌≡◌, ◌≢◌, ◌<◌, ◌≤◌, ℕ, List, Some, IsSome, IfOk, OnErr, slice_get, slice_index, length, [], ◌∷◌};
+ghost use Rattle.std.specs.Prelude.{◌≡◌, ◌≢◌, ◌<◌, ◌≤◌, ℕ, List, Some, IsSome, IfOk, OnErr, slice_get, slice_index, length, drop, [], ◌∷◌, ◌++◌};
 ghost use Rattle.byteorder.specs.Endian.{little_bytes};
 ghost use Rattle.reg_heap.specs.declared.limits.TheConstants.{DATA_LIMIT};
 ghost use Rattle.reg_heap.specs.Paths.{Member};
@@ -13,7 +13,7 @@ ghost use Rattle.reg_values.specs.ValueLists.{AreValues, OfRead};
 ghost use Rattle.reg_values.specs.Internal.ValueListParts.{Owns, GivesUpRead, Fills, HaveRoom, HoldsData};
 ghost use Rattle.reg_values.specs.ValueSizes.{data_sizes};
 
-use crate::big::{big_bytes, free_big, put_big};
+use crate::big::{big_bytes, fill_big, free_big, put_big};
 use crate::finding::{cell_of, record_at, size_in};
 use crate::{INLINE, INLINE_LIMIT, ValuesList};
 use reg_arena::Arena;
@@ -65,6 +65,51 @@ fn data_bytes(alloc: Global, arena: &Arena, fields: ValueFields) -> Result<Vec<u
         return big_bytes(alloc, arena, size, fields.offset);
     }
     Vec::from_slice(alloc, &arena.content(fields.offset)[..size])
+}
+
+/// Copies the data of the value at an index of the list, counted from 0, over the front of a room that has place for it. The rest of
+/// the room stays as it was. It takes no memory.
+pub fn fill_bytes(arena: &Arena, list: ValuesList, index: u32, room: &mut [u8])
+    requires values { AreValues (heap_of arena.now) list.count list.offset }
+    requires index { index < list.count }
+    requires room { OfRead (members_at list.count list.offset) (heap_of arena.now)
+        (λ members met. (member : Member) → slice_get members index ≡ Some member → length member.bytes ≤ length room.old) }
+    ensures { OfRead (members_at list.count list.offset) (heap_of arena.now)
+        (λ members met. (member : Member) × (slice_get members index ≡ Some member)
+        × (room.new ≡ member.bytes ++ drop (length member.bytes) room.old)) }
+{
+    let fields = record_at(arena, cell_of(arena, list, index)).fields;
+    fill_data(arena, fields, room);
+}
+
+/// Copies bytes over the front of a room that has place for them. The rest of the room stays as it was.
+fn fill_front(room: &mut [u8], bytes: &[u8])
+    requires { length bytes.now ≤ length room.old }
+    ensures { room.new ≡ bytes.now ++ drop (length bytes.now) room.old }
+{
+    room[..bytes.len()].copy_from_slice(bytes);
+}
+
+/// Copies the data that a record tells of over the front of a room that has place for it.
+fn fill_data(arena: &Arena, fields: ValueFields, room: &mut [u8])
+    requires data { IsSome (data_at fields (heap_of arena.now)) }
+    requires room { OfRead (data_at fields) (heap_of arena.now) (λ all met. length all ≤ length room.old) }
+    ensures { OfRead (data_at fields) (heap_of arena.now) (λ all met. room.new ≡ all ++ drop (length all) room.old) }
+{
+    if fields.size >= INLINE {
+        let bytes = fields.offset.to_le_bytes();
+        fill_front(room, &bytes[..(fields.size - INLINE) as usize]);
+        return;
+    }
+    if fields.size == 0 {
+        return;
+    }
+    let size = fields.size as usize;
+    if size > SEGMENT_SIZE {
+        fill_big(arena, size, fields.offset, room);
+        return;
+    }
+    fill_front(room, &arena.content(fields.offset)[..size]);
 }
 
 fn byte_or_zero(bytes: &[u8], index: usize) -> u8

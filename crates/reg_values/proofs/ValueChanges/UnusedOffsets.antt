@@ -1,5 +1,5 @@
 -- The offsets of a new list's cell that no value uses yet.
-use Rattle.std.proofs.Common.{◌≡◌, ◌≢◌, ℕ, zero, suc, ◌+◌, ◌*◌, ◌<◌, ◌≤◌, ◌-◌, ◌==◌, cond, Some, IsSome, List, [], ◌∷◌, length, take, drop, get_or, replicate}
+use Rattle.std.proofs.Common.{◌≡◌, ◌≢◌, ℕ, zero, suc, ◌+◌, ◌*◌, ◌<◌, ◌≤◌, ◌-◌, Some, IsSome, List, [], ◌∷◌, length, take, drop, get_or, replicate}
 use Rattle.std.proofs.Common.{refl, sym, ap, subst, ◌∙◌, arith, length-take, length-drop, Option, unwrap_or}
 use Rattle.reg_heap.specs.ByteWords.{word, splice}
 use Rattle.reg_heap.specs.Heaps.{Heap, GivesUp, AreNew, allocated}

@@ -84,6 +84,10 @@ module _ (heap : Heap) (fields : ValueFields) (all : List ℕ) (met : List Found
   far : fields.size < 2147483648 → is_inline fields.size ≡ false
   far l = le-false 2147483648 fields.size l
 
+  -- data that isn't inline is as long as its size field
+  pub plain-long : fields.size < 2147483648 → length all ≡ fields.size
+  plain-long l = data-long ∙ ap (λ b. cond b (inline_size fields.size) fields.size) (far l)
+
   pub small-data : fields.size ≤ SEGMENT_SIZE → pieces_at (if_any Data fields.size fields.offset) heap ≡ Some (all, met)
   unfolding segment_size
   small-data l = data-as false true (far (omega arith)) (le-leb _ _ l)
