@@ -51,7 +51,7 @@ class Draft:
             key = self.key(name, security, self.list(b"li", [key]))
         return key
 
-    def image(self, root):
+    def image(self, root, minor=5):
         used = len(self.bins)
         size = -(-used // 4096) * 4096
         if used < size:
@@ -59,7 +59,7 @@ class Draft:
             self.bins += bytes(size - len(self.bins))
         struct.pack_into("<4sII", self.bins, 0, b"hbin", 0, size)
         block = bytearray(4096)
-        struct.pack_into("<4sIIQ7I", block, 0, b"regf", 1, 1, 0, 1, 5, 0, 1, root, size, 1)
+        struct.pack_into("<4sIIQ7I", block, 0, b"regf", 1, 1, 0, 1, minor, 0, 1, root, size, 1)
         total = 0
         for word in struct.unpack("<127I", block[:508]):
             total ^= word

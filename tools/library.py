@@ -30,34 +30,39 @@ def version_of(header):
     return f"{number // 10000}.{number // 100 % 100}.{number % 100}"
 
 
+def archive():
+    """The static library as it was built, without what it calls malloc by."""
+    return f"{folder_of(NAME)}/out/lib{NAME}.a"
+
+
 def heap_of_kit():
     """The archive by which the library calls malloc, realloc and free."""
     return f"{os.path.dirname(os.path.dirname(os.path.realpath(shutil.which('rt'))))}/c/liblibc_c.a"
 
 
-def put_archive():
+def put_archive(to):
     """The static library, with what it calls malloc by, so that callers link one file."""
-    archive = f"{DIST}/lib{NAME}.a"
-    shutil.copy2(f"{folder_of(NAME)}/out/lib{NAME}.a", archive)
+    whole = f"{to}/lib{NAME}.a"
+    shutil.copy2(archive(), whole)
     with tempfile.TemporaryDirectory() as room:
         run("ar", "x", heap_of_kit(), folder=room)
-        run("ar", "rs", archive, *[f"{room}/{it}" for it in sorted(os.listdir(room))])
+        run("ar", "rs", whole, *[f"{room}/{it}" for it in sorted(os.listdir(room))])
 
 
-def put_shared():
+def put_shared(to):
     """The shared library, of the whole archive."""
     compiler = os.environ.get("CC", "cc")
-    run(compiler, "-shared", "-o", f"{DIST}/lib{NAME}.so", "-Wl,--whole-archive", f"{DIST}/lib{NAME}.a", "-Wl,--no-whole-archive")
+    run(compiler, "-shared", "-o", f"{to}/lib{NAME}.so", "-Wl,--whole-archive", f"{to}/lib{NAME}.a", "-Wl,--no-whole-archive")
 
 
-def put():
-    """Puts the header, both libraries and the file for pkg-config under dist/."""
-    os.makedirs(DIST, exist_ok=True)
+def put(to=DIST):
+    """Puts the header, both libraries and the file for pkg-config in a folder."""
+    os.makedirs(to, exist_ok=True)
     header = text_of(f"{TOP}/include/{NAME}.h")
-    shutil.copy2(f"{TOP}/include/{NAME}.h", DIST)
-    put_archive()
-    put_shared()
-    with open(f"{DIST}/{NAME}.pc", "w", encoding="utf-8") as out:
+    shutil.copy2(f"{TOP}/include/{NAME}.h", to)
+    put_archive(to)
+    put_shared(to)
+    with open(f"{to}/{NAME}.pc", "w", encoding="utf-8") as out:
         out.write(text_of(f"{TOP}/bindings/c/{NAME}.pc.in").replace("@VERSION@", version_of(header)))
 
 

@@ -1,0 +1,167 @@
+/* Times calls of the library, or loads an image and goes through it; bench_hivex.c does the same by hivex. tools/bench runs both.
+ *
+ *     bench calls IMAGE     nanoseconds of a call on the hive of an image with a root alone, of the processor
+ *     bench walk IMAGE      how many keys and values the hive has; each one's name, type and data is asked for
+ */
+#include "zugmeled.h"
+
+#include <inttypes.h>
+#include <stdio.h>
+#include <stdlib.h>
+#include <string.h>
+#include <time.h>
+
+#define TEXT(text) (const uint8_t *)(text), sizeof(text) - 1
+#define PARENTS 204u
+#define KEYS 98u
+#define MOMENT 133000000000000000u
+
+static zug_hive hive;
+
+/* The names of the keys below each parent, and handles to them. */
+static char names[KEYS][8];
+static size_t lengths[KEYS];
+static uint64_t handles[KEYS];
+
+static void must(uint32_t status) {
+    if (status) {
+        fprintf(stderr, "a call is answered %" PRIu32 "\n", status);
+        exit(1);
+    }
+}
+
+static uint64_t nanoseconds(void) {
+    struct timespec now;
+    clock_gettime(CLOCK_PROCESS_CPUTIME_ID, &now);
+    return (uint64_t)now.tv_sec * 1000000000u + (uint64_t)now.tv_nsec;
+}
+
+static void load(const char *path) {
+    FILE *in = fopen(path, "rb");
+    uint8_t fault;
+    if (!in || fseek(in, 0, SEEK_END))
+        exit(2);
+    size_t length = (size_t)ftell(in);
+    uint8_t *bytes = malloc(length);
+    rewind(in);
+    if (!bytes || fread(bytes, 1, length, in) != length)
+        exit(2);
+    fclose(in);
+    must(zug_hive_load(&hive, bytes, length, &fault));
+    free(bytes);
+}
+
+/* ---- Calls ---- */
+
+static uint64_t made(uint64_t above, const char *name, size_t length) {
+    uint64_t key;
+    uint32_t disposition;
+    must(zug_create_key(&hive, 0, MOMENT, above, (const uint8_t *)name, length, ZUG_ALL_ACCESS, NULL, 0, &key, &disposition));
+    return key;
+}
+
+static uint64_t opened(uint64_t above, unsigned key) {
+    uint64_t handle;
+    must(zug_open_key(&hive, 0, MOMENT, above, (const uint8_t *)names[key], lengths[key], ZUG_ALL_ACCESS, &handle));
+    return handle;
+}
+
+static void make(uint64_t parent) {
+    for (unsigned key = 0; key < KEYS; key++)
+        must(zug_close(&hive, 0, MOMENT, made(parent, names[key], lengths[key])));
+}
+
+static void open_and_close(uint64_t parent) {
+    for (unsigned key = 0; key < KEYS; key++)
+        must(zug_close(&hive, 0, MOMENT, opened(parent, key)));
+}
+
+static void set(uint64_t parent) {
+    for (unsigned key = 0; key < KEYS; key++)
+        must(zug_set_value(&hive, 0, MOMENT, handles[key], TEXT("Value"), 4, (const uint8_t *)&parent, 4));
+}
+
+static void query(uint64_t parent) {
+    uint8_t room[4];
+    uint32_t kind, size;
+    (void)parent;
+    for (unsigned key = 0; key < KEYS; key++)
+        must(zug_query_value(&hive, 0, handles[key], TEXT("Value"), room, sizeof room, &kind, &size));
+}
+
+static void enumerate(uint64_t parent) {
+    uint8_t room[256];
+    uint32_t size;
+    uint64_t time;
+    for (unsigned key = 0; key < KEYS; key++)
+        must(zug_enum_key(&hive, 0, parent, key, room, sizeof room, &size, &time));
+}
+
+/* Does something with the keys below each parent, whose handles are open meanwhile where it needs them. */
+static void measure(const char *what, void (*does)(uint64_t), const uint64_t *parents, bool needs_handles) {
+    uint64_t took = 0;
+    for (unsigned at = 0; at < PARENTS; at++) {
+        for (unsigned key = 0; needs_handles && key < KEYS; key++)
+            handles[key] = opened(parents[at], key);
+        uint64_t begun = nanoseconds();
+        does(parents[at]);
+        took += nanoseconds() - begun;
+        for (unsigned key = 0; needs_handles && key < KEYS; key++)
+            must(zug_close(&hive, 0, MOMENT, handles[key]));
+    }
+    printf("%s: %" PRIu64 "\n", what, took / (PARENTS * KEYS));
+}
+
+static void calls(void) {
+    uint64_t root, parents[PARENTS];
+    char name[16];
+    must(zug_open_root(&hive, 0, MOMENT, ZUG_ALL_ACCESS, &root));
+    for (unsigned key = 0; key < KEYS; key++)
+        lengths[key] = (size_t)snprintf(names[key], sizeof names[key], "Key%u", key);
+    for (unsigned at = 0; at < PARENTS; at++)
+        parents[at] = made(root, name, (size_t)snprintf(name, sizeof name, "Parent%u", at));
+    measure("make a key", make, parents, false);
+    measure("open and close a key", open_and_close, parents, false);
+    measure("set a new value", set, parents, true);
+    measure("set a value", set, parents, true);
+    measure("query a value", query, parents, true);
+    measure("enumerate a key", enumerate, parents, false);
+}
+
+/* ---- A walk ---- */
+
+static uint64_t keys, values;
+
+static void walk(uint64_t key) {
+    static uint8_t value_name[16383], data[1048576];
+    uint8_t name[255];
+    uint32_t name_size, size, kind;
+    uint64_t time, child;
+    keys += 1;
+    for (uint32_t at = 0; zug_enum_value(&hive, 0, key, at, value_name, sizeof value_name, &name_size, data, sizeof data, &kind, &size) == 0; at++)
+        values += 1;
+    for (uint32_t at = 0; zug_enum_key(&hive, 0, key, at, name, sizeof name, &name_size, &time) == 0; at++) {
+        must(zug_open_key(&hive, 0, MOMENT, key, name, name_size, ZUG_QUERY_VALUE | ZUG_ENUMERATE_SUB_KEYS, &child));
+        walk(child);
+        must(zug_close(&hive, 0, MOMENT, child));
+    }
+}
+
+static void walk_all(void) {
+    uint64_t root;
+    must(zug_open_root(&hive, 0, MOMENT, ZUG_ALL_ACCESS, &root));
+    walk(root);
+    printf("%" PRIu64 " keys %" PRIu64 " values\n", keys, values);
+}
+
+int main(int count, char **words) {
+    if (count != 3)
+        return 2;
+    load(words[2]);
+    if (strcmp(words[1], "calls") == 0)
+        calls();
+    else
+        walk_all();
+    zug_hive_close(&hive);
+    return 0;
+}

@@ -1,0 +1,57 @@
+"""What tries the library by programs in C: where it is, and how these are compiled with it."""
+import os
+import subprocess
+import tempfile
+from contextlib import contextmanager
+from glob import glob
+
+import library
+from repository import TOP, Untried, below, folder_of
+
+PROGRAMS = f"{TOP}/bindings/c"
+COMPILER = os.environ.get("CC", "cc")
+# Each program, and what it is compiled with beside the library.
+REFUSING = ["-Wl,--wrap=malloc", "-Wl,--wrap=realloc"]
+FLAGS = {"every_export": REFUSING, "hostile": REFUSING}
+# Under what a program runs: what it is compiled with for that, and what it is started by.
+UNDER = {
+    "": (["-O2"], []),
+    "asan": (["-O1", "-g", "-fsanitize=address,undefined", "-fno-sanitize-recover=all"], []),
+    "valgrind": (["-O1", "-g"], ["valgrind", "-q", "--leak-check=full", "--show-leak-kinds=all", "--error-exitcode=9"]),
+}
+
+
+def newest_source():
+    """When the sources of the library were last changed."""
+    crates = [*below([library.NAME]), library.NAME]
+    return max(os.path.getmtime(it) for crate in crates for part in ("src", "specs") for it in glob(f"{folder_of(crate)}/{part}/**", recursive=True))
+
+
+def refuse_stale():
+    """Nothing is tried of a library that isn't built, or not since its sources were changed. The gate proves it, and builds none."""
+    if not os.path.exists(library.archive()):
+        raise Untried("the library isn't built: ./build --library")
+    if os.path.getmtime(library.archive()) < newest_source():
+        raise Untried("the library is older than its sources: ./build --library")
+
+
+@contextmanager
+def put():
+    """A folder with the library and its header, as they were built."""
+    refuse_stale()
+    with tempfile.TemporaryDirectory(prefix="from-c-") as folder:
+        library.put(folder)
+        yield folder
+
+
+def compiled(folder, name, *flags):
+    """Compiles a program of bindings/c with the library in a folder, and answers its path there."""
+    program = f"{folder}/{name}"
+    words = [COMPILER, *flags, f"-I{folder}", f"{PROGRAMS}/{name}.c", f"{folder}/lib{library.NAME}.a", *FLAGS.get(name, []), "-o", program]
+    try:
+        ran = subprocess.run(words, stdin=subprocess.DEVNULL, stdout=subprocess.PIPE, stderr=subprocess.STDOUT, text=True)
+    except FileNotFoundError:
+        raise Untried(f"there is no C compiler: {COMPILER} isn't on the path") from None
+    if ran.returncode:
+        raise Untried(f"{name}.c isn't compiled:\n{ran.stdout}")
+    return program
