@@ -2,6 +2,7 @@
 
 use std::fs;
 use std::path::PathBuf;
+use zugmeled::Status;
 
 #[test]
 fn functions_have_the_types_of_the_header() {
@@ -24,7 +25,7 @@ fn constants_have_the_numbers_of_the_header() {
     let header = source("../../include/zugmeled.h");
     let declared = source("src/ffi.rs").replace('_', "");
     let told: Vec<(&str, u64)> = header.lines().filter_map(constant).collect();
-    assert!(told.len() > 35);
+    assert!(told.len() > 70);
     for (name, number) in told {
         let name = name.replace('_', "");
         let lines = [
@@ -35,6 +36,23 @@ fn constants_have_the_numbers_of_the_header() {
             lines.iter().any(|line| declared.contains(line)),
             "{name} is {number}"
         );
+    }
+}
+
+#[test]
+fn statuses_of_the_header_have_words() {
+    let header = source("../../include/zugmeled.h");
+    let told = between(&header, "/* Statuses. */", "/* Rights");
+    let numbers: Vec<u64> = told
+        .lines()
+        .filter_map(constant)
+        .map(|(_, number)| number)
+        .filter(|&number| number != 0)
+        .collect();
+    assert_eq!(numbers.len(), 13);
+    for number in numbers {
+        let words = Status(number as u32).to_string();
+        assert!(!words.starts_with("the call was refused"), "{words}");
     }
 }
 
