@@ -6,7 +6,7 @@
  *     zug_hive hive = {0};
  *     if (zug_hive_load(&hive, bytes, length, &fault) == 0) {
  *         zug_open_root(&hive, 0, moment, ZUG_ALL_ACCESS, &root);
- *         zug_set_value(&hive, 0, moment, root, name, name_length, ZUG_DWORD, data, 4);
+ *         zug_set_value(&hive, 0, moment, root, ZUG_TEXT("Version"), ZUG_DWORD, data, 4);
  *     }
  *     zug_hive_close(&hive);
  *
@@ -25,8 +25,7 @@
  * to 512 names of keys, joined by a backslash; the empty path is the handle's own key. Case is kept, and makes no difference. No text is
  * ended by a 0 byte, and none that is handed out is.
  *
- * Security. A descriptor is any bytes: they are kept as they are, and no call is checked against them. Windows reads self-relative ones, of
- * which the least is {1, 0, 4, 0x80} and 16 zeros.
+ * Security. A descriptor is any bytes: they are kept as they are, and no call is checked against them. Windows wants a self-relative one.
  *
  * What you owe, since nothing can test it:
  *   - A zug_hive is all zero before its first call. Nothing but these functions writes its words. You may move it between calls, but of two
@@ -55,6 +54,12 @@ extern "C" {
 
 /* The version of the library that was linked. It suits this header where it is the same version, and no lower number than ZUG_VERSION. */
 uint32_t zug_version(void);
+
+/* The bytes of a string literal, without its 0 byte, and how many they are: two arguments of a call. */
+#define ZUG_TEXT(literal) (const uint8_t *)(literal), sizeof(literal) - 1
+
+/* The same of the least security descriptor that Windows takes, which has no owner, no group and no lists. */
+#define ZUG_EMPTY_SECURITY ZUG_TEXT("\1\0\4\200\0\0\0\0\0\0\0\0\0\0\0\0\0\0\0\0")
 
 /* Statuses. */
 #define ZUG_SUCCESS 0u

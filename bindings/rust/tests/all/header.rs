@@ -7,10 +7,7 @@ use zugmeled::Status;
 #[test]
 fn functions_have_the_types_of_the_header() {
     let declared = statements(&source("src/ffi.rs"), "fn zug_");
-    let told = statements(
-        &without_comments(&source("../../include/zugmeled.h")),
-        "zug_",
-    );
+    let told = statements(&declarations(&source("../../include/zugmeled.h")), "zug_");
     let told: Vec<String> = told
         .iter()
         .filter(|it| it.contains('('))
@@ -88,6 +85,13 @@ fn without_comments(text: &str) -> String {
     let mut parts = text.split("/*");
     let first = parts.next().unwrap_or_default().to_string();
     parts.fold(first, |code, part| code + part.split_once("*/").unwrap().1)
+}
+
+/// The declarations alone: no comments, and no lines of the preprocessor.
+fn declarations(text: &str) -> String {
+    let code = without_comments(text);
+    let lines: Vec<&str> = code.lines().filter(|line| !line.starts_with('#')).collect();
+    lines.join("\n")
 }
 
 /// The statements of a text that have a word, in the form `name(parameter, ..) -> result`, with one
