@@ -118,7 +118,7 @@ uint32_t zug_version(void);
 #define ZUG_HANDLES_LIMIT 16384u    /* open handles of a session */
 #define ZUG_WATCHES_LIMIT 4096u     /* watches of a session that wait */
 #define ZUG_JOURNAL_LIMIT 16777216u /* kept entries and open handles of a hive together */
-#define ZUG_BINS_LIMIT 268435456u   /* bytes of a hive's bins; its image has 4,096 more */
+#define ZUG_BINS_LIMIT 268435456u   /* bytes of a hive's bins, where its keys stand; its image has 4,096 more */
 
 /* What a hive is held by: two words of yours. `zug_hive hive = {0};` holds none, in C++ `zug_hive hive = {};`. */
 typedef struct zug_hive {
@@ -161,8 +161,8 @@ uint32_t zug_hive_cut(zug_hive *hive, uint64_t *cut);
 uint32_t zug_image_size(zug_hive *hive, uint64_t *size, uint64_t *entries);
 
 /* Fills a room with the bytes of the hive's image from an offset on. What of the room reaches behind the image's end stays as it was.
- * `moment` and `sequence` stand in the image's base block. `entries` is what zug_image_size told: parts of one image are of one state.
- * It takes no memory.
+ * `moment` and `sequence` stand in the image's base block; the second is best one more than that of the file before, 32 bits at its byte 4.
+ * `entries` is what zug_image_size told: parts of one image are of one state. It takes no memory.
  * 6. 87: the hive has had another number of entries by now. */
 uint32_t zug_image_part(zug_hive *hive, uint64_t moment, uint32_t sequence, uint64_t entries, uint64_t offset,
                         uint8_t *room, size_t room_length);
@@ -293,6 +293,7 @@ uint32_t zug_take_notice(zug_hive *hive, uint8_t session, uint64_t *watch, uint6
 
 /* ---- What a change would meet ---- */
 
+/* The changes, each the function of its name; ZUG_SET is zug_set_value, ZUG_NOTIFY_CHANGE zug_notify. */
 #define ZUG_OPEN_ROOT 0u
 #define ZUG_OPEN_KEY 1u
 #define ZUG_CREATE_KEY 2u

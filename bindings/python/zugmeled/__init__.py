@@ -1,4 +1,4 @@
-"""Hive files of the Windows registry, opened, read, changed and saved on any system.
+"""Hive files of the Windows registry, opened, read, changed and saved on Unix.
 
     from zugmeled import Hive
 
