@@ -6,7 +6,7 @@
  *     zug_hive hive = {0};
  *     if (zug_hive_load(&hive, bytes, length, &fault) == 0) {
  *         zug_open_root(&hive, 0, moment, ZUG_ALL_ACCESS, &root);
- *         zug_set_value(&hive, 0, moment, root, name, name_length, 4, data, 4);
+ *         zug_set_value(&hive, 0, moment, root, ZUG_TEXT("Version"), ZUG_DWORD, data, 4);
  *     }
  *     zug_hive_close(&hive);
  *
@@ -15,14 +15,17 @@
  * memory was refused: for a copy of what was given, before all else, or in place of a success that needed some. No call ends the process.
  *
  * What goes out. A call that answers another status than 0 changes nothing of the hive, sets each number that it hands out to 0, and leaves
- * each room as it was. Only 234 and 122 tell a size, and 234 a type. With 0 a room has the answer at its front; what is behind that stays
- * as it was. Ask the status, not the handle: 0 is a handle's number too.
+ * each room, a buffer of yours, as it was. Only 234 and 122 tell a size, and 234 a type. With 0 a room has the answer at its front; what is
+ * behind that stays as it was. Ask the status, not the handle: 0 is a handle's number too.
  *
- * Units. A moment is in units of 100 ns since 1601, in UTC; it need not rise. Sizes, lengths, rooms and offsets are in bytes.
+ * Units. A moment is in units of 100 ns since 1601, in UTC: now it is (uint64_t)(time(NULL) + 11644473600) * 10000000. It becomes the last
+ * write time of the keys that a call changes, and need not rise. Sizes, lengths, rooms and offsets are in bytes.
  *
  * Names. A key's name has 1 to 255 bytes, a value's 0 to 16,383; each byte is 0x01 to 0x7F, and in a key's name no backslash. A path is up
  * to 512 names of keys, joined by a backslash; the empty path is the handle's own key. Case is kept, and makes no difference. No text is
  * ended by a 0 byte, and none that is handed out is.
+ *
+ * Security. A descriptor is any bytes: they are kept as they are, and no call is checked against them. Windows wants a self-relative one.
  *
  * What you owe, since nothing can test it:
  *   - A zug_hive is all zero before its first call. Nothing but these functions writes its words. You may move it between calls, but of two
@@ -49,8 +52,14 @@ extern "C" {
 /* The version of this header: 10,000 a version, 100 a lower one, 1 a patch. */
 #define ZUG_VERSION 10000
 
-/* The version of the library that was linked, to be compared with ZUG_VERSION. */
+/* The version of the library that was linked. It suits this header where it is the same version, and no lower number than ZUG_VERSION. */
 uint32_t zug_version(void);
+
+/* The bytes of a string literal, without its 0 byte, and how many they are: two arguments of a call. */
+#define ZUG_TEXT(literal) (const uint8_t *)(literal), sizeof(literal) - 1
+
+/* The same of the least security descriptor that Windows takes, which has no owner, no group and no lists. */
+#define ZUG_EMPTY_SECURITY ZUG_TEXT("\1\0\4\200\0\0\0\0\0\0\0\0\0\0\0\0\0\0\0\0")
 
 /* Statuses. */
 #define ZUG_SUCCESS 0u
@@ -68,20 +77,50 @@ uint32_t zug_version(void);
 #define ZUG_KEY_DELETED 1018u       /* the handle's key was deleted */
 #define ZUG_NO_SYSTEM_RESOURCES 1450u /* a count is at its limit, or the bins have no room */
 
-/* Rights, whose sum is a mask. A mask with another bit is 87. */
-#define ZUG_QUERY_VALUE 0x1u
-#define ZUG_SET_VALUE 0x2u
-#define ZUG_CREATE_SUB_KEY 0x4u
-#define ZUG_ENUMERATE_SUB_KEYS 0x8u
-#define ZUG_NOTIFY 0x10u
-#define ZUG_CREATE_LINK 0x20u
-#define ZUG_DELETE 0x10000u
-#define ZUG_READ_CONTROL 0x20000u
-#define ZUG_WRITE_DAC 0x40000u
-#define ZUG_WRITE_OWNER 0x80000u
-#define ZUG_ALL_ACCESS 0xF003Fu
+/* Rights, which are joined by | to a mask. A mask with another bit is 87. A handle has those that it was opened with. To open, make and delete
+ * keys below it, but for zug_delete_tree, it needs none. */
+#define ZUG_QUERY_VALUE 0x1u        /* to ask for values, and for the key's numbers */
+#define ZUG_SET_VALUE 0x2u          /* to set and delete values */
+#define ZUG_CREATE_SUB_KEY 0x4u     /* no call asks for it */
+#define ZUG_ENUMERATE_SUB_KEYS 0x8u /* to list subkeys */
+#define ZUG_NOTIFY 0x10u            /* to ask for notices */
+#define ZUG_CREATE_LINK 0x20u       /* no call asks for it */
+#define ZUG_DELETE 0x10000u         /* to delete trees */
+#define ZUG_READ_CONTROL 0x20000u   /* to ask for the security descriptor */
+#define ZUG_WRITE_DAC 0x40000u      /* to set the security descriptor */
+#define ZUG_WRITE_OWNER 0x80000u    /* no call asks for it */
+#define ZUG_ALL_ACCESS 0xF003Fu     /* all of these */
 
-/* What a hive is held by: two words of yours. `zug_hive hive = {0};` holds none. */
+/* Types of values: REG_NONE and so on. A type may be any other number too, and no call looks at the data by it. Texts are UTF-16LE. */
+#define ZUG_NONE 0u                        /* data without a type */
+#define ZUG_SZ 1u                          /* a text, with a zero at its end */
+#define ZUG_EXPAND_SZ 2u                   /* a text with names of environment variables in it, with a zero at its end */
+#define ZUG_BINARY 3u                      /* bytes */
+#define ZUG_DWORD 4u                       /* a number of 32 bits, its lowest byte first */
+#define ZUG_DWORD_BIG_ENDIAN 5u            /* a number of 32 bits, its highest byte first */
+#define ZUG_LINK 6u                        /* the path of another key, as a text without an end */
+#define ZUG_MULTI_SZ 7u                    /* texts, each with a zero at its end, and one more behind the last */
+#define ZUG_RESOURCE_LIST 8u               /* a driver's resources */
+#define ZUG_FULL_RESOURCE_DESCRIPTOR 9u    /* a device's resources */
+#define ZUG_RESOURCE_REQUIREMENTS_LIST 10u /* what resources a driver may be given */
+#define ZUG_QWORD 11u                      /* a number of 64 bits, its lowest byte first */
+
+/* Limits: the most of each. Past one of a name, a path, data, a descriptor or a session a call is 87, past another 1450. */
+#define ZUG_KEY_NAME_LIMIT 255u     /* bytes of a key's name */
+#define ZUG_VALUE_NAME_LIMIT 16383u /* bytes of a value's name */
+#define ZUG_PATH_LIMIT 512u         /* names of a path; from the root on, past them 1450 */
+#define ZUG_DATA_LIMIT 1048576u     /* bytes of a value's data */
+#define ZUG_DESCRIPTOR_LIMIT 65535u /* bytes of a security descriptor */
+#define ZUG_SESSIONS_LIMIT 64u      /* sessions of a hive: 0 to 63 */
+#define ZUG_MADE_LIMIT 32u          /* missing keys that one zug_create_key makes */
+#define ZUG_SUBKEYS_LIMIT 60000u    /* subkeys of a key */
+#define ZUG_VALUES_LIMIT 16384u     /* values of a key */
+#define ZUG_HANDLES_LIMIT 16384u    /* open handles of a session */
+#define ZUG_WATCHES_LIMIT 4096u     /* watches of a session that wait */
+#define ZUG_JOURNAL_LIMIT 16777216u /* kept entries and open handles of a hive together */
+#define ZUG_BINS_LIMIT 268435456u   /* bytes of a hive's bins, where its keys stand; its image has 4,096 more */
+
+/* What a hive is held by: two words of yours. `zug_hive hive = {0};` holds none, in C++ `zug_hive hive = {};`. */
 typedef struct zug_hive {
     uint64_t holds;
     void *at;
@@ -89,7 +128,7 @@ typedef struct zug_hive {
 
 /* ---- A hive's life ---- */
 
-/* Makes a hive of one root, with a name and a security descriptor of 1 to 65,535 bytes, which is kept as it is.
+/* Makes a hive of one root, last written at the moment, with a name and a security descriptor of 1 to 65,535 bytes.
  * 183: the zug_hive holds a hive, and keeps it. 87: no key may have the name, or the descriptor is empty or too long. 8. */
 uint32_t zug_hive_new(zug_hive *hive, const uint8_t *root_name, size_t root_name_length,
                       const uint8_t *descriptor, size_t descriptor_length, uint64_t moment);
@@ -122,14 +161,15 @@ uint32_t zug_hive_cut(zug_hive *hive, uint64_t *cut);
 uint32_t zug_image_size(zug_hive *hive, uint64_t *size, uint64_t *entries);
 
 /* Fills a room with the bytes of the hive's image from an offset on. What of the room reaches behind the image's end stays as it was.
- * `moment` and `sequence` stand in the image's base block. `entries` is what zug_image_size told: parts of one image are of one state.
- * It takes no memory.
+ * `moment` and `sequence` stand in the image's base block; the second is best one more than that of the file before, 32 bits at its byte 4.
+ * `entries` is what zug_image_size told: parts of one image are of one state. It takes no memory.
  * 6. 87: the hive has had another number of entries by now. */
 uint32_t zug_image_part(zug_hive *hive, uint64_t moment, uint32_t sequence, uint64_t entries, uint64_t offset,
                         uint8_t *room, size_t room_length);
 
 /* ---- Changes ----
- * Each takes a session, below 64; sessions need no start. A handle is of use to its session alone.
+ * Each takes a session, below 64, to which its handles and notices belong: they are of use to it alone. Sessions need no start; where one
+ * caller is enough, 0 is.
  * Where a handle is given: 6 the session has no such handle, 1018 its key was deleted. All but zug_close: 1450 the journal has no room. */
 
 /* Opens a handle to the root, with the rights of a mask.
@@ -141,8 +181,12 @@ uint32_t zug_open_root(zug_hive *hive, uint8_t session, uint64_t moment, uint32_
 uint32_t zug_open_key(zug_hive *hive, uint8_t session, uint64_t moment, uint64_t handle,
                       const uint8_t *path, size_t path_length, uint32_t mask, uint64_t *opened);
 
-/* Makes the keys of a path that are missing, at most 32, and opens a handle to the last. `disposition` is 1 where a key was made, 2 where all
- * were there. The last key made has the descriptor, of at most 65,535 bytes; with a descriptor of length 0 it has its parent's, as the others.
+/* What zug_create_key did. */
+#define ZUG_CREATED 1u /* a key of the path was made */
+#define ZUG_OPENED 2u  /* all were there */
+
+/* Makes the keys of a path that are missing, at most 32, and opens a handle to the last. `disposition` is one of the two above. The last key
+ * made has the descriptor, of at most 65,535 bytes; with a descriptor of length 0 it has its parent's, as the others.
  * 6, 8, 87: a path, a mask or a descriptor. 1018, 1450: as zug_open_root; or too many keys are missing, a path is too deep, a key has 60,000
  * subkeys, or the bins have no room. */
 uint32_t zug_create_key(zug_hive *hive, uint8_t session, uint64_t moment, uint64_t handle,
@@ -177,10 +221,17 @@ uint32_t zug_delete_tree(zug_hive *hive, uint8_t session, uint64_t moment, uint6
 uint32_t zug_set_security(zug_hive *hive, uint8_t session, uint64_t moment, uint64_t handle,
                           const uint8_t *descriptor, size_t descriptor_length);
 
-/* Asks for one notice: of the next change of a handle's key, and with `subtree` of a key below it too, of a kind that the filter names. Its
- * bits: 1 a subkey made or deleted, 4 a value set or deleted, 2 and 8 the security descriptor; 0x10000000 may be there too, and changes nothing.
- * `watch` is the number by which the notice names what was asked for.
- * 5: the handle lacks ZUG_NOTIFY. 6, 8, 87: a filter without 1, 2, 4 and 8, or with another bit. 1018, 1450: the session waits for 4,096. */
+/* Kinds of changes, which are joined by | to a filter. */
+#define ZUG_FILTER_NAME 0x1u                   /* a subkey was made or deleted */
+#define ZUG_FILTER_ATTRIBUTES 0x2u             /* the security descriptor was set */
+#define ZUG_FILTER_LAST_SET 0x4u               /* a value was set or deleted */
+#define ZUG_FILTER_SECURITY 0x8u               /* the security descriptor was set */
+#define ZUG_FILTER_THREAD_AGNOSTIC 0x10000000u /* none: it may be there too, and changes nothing */
+
+/* Asks for one notice: of the next change of a handle's key, and with `subtree` of a key below it too, of a kind that the filter names.
+ * `watch` is the number by which the notice names what was asked for. The watch ends with the handle too.
+ * 5: the handle lacks ZUG_NOTIFY. 6, 8, 87: a filter without one of the first four, or with another bit. 1018, 1450: the session waits for
+ * 4,096. */
 uint32_t zug_notify(zug_hive *hive, uint8_t session, uint64_t moment, uint64_t handle, uint32_t filter, bool subtree,
                     uint64_t *watch);
 
@@ -279,6 +330,7 @@ uint32_t zug_take_notice(zug_hive *hive, uint8_t session, uint64_t *watch, uint6
 
 /* ---- What a change would meet ---- */
 
+/* The changes, each the function of its name; ZUG_SET is zug_set_value, ZUG_NOTIFY_CHANGE zug_notify. */
 #define ZUG_OPEN_ROOT 0u
 #define ZUG_OPEN_KEY 1u
 #define ZUG_CREATE_KEY 2u

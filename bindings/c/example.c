@@ -7,10 +7,6 @@
 #include <stdio.h>
 #include <stdlib.h>
 
-#define TEXT(text) (const uint8_t *)(text), sizeof(text) - 1
-
-static const uint8_t descriptor[20] = {1, 0, 4, 0x80};
-
 static int save(zug_hive *hive, const char *path) {
     uint64_t size, entries;
     zug_image_size(hive, &size, &entries);
@@ -27,13 +23,13 @@ int main(int count, char **words) {
     uint64_t root, key;
     uint32_t disposition, kind, size;
     uint8_t room[16];
-    if (count < 2 || zug_hive_new(&hive, TEXT("ROOT"), descriptor, sizeof descriptor, 0) || zug_open_root(&hive, 0, 0, ZUG_ALL_ACCESS, &root))
+    if (count < 2 || zug_hive_new(&hive, ZUG_TEXT("ROOT"), ZUG_EMPTY_SECURITY, 0) || zug_open_root(&hive, 0, 0, ZUG_ALL_ACCESS, &root))
         return 1;
-    if (zug_create_key(&hive, 0, 0, root, TEXT("Software\\Zug"), ZUG_ALL_ACCESS, NULL, 0, &key, &disposition))
+    if (zug_create_key(&hive, 0, 0, root, ZUG_TEXT("Software\\Zug"), ZUG_ALL_ACCESS, NULL, 0, &key, &disposition))
         return 1;
-    if (zug_set_value(&hive, 0, 0, key, TEXT("Version"), 4, (const uint8_t *)"\1\0\0\0", 4))
+    if (zug_set_value(&hive, 0, 0, key, ZUG_TEXT("Version"), ZUG_DWORD, ZUG_TEXT("\1\0\0\0")))
         return 1;
-    if (zug_query_value(&hive, 0, key, TEXT("version"), room, sizeof room, &kind, &size) == 0)
+    if (zug_query_value(&hive, 0, key, ZUG_TEXT("version"), room, sizeof room, &kind, &size) == 0)
         printf("type %u size %u first byte %u\n", (unsigned)kind, (unsigned)size, room[0]);
     int failed = save(&hive, words[1]);
     zug_hive_close(&hive);

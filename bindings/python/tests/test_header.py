@@ -6,6 +6,7 @@ import unittest
 from ctypes import POINTER, c_bool, c_char_p, c_size_t, c_uint8, c_uint32, c_uint64, c_void_p
 from pathlib import Path
 
+from zugmeled import _errors
 from zugmeled import _library as c
 
 TYPES = {
@@ -53,10 +54,16 @@ class HeaderTest(unittest.TestCase):
 
     def test_constants(self):
         told = re.findall(r"#define ZUG_(\w+) (0x[0-9A-F]+|\d+)u?\s", header())
-        self.assertGreater(len(told), 30)
+        self.assertGreater(len(told), 70)
         for name, number in told:
             with self.subTest(constant=name):
                 self.assertEqual(getattr(c, name), int(number, 0))
+
+    def test_words(self):
+        told = re.findall(r"#define ZUG_\w+ (\d+)u\s", header().split("#define ZUG_QUERY_VALUE")[0])
+        statuses = {int(number) for number in told} - {c.SUCCESS}
+        self.assertEqual(len(statuses), 13)
+        self.assertLessEqual(statuses, set(_errors._WORDS))
 
     def test_info(self):
         fields = re.search(r"typedef struct zug_info \{(.*?)\}", header(), re.DOTALL)[1]

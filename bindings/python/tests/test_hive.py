@@ -455,8 +455,8 @@ class NoticeTest(HiveTest):
     def test_notices(self):
         self.assertEqual(list(self.hive.notices()), [])
         below = self.root.create("Below")
-        far = self.root.notify(zugmeled.CHANGE_LAST_SET, subtree=True)
-        near = self.root.notify(zugmeled.CHANGE_LAST_SET)
+        far = self.root.notify(zugmeled.FILTER_LAST_SET, subtree=True)
+        near = self.root.notify(zugmeled.FILTER_LAST_SET)
         entry = self.hive.entries()[0]
         below["Name"] = 1
         self.assertEqual(list(self.hive.notices()), [Notice(far, entry, zugmeled.MATCHED)])
@@ -465,7 +465,7 @@ class NoticeTest(HiveTest):
 
     def test_the_key_goes(self):
         key = self.root.create("A")
-        watch = key.notify(zugmeled.CHANGE_SECURITY)
+        watch = key.notify(zugmeled.FILTER_SECURITY)
         self.root.delete("A")
         self.assertEqual([notice[::2] for notice in self.hive.notices()], [(watch, zugmeled.GONE)])
         other = self.root.create("B")

@@ -531,16 +531,16 @@ class NoticeTest(LibraryTest):
 
     def test_take_notice(self):
         below, _disposition = self.create(b"Below")
-        near = self.notify(self.root, c.CHANGE_LAST_SET, False)
-        far = self.notify(self.root, c.CHANGE_LAST_SET, True)
-        gone = self.notify(below, c.CHANGE_LAST_SET, False)
+        near = self.notify(self.root, c.FILTER_LAST_SET, False)
+        far = self.notify(self.root, c.FILTER_LAST_SET, True)
+        gone = self.notify(below, c.FILTER_LAST_SET, False)
         self.assertEqual(self.take(), (c.NO_MORE_ITEMS, 0, 0, 0))
         # A value below hits what watches the subtree and the key itself, in the order of the watches.
         entry = self.entries()[0]
         self.set(below, b"Name", b"data")
         self.assertEqual(self.take(), (0, far, entry, c.MATCHED))
         self.assertEqual(self.take(), (0, gone, entry, c.MATCHED))
-        gone = self.notify(below, c.CHANGE_LAST_SET, False)
+        gone = self.notify(below, c.FILTER_LAST_SET, False)
         self.change("zug_delete_key", self.root, *sized(b"Below"))
         self.assertEqual(self.take(), (0, gone, gone + 1, c.GONE))
         self.change("zug_close", self.root)

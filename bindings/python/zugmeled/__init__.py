@@ -1,4 +1,4 @@
-"""Hive files of the Windows registry, opened, read, changed and saved on any system.
+"""Hive files of the Windows registry, opened, read, changed and saved on Unix.
 
     from zugmeled import Hive
 
@@ -14,15 +14,16 @@ from ._errors import Denied, Error, Exists, InUse, NotFound
 from ._hive import EMPTY_SECURITY, Hive, Key, KeyInfo, Notice, now
 from ._library import (
     ALL_ACCESS,
-    CHANGE_ATTRIBUTES,
-    CHANGE_LAST_SET,
-    CHANGE_NAME,
-    CHANGE_SECURITY,
     CLOSED,
     CREATE_LINK,
     CREATE_SUB_KEY,
     DELETE,
     ENUMERATE_SUB_KEYS,
+    FILTER_ATTRIBUTES,
+    FILTER_LAST_SET,
+    FILTER_NAME,
+    FILTER_SECURITY,
+    FILTER_THREAD_AGNOSTIC,
     GONE,
     MATCHED,
     NOTIFY,
@@ -54,10 +55,6 @@ __version__ = "1.0.0"
 
 __all__ = [
     "ALL_ACCESS",
-    "CHANGE_ATTRIBUTES",
-    "CHANGE_LAST_SET",
-    "CHANGE_NAME",
-    "CHANGE_SECURITY",
     "CLOSED",
     "CREATE_LINK",
     "CREATE_SUB_KEY",
@@ -67,6 +64,11 @@ __all__ = [
     "ENUMERATE_SUB_KEYS",
     "Error",
     "Exists",
+    "FILTER_ATTRIBUTES",
+    "FILTER_LAST_SET",
+    "FILTER_NAME",
+    "FILTER_SECURITY",
+    "FILTER_THREAD_AGNOSTIC",
     "from_data",
     "GONE",
     "Hive",

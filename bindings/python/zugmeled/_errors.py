@@ -24,6 +24,7 @@ _WORDS = {
     SHARING_VIOLATION: "somebody else edits the file, or just saved it",
     BAD_NETWORK_PATH: "the network path was not found",
     c.INVALID_PARAMETER: "a parameter is invalid",
+    c.INSUFFICIENT_BUFFER: "the room is too short",
     BAD_PATH: "the path is invalid",
     c.BUSY: "keys are open",
     c.ALREADY_EXISTS: "it exists already",

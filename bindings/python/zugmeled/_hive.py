@@ -381,14 +381,14 @@ class Key:
         key = Key(self.hive, self._joined(path), mask)
         arguments = (text, len(text), mask, security, len(security), opened, disposition)
         self.hive._open_key(key, opened, c.library.zug_create_key, self, *arguments)
-        if disposition.value == 1:
+        if disposition.value == c.CREATED:
             self.hive._changed = True
         return key
 
     def subkeys(self) -> List[str]:
         """The names of the subkeys, in their order."""
         names: List[str] = []
-        room = create_string_buffer(c.LONGEST_KEY_NAME)
+        room = create_string_buffer(c.KEY_NAME_LIMIT)
         size, written = c_uint32(), c_uint64()
         while True:
             status = self.hive._ask(c.library.zug_enum_key, self, len(names), room, len(room), size, written)
@@ -399,7 +399,7 @@ class Key:
 
     def subkey_at(self, index: int) -> Tuple[str, int]:
         """The name of the subkey at an index, and when it was last written. An Error with winerror 259 past the last."""
-        room = create_string_buffer(c.LONGEST_KEY_NAME)
+        room = create_string_buffer(c.KEY_NAME_LIMIT)
         size, written = c_uint32(), c_uint64()
         _told(self.hive._ask(c.library.zug_enum_key, self, index, room, len(room), size, written))
         return _decoded(room, size.value), written.value
@@ -496,8 +496,8 @@ class Key:
         self.hive._change(c.library.zug_set_security, self, descriptor, len(descriptor))
         self.hive._changed = True
 
-    def notify(self, kinds: int = c.CHANGE_NAME | c.CHANGE_LAST_SET, subtree: bool = False) -> int:
-        """Asks for one notice of the next change of some kinds (CHANGE_NAME, ..), with `subtree` also of keys below this one.
+    def notify(self, kinds: int = c.FILTER_NAME | c.FILTER_LAST_SET, subtree: bool = False) -> int:
+        """Asks for one notice of the next change of some kinds (FILTER_NAME, ..), with `subtree` also of keys below this one.
 
         The number that is told names the watch in `hive.notices()`. The watch ends with the key, too: it has to stay open.
         """
@@ -606,7 +606,7 @@ class _ValueRoom:
             if status != c.MORE_DATA:
                 return status
             # Which of the two is too short isn't told, nor the name's size.
-            self._name = create_string_buffer(c.LONGEST_VALUE_NAME)
+            self._name = create_string_buffer(c.VALUE_NAME_LIMIT)
             self._data = create_string_buffer(max(self._size.value, len(self._data)))
 
     def told(self) -> Tuple[str, int, bytes]:

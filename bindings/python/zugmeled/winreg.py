@@ -1,4 +1,4 @@
-"""The standard module winreg on any system, over hive files.
+"""The standard module winreg on Unix, over hive files.
 
     from zugmeled import winreg
 

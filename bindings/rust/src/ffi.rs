@@ -36,6 +36,46 @@ pub const WRITE_DAC: u32 = 0x4_0000;
 pub const WRITE_OWNER: u32 = 0x8_0000;
 pub const ALL_ACCESS: u32 = 0xF_003F;
 
+// Types of values.
+pub const NONE: u32 = 0;
+pub const SZ: u32 = 1;
+pub const EXPAND_SZ: u32 = 2;
+pub const BINARY: u32 = 3;
+pub const DWORD: u32 = 4;
+pub const DWORD_BIG_ENDIAN: u32 = 5;
+pub const LINK: u32 = 6;
+pub const MULTI_SZ: u32 = 7;
+pub const RESOURCE_LIST: u32 = 8;
+pub const FULL_RESOURCE_DESCRIPTOR: u32 = 9;
+pub const RESOURCE_REQUIREMENTS_LIST: u32 = 10;
+pub const QWORD: u32 = 11;
+
+// Limits.
+pub const KEY_NAME_LIMIT: u32 = 255;
+pub const VALUE_NAME_LIMIT: u32 = 16_383;
+pub const PATH_LIMIT: u32 = 512;
+pub const DATA_LIMIT: u32 = 1_048_576;
+pub const DESCRIPTOR_LIMIT: u32 = 65_535;
+pub const SESSIONS_LIMIT: u32 = 64;
+pub const MADE_LIMIT: u32 = 32;
+pub const SUBKEYS_LIMIT: u32 = 60_000;
+pub const VALUES_LIMIT: u32 = 16_384;
+pub const HANDLES_LIMIT: u32 = 16_384;
+pub const WATCHES_LIMIT: u32 = 4_096;
+pub const JOURNAL_LIMIT: u32 = 16_777_216;
+pub const BINS_LIMIT: u32 = 268_435_456;
+
+// What `zug_create_key` did.
+pub const CREATED: u32 = 1;
+pub const OPENED: u32 = 2;
+
+// Kinds of changes.
+pub const FILTER_NAME: u32 = 0x1;
+pub const FILTER_ATTRIBUTES: u32 = 0x2;
+pub const FILTER_LAST_SET: u32 = 0x4;
+pub const FILTER_SECURITY: u32 = 0x8;
+pub const FILTER_THREAD_AGNOSTIC: u32 = 0x1000_0000;
+
 // Why a notice came.
 pub const MATCHED: u32 = 1;
 pub const GONE: u32 = 2;

@@ -57,15 +57,15 @@ pub struct Filter(pub u32);
 
 impl Filter {
     /// A subkey is made or deleted.
-    pub const NAME: Filter = Filter(1);
+    pub const NAME: Filter = Filter(ffi::FILTER_NAME);
     /// The security descriptor is set.
-    pub const ATTRIBUTES: Filter = Filter(2);
+    pub const ATTRIBUTES: Filter = Filter(ffi::FILTER_ATTRIBUTES);
     /// A value is set or deleted.
-    pub const LAST_SET: Filter = Filter(4);
+    pub const LAST_SET: Filter = Filter(ffi::FILTER_LAST_SET);
     /// The security descriptor is set.
-    pub const SECURITY: Filter = Filter(8);
+    pub const SECURITY: Filter = Filter(ffi::FILTER_SECURITY);
     /// That the thread may end. It changes nothing, since no watch ends with a thread.
-    pub const THREAD_AGNOSTIC: Filter = Filter(0x1000_0000);
+    pub const THREAD_AGNOSTIC: Filter = Filter(ffi::FILTER_THREAD_AGNOSTIC);
 }
 
 impl BitOr for Filter {

@@ -17,8 +17,6 @@ pub const EMPTY_SECURITY: [u8; 20] = [
     1, 0, 4, 0x80, 0, 0, 0, 0, 0, 0, 0, 0, 0, 0, 0, 0, 0, 0, 0, 0,
 ];
 
-const SESSIONS: u8 = 64;
-
 /// How much of an image is written at once, in bytes.
 const PART: u64 = 1 << 20;
 
@@ -126,7 +124,7 @@ impl Hive {
     /// # Errors
     /// [`Status::INVALID_PARAMETER`] where the number is 64 or above.
     pub fn session(&self, number: u8) -> Result<Session<'_>> {
-        if number < SESSIONS {
+        if u32::from(number) < ffi::SESSIONS_LIMIT {
             Ok(Session { hive: self, number })
         } else {
             Err(Status::INVALID_PARAMETER.into())

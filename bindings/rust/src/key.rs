@@ -10,14 +10,8 @@ use crate::value::{Kind, Value};
 use std::fmt;
 use std::iter::FusedIterator;
 
-const LONGEST_KEY_NAME: usize = 255;
-const LONGEST_VALUE_NAME: u64 = 16_383;
-
 /// How many bytes a question is asked with first. More are given where they aren't enough.
 const FIRST_ROOM: usize = 1024;
-
-/// The disposition of a key that was there.
-const OPENED_EXISTING: u32 = 2;
 
 /// A key that is open, with the rights that it was opened with. It is closed when it is dropped.
 ///
@@ -88,7 +82,7 @@ impl<'hive> Key<'hive> {
         let key = Key::of(self.hive, handle);
         Ok(Created {
             key,
-            is_new: disposition != OPENED_EXISTING,
+            is_new: disposition == ffi::CREATED,
         })
     }
 
@@ -296,7 +290,7 @@ impl<'hive> Key<'hive> {
 
     /// `None` where no subkey has the index.
     fn subkey_at(&self, index: u32) -> Result<Option<SubKey>> {
-        let mut room = [0; LONGEST_KEY_NAME];
+        let mut room = [0; ffi::KEY_NAME_LIMIT as usize];
         let found = self.words().enum_key(self.handle, index, &mut room);
         let found = unless_past(found)?;
         Ok(found.map(|(size, time)| SubKey {
@@ -476,7 +470,7 @@ impl Values<'_, '_> {
         // The library tells neither which room is too short nor the name's size. So each name
         // finds place.
         if self.name_room.is_empty() {
-            self.name_room = zeros(LONGEST_VALUE_NAME)?;
+            self.name_room = zeros(ffi::VALUE_NAME_LIMIT.into())?;
         }
         self.key.value_at(index, &mut self.name_room)
     }

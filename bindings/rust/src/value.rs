@@ -1,6 +1,7 @@
 //! Values, and what their data is as objects of Rust.
 
 use crate::error::{Error, Result, Status};
+use crate::ffi;
 use std::fmt;
 
 /// A value's type: any number. Those that have a meaning have a name here.
@@ -9,29 +10,29 @@ pub struct Kind(pub u32);
 
 impl Kind {
     /// Data without a type.
-    pub const NONE: Kind = Kind(0);
+    pub const NONE: Kind = Kind(ffi::NONE);
     /// A text.
-    pub const SZ: Kind = Kind(1);
+    pub const SZ: Kind = Kind(ffi::SZ);
     /// A text with names of environment variables in it.
-    pub const EXPAND_SZ: Kind = Kind(2);
+    pub const EXPAND_SZ: Kind = Kind(ffi::EXPAND_SZ);
     /// Bytes.
-    pub const BINARY: Kind = Kind(3);
+    pub const BINARY: Kind = Kind(ffi::BINARY);
     /// A number of 32 bits, its lowest byte first.
-    pub const DWORD: Kind = Kind(4);
+    pub const DWORD: Kind = Kind(ffi::DWORD);
     /// A number of 32 bits, its highest byte first.
-    pub const DWORD_BIG_ENDIAN: Kind = Kind(5);
+    pub const DWORD_BIG_ENDIAN: Kind = Kind(ffi::DWORD_BIG_ENDIAN);
     /// The path of another key, as a text without an end.
-    pub const LINK: Kind = Kind(6);
+    pub const LINK: Kind = Kind(ffi::LINK);
     /// Texts.
-    pub const MULTI_SZ: Kind = Kind(7);
+    pub const MULTI_SZ: Kind = Kind(ffi::MULTI_SZ);
     /// A driver's resources.
-    pub const RESOURCE_LIST: Kind = Kind(8);
+    pub const RESOURCE_LIST: Kind = Kind(ffi::RESOURCE_LIST);
     /// A device's resources.
-    pub const FULL_RESOURCE_DESCRIPTOR: Kind = Kind(9);
+    pub const FULL_RESOURCE_DESCRIPTOR: Kind = Kind(ffi::FULL_RESOURCE_DESCRIPTOR);
     /// What resources a driver may be given.
-    pub const RESOURCE_REQUIREMENTS_LIST: Kind = Kind(10);
+    pub const RESOURCE_REQUIREMENTS_LIST: Kind = Kind(ffi::RESOURCE_REQUIREMENTS_LIST);
     /// A number of 64 bits, its lowest byte first.
-    pub const QWORD: Kind = Kind(11);
+    pub const QWORD: Kind = Kind(ffi::QWORD);
 
     fn name(self) -> Option<&'static str> {
         const NAMES: [&str; 12] = [

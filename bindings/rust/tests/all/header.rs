@@ -2,14 +2,12 @@
 
 use std::fs;
 use std::path::PathBuf;
+use zugmeled::Status;
 
 #[test]
 fn functions_have_the_types_of_the_header() {
     let declared = statements(&source("src/ffi.rs"), "fn zug_");
-    let told = statements(
-        &without_comments(&source("../../include/zugmeled.h")),
-        "zug_",
-    );
+    let told = statements(&declarations(&source("../../include/zugmeled.h")), "zug_");
     let told: Vec<String> = told
         .iter()
         .filter(|it| it.contains('('))
@@ -24,7 +22,7 @@ fn constants_have_the_numbers_of_the_header() {
     let header = source("../../include/zugmeled.h");
     let declared = source("src/ffi.rs").replace('_', "");
     let told: Vec<(&str, u64)> = header.lines().filter_map(constant).collect();
-    assert!(told.len() > 35);
+    assert!(told.len() > 70);
     for (name, number) in told {
         let name = name.replace('_', "");
         let lines = [
@@ -35,6 +33,23 @@ fn constants_have_the_numbers_of_the_header() {
             lines.iter().any(|line| declared.contains(line)),
             "{name} is {number}"
         );
+    }
+}
+
+#[test]
+fn statuses_of_the_header_have_words() {
+    let header = source("../../include/zugmeled.h");
+    let told = between(&header, "/* Statuses. */", "/* Rights");
+    let numbers: Vec<u64> = told
+        .lines()
+        .filter_map(constant)
+        .map(|(_, number)| number)
+        .filter(|&number| number != 0)
+        .collect();
+    assert_eq!(numbers.len(), 13);
+    for number in numbers {
+        let words = Status(number as u32).to_string();
+        assert!(!words.starts_with("the call was refused"), "{words}");
     }
 }
 
@@ -70,6 +85,13 @@ fn without_comments(text: &str) -> String {
     let mut parts = text.split("/*");
     let first = parts.next().unwrap_or_default().to_string();
     parts.fold(first, |code, part| code + part.split_once("*/").unwrap().1)
+}
+
+/// The declarations alone: no comments, and no lines of the preprocessor.
+fn declarations(text: &str) -> String {
+    let code = without_comments(text);
+    let lines: Vec<&str> = code.lines().filter(|line| !line.starts_with('#')).collect();
+    lines.join("\n")
 }
 
 /// The statements of a text that have a word, in the form `name(parameter, ..) -> result`, with one
