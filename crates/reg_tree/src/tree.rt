@@ -1,4 +1,4 @@
-ghost use Rattle.std.specs.Prelude.{true, false, ◌≡◌, ◌↔◌, ◌⊎◌, ◌≢◌, ◌≤◌, ◌<◌, ◌+◌, ◌%◌, ◌++◌, ℕ, List, [], length, Err, Some, None, OnOk, OnErr, IfOk, IfErr};
+ghost use Rattle.std.specs.Prelude.{true, false, ◌≡◌, ◌↔◌, ◌⊎◌, ◌≢◌, ◌≤◌, ◌<◌, ◌+◌, ◌%◌, ◌++◌, ℕ, List, [], length, drop, Err, Some, None, OnOk, OnErr, IfOk, IfErr};
 ghost use Rattle.std.specs.Prelude.{IsSome, IfSome, MatchOption, max, slice_get, get_or, option_map};
 ghost use Rattle.std.specs.List.{fold};
 ghost use Rattle.std.specs.FinMap.{insert, empty, get};
@@ -336,6 +336,19 @@ impl Tree {
             OnErr result ((member : Member) → slice_get (values_at self.now.tree p) index ≡ Some member → member.bytes ≢ []) }
     {
         values::bytes(alloc, &self.arena, node.offset, index)
+    }
+
+    /// Copies the bytes of a key's value at an index, counted from 0, over the front of a room that has place for them. The rest
+    /// of the room stays as it was. It takes no memory.
+    pub fn fill_value(&self, node: Node, index: u32, room: &mut [u8])
+        requires value { (p : Path) × IsAt self.now p node × (index < length (values_at self.now.tree p)) }
+        requires room { (p : Path) → IsAt self.now p node → (member : Member) →
+            slice_get (values_at self.now.tree p) index ≡ Some member → length member.bytes ≤ length room.old }
+        ensures { (p : Path) → IsAt self.now p node →
+            (member : Member) × (slice_get (values_at self.now.tree p) index ≡ Some member)
+            × (room.new ≡ member.bytes ++ drop (length member.bytes) room.old) }
+    {
+        values::fill(&self.arena, node.offset, index, room)
     }
 
     /// Sets a value of a key, and the key's time. A name that is there keeps its place and its first spelling; a new one goes to

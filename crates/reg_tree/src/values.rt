@@ -1,5 +1,5 @@
 //! A key's values, in its cells.
-ghost use Rattle.std.specs.Prelude.{true, false, ◌≡◌, ◌↔◌, ◌⊎◌, ◌≤◌, ◌<◌, ◌+◌, ◌≢◌, ℕ, List, [], length, Err, Some, None, OnOk, OnErr, IfOk, IfErr};
+ghost use Rattle.std.specs.Prelude.{true, false, ◌≡◌, ◌↔◌, ◌⊎◌, ◌≤◌, ◌<◌, ◌+◌, ◌++◌, ◌≢◌, ℕ, List, [], length, drop, Err, Some, None, OnOk, OnErr, IfOk, IfErr};
 ghost use Rattle.std.specs.Prelude.{MatchOption, IfSome, max, slice_get};
 ghost use Rattle.std.specs.List.{fold};
 ghost use Rattle.reg_names.specs.declared.TheConstants.{VALUE_NAME_LIMIT};
@@ -73,6 +73,20 @@ pub fn bytes(alloc: Global, arena: &Arena, key: u32, index: u32) -> Result<Vec<u
         member.bytes ≢ []) }
 {
     reg_values::bytes_of(alloc, arena, values_list(arena, key), index)
+}
+
+/// Copies the data of a key's value at an index, counted from 0, over the front of a room that has place for it. The rest of the room
+/// stays as it was. It takes no memory.
+pub fn fill(arena: &Arena, key: u32, index: u32, room: &mut [u8])
+    requires value { (t : IsHere arena.now.bytes key) × (index < length (values_at (tree_in arena.now.bytes t.root) t.path)) }
+    requires room { (t : IsHere arena.now.bytes key) ×
+        ((member : Member) → slice_get (values_at (tree_in arena.now.bytes t.root) t.path) index ≡ Some member →
+        length member.bytes ≤ length room.old) }
+    ensures { (t : IsHere arena.now.bytes key) → (member : Member)
+        × (slice_get (values_at (tree_in arena.now.bytes t.root) t.path) index ≡ Some member)
+        × (room.new ≡ member.bytes ++ drop (length member.bytes) room.old) }
+{
+    reg_values::fill_bytes(arena, values_list(arena, key), index, room);
 }
 
 /// A key's value at an index, counted from 0, without its data; `None` where there are not so many.
