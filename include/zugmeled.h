@@ -15,8 +15,8 @@
  * memory was refused: for a copy of what was given, before all else, or in place of a success that needed some. No call ends the process.
  *
  * What goes out. A call that answers another status than 0 changes nothing of the hive, sets each number that it hands out to 0, and leaves
- * each room, a buffer of yours, as it was. Only 234 and 122 tell a size, and 234 a type. With 0 a room has the answer at its front; what is
- * behind that stays as it was. Ask the status, not the handle: 0 is a handle's number too.
+ * each room, a buffer of yours, as it was. Only 234 and 122 tell a size, and 234 a type, or the first row of several. With 0 a room has the
+ * answer at its front; what is behind that stays as it was. Ask the status, not the handle: 0 is a handle's number too.
  *
  * Units. A moment is in units of 100 ns since 1601, in UTC: now it is (uint64_t)(time(NULL) + 11644473600) * 10000000. It becomes the last
  * write time of the keys that a call changes, and need not rise. Sizes, lengths, rooms and offsets are in bytes.
@@ -303,17 +303,18 @@ typedef struct zug_value {
 
 /* The key itself, with its name in the room.
  * 234: the room is too short for the name; the key is told all the same. */
-uint32_t zug_key_at(zug_hive *hive, const uint8_t *path, size_t path_length, zug_subkey *key, uint8_t *name_room, size_t name_room_length);
+uint32_t zug_key_at(zug_hive *hive, const uint8_t *path, size_t path_length, zug_subkey *key,
+                    uint8_t *name_room, size_t name_room_length);
 
-/* The subkeys from an index on, in the order of names, as many as have place: `count` of them, and of each a zug_subkey, and its name in the
- * room behind those before. Where `count` is all there were, there are no more; else go on from the index behind them.
- * 234: not one has place. 259: no subkey has the index. */
+/* The subkeys from an index on, in the order of names, as many as have place: `count` of them. Of each there is a zug_subkey, and its name in
+ * the room, right behind the one before. Go on from the index behind them, until 259.
+ * 234: not one has place; where there is a zug_subkey, it tells of the first all the same. 259: no subkey has the index. */
 uint32_t zug_subkeys_at(zug_hive *hive, const uint8_t *path, size_t path_length, uint32_t index,
                         zug_subkey *subkeys, size_t subkeys_length, uint8_t *name_room, size_t name_room_length, uint32_t *count);
 
-/* The values from an index on, in the order in which names were added, as many as have place: `count` of them, and of each a zug_value, and its
- * name and behind that its data in the room, behind those before.
- * 234: not one has place. 259: no value has the index. */
+/* The values from an index on, in the order in which names were added, as many as have place: `count` of them. Of each there is a zug_value,
+ * and its name and then its data in the room, right behind the one before. Go on from the index behind them, until 259.
+ * 234: not one has place; where there is a zug_value, it tells of the first all the same. 259: no value has the index. */
 uint32_t zug_values_at(zug_hive *hive, const uint8_t *path, size_t path_length, uint32_t index,
                        zug_value *values, size_t values_length, uint8_t *room, size_t room_length, uint32_t *count);
 

@@ -36,8 +36,10 @@ def refuse_stale():
 
 
 @contextmanager
-def put():
-    """A folder with the library and its header, as they were built."""
+def put(behind_the_gate=False):
+    """A folder with the library and its header, as they were built, or, behind the gate, as they are built now of what it left."""
+    if behind_the_gate:
+        library.build_over_the_gate()
     refuse_stale()
     with tempfile.TemporaryDirectory(prefix="from-c-") as folder:
         library.put(folder)

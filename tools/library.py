@@ -6,7 +6,7 @@ import subprocess
 import tempfile
 
 from building import build
-from repository import TOP, Untried, folder_of
+from repository import TOP, Untried, below, crates, folder_of
 
 NAME = "zugmeled"
 DIST = f"{TOP}/dist"
@@ -35,9 +35,32 @@ def archive():
     return f"{folder_of(NAME)}/out/lib{NAME}.a"
 
 
+def kit():
+    """The folder of the kit."""
+    if not shutil.which("rt"):
+        raise Untried("rt isn't on the path")
+    return os.path.dirname(os.path.dirname(os.path.realpath(shutil.which("rt"))))
+
+
 def heap_of_kit():
     """The archive by which the library calls malloc, realloc and free."""
-    return f"{os.path.dirname(os.path.dirname(os.path.realpath(shutil.which('rt'))))}/c/liblibc_c.a"
+    return f"{kit()}/c/liblibc_c.a"
+
+
+def build_over_the_gate():
+    """Proves and builds the static library over the libraries that `rt ci` built, as they stand. `rt lib` would build each of them anew, since
+    the gate, which only proves this one, leaves nothing by which that knows what they were built of."""
+    libraries = {it: f"{folder_of(it)}/out/rlib" for it in below([NAME])}
+    missing = [it for it, at in libraries.items() if not os.path.isdir(f"{at}/{it}.rlib")]
+    if missing:
+        raise Untried(f"the gate built no {', '.join(missing)}")
+    names = [f"--extern={it}={libraries[it]}/{it}.rlib" for it in crates()[NAME]]
+    rest = [word for at in libraries.values() for word in ("-L", f"dependency={at}")]
+    of_kit = [f"--extern=std={kit()}/rlibs/std.rlib", "-L", f"dependency={kit()}/rlibs", "--antt-project", f"{kit()}/rattle/logic/antt-project.json",
+              "--logic-built", f"{kit()}/logic_built", "--toolchain", f"{kit()}/toolchain"]
+    words = ["--crate-name", NAME, "--crate-type", "staticlib", "src/lib.rt", *of_kit, *names, *rest, "-o", archive()]
+    os.makedirs(os.path.dirname(archive()), exist_ok=True)
+    run(f"{kit()}/bin/rattle", "build", *words, folder=folder_of(NAME))
 
 
 def put_archive(to):

@@ -7,11 +7,13 @@
 //! which each call takes out and puts back.
 //!
 //! One rule for all that goes out: a call that answers another status than 0 sets each number that it hands out to 0, but for the size and
-//! the type that 234 and 122 tell, and leaves each room as it was. A room that is longer than what is told keeps the rest as it was.
+//! the type that 234 and 122 tell and for the first row of several, and leaves each room as it was. A room that is longer than what is told
+//! keeps the rest as it was.
 //!
-//! `lives` makes, loads (from an `input`) and closes a hive, `journals` counts and cuts its entries, `images` hands out its image. `changes` and `questions`
-//! are the calls of the rules, which `calls` answers; `makers` copies what a change or a question needs, `told` writes an answer to the
-//! caller's rooms. `lists` steps through keys by their paths, without handles. `notices` hands out notices, `causes` tells the refusal that a change would meet.
+//! `lives` makes, loads (from an `input`) and closes a hive, `journals` counts and cuts its entries, `images` hands out its image. `changes`
+//! and `questions` are the calls of the rules, which `calls` answers; `makers` copies what a change or a question needs, `told` writes an
+//! answer to the caller's rooms. `lists` tells keys by their paths, with no handle and no copy between. `notices` hands out notices, `causes`
+//! tells the refusal that a change would meet.
 #![tactic(auto)]
 
 mod calls;
