@@ -19,7 +19,8 @@
  * answer at its front; what is behind that stays as it was. Ask the status, not the handle: 0 is a handle's number too.
  *
  * Units. A moment is in units of 100 ns since 1601, in UTC: now it is (uint64_t)(time(NULL) + 11644473600) * 10000000. It becomes the last
- * write time of the keys that a call changes, and need not rise. Sizes, lengths, rooms and offsets are in bytes.
+ * write time of the keys that a call changes, and need not rise. Sizes, lengths, rooms and offsets are in bytes, but for the lengths of arrays
+ * of zug_subkey and zug_value, which count these.
  *
  * Names. A key's name has 1 to 255 bytes, a value's 0 to 16,383; each byte is 0x01 to 0x7F, and in a key's name no backslash. A path is up
  * to 512 names of keys, joined by a backslash; the empty path is the handle's own key. Case is kept, and makes no difference. No text is
@@ -162,7 +163,8 @@ uint32_t zug_image_size(zug_hive *hive, uint64_t *size, uint64_t *entries);
 
 /* Fills a room with the bytes of the hive's image from an offset on. What of the room reaches behind the image's end stays as it was.
  * `moment` and `sequence` stand in the image's base block; the second is best one more than that of the file before, 32 bits at its byte 4.
- * `entries` is what zug_image_size told: parts of one image are of one state. It takes no memory.
+ * `entries` is what zug_image_size told: parts of one hive's image are of one state. It takes no
+ * memory.
  * 6. 87: the hive has had another number of entries by now. */
 uint32_t zug_image_part(zug_hive *hive, uint64_t moment, uint32_t sequence, uint64_t entries, uint64_t offset,
                         uint8_t *room, size_t room_length);

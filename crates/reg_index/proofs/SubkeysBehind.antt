@@ -5,10 +5,18 @@ use Rattle.reg_records.specs.SubkeyLists.{Entry}
 use Rattle.reg_shape.specs.Nodes.{lists_of}
 use Rattle.reg_index.specs.declared.Place.{Place}
 use Rattle.reg_index.specs.Internal.IndexLists.{StandsAmong}
-use Rattle.reg_index.specs.Subkeys.{AreSubkeys, StandsIn, entries_in, flat, index_of, numbered}
+use Rattle.reg_index.specs.Subkeys.{AreSubkeys, StandsIn, entries_in, flat, flat_among, flat_in, index_of, numbered}
 use Rattle.reg_index.proofs.FoundPlaces.{flat-read}
 use Rattle.reg_index.proofs.ListPlaces.{before-all, before-next, before-within, entries_before, list-stands}
 use Rattle.reg_index.proofs.SubkeysOpening.{index-is, lists-has, subkey-at}
+
+-- where the subkey of an index stands
+pub place-is : (heap : Heap) (count offset : ℕ) (entries : List Entry) (s : AreSubkeys heap count offset entries) (place : Place) (index : ℕ) →
+    StandsAmong (lists_of s.index) place → flat_among (lists_of s.index) place ≡ index →
+    StandsIn (index_of heap count offset) place × (flat heap count offset place ≡ index)
+place-is heap count offset entries s place index stands is =
+    let read = sym (index-is heap count offset s.index s.read) in
+    (subst (λ i. StandsIn i place) read stands, subst (λ i. flat_in i place ≡ index) read is)
 
 module _ (heap : Heap) (count offset : ℕ) (place : Place) (stands : StandsIn (index_of heap count offset) place) (entries : List Entry) (s : AreSubkeys heap count offset entries) where
   pub place-stands : StandsAmong (lists_of s.index) place

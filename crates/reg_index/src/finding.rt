@@ -196,6 +196,16 @@ pub fn at(arena: &Arena, list: SubkeysIndex, index: u32) -> u32
     offset_in(row, place.index)
 }
 
+/// The place of the subkey at an index, counted from 0 in the order of folded names. Of each list before it reads one word.
+pub fn place_at(arena: &Arena, list: SubkeysIndex, index: u32) -> Place
+    requires subkeys { (entries : List Entry) × AreSubkeys (heap_of arena.now) list.count list.offset entries }
+    requires index { index < list.count }
+    ensures { StandsIn (index_of (heap_of arena.now) list.count list.offset) result
+        × (flat (heap_of arena.now) list.count list.offset result ≡ index) }
+{
+    place_of(arena, list.offset, index)
+}
+
 /// The offset of the key at a place.
 pub fn at_place(arena: &Arena, list: SubkeysIndex, place: Place) -> u32
     requires subkeys { (entries : List Entry) × AreSubkeys (heap_of arena.now) list.count list.offset entries }

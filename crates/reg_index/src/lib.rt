@@ -29,7 +29,9 @@ mod removing;
 mod root;
 mod splitting;
 
-pub use finding::{at, at_place, behind, find, find_key, key_behind, longest_name, place_behind};
+pub use finding::{
+    at, at_place, behind, find, find_key, key_behind, longest_name, place_at, place_behind,
+};
 pub use inserting::insert;
 pub use lengthening::{lengthen, plan_longer};
 pub use plan::{FIRST_HALF, FIRST_LIST_SIZE, SECOND_HALF, plan_insert};

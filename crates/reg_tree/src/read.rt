@@ -16,7 +16,7 @@ ghost use Rattle.reg_tree.specs.Internal.ReachedPlaces.{IsPlaceAt, IsPlaceOf, Is
 use crate::key::{fields, subkeys_list};
 use crate::{Node, Place, Subkey};
 use reg_arena::Arena;
-use reg_index::{SubkeysIndex, at, at_place, behind, key_behind, len, longest_name};
+use reg_index::{SubkeysIndex, at, at_place, behind, key_behind, len, longest_name, place_at};
 use reg_records::nk_name;
 use reg_security::descriptor as descriptor_in;
 
@@ -141,6 +141,21 @@ fn subkey_at(arena: &Arena, node: Node, list: SubkeysIndex, place: Place) -> Sub
         },
         place,
     }
+}
+
+/// The key at an index among those right below a key, in the order of their folded names, with its place, if there are so many.
+pub fn subkey_from(arena: &Arena, node: Node, index: u32) -> Option<Subkey>
+    requires here { IsHere arena.now.bytes node.offset }
+    requires depth { node.depth ≤ PATH_LIMIT }
+    ensures { (t : IsHere arena.now.bytes node.offset) →
+        IsPlacedSubkey (heap_of arena.now) t.root t.path
+        (children_of (tree_in arena.now.bytes t.root) t.path) node index result }
+{
+    let list = subkeys_list(arena, node.offset);
+    if index >= len(list) {
+        return None;
+    }
+    Some(subkey_at(arena, node, list, place_at(arena, list, index)))
 }
 
 /// The first of the keys right below a key, in the order of their folded names, if there is one.

@@ -253,6 +253,16 @@ impl Tree {
         read::first_subkey(&self.arena, node)
     }
 
+    /// The key at an index among those right below a key, counted from 0 in the order of their folded names, from which a walk goes on;
+    /// `None` where there are not so many.
+    pub fn subkey_from(&self, node: Node, index: u32) -> Option<Subkey>
+        requires { IsThere self.now node }
+        ensures { (p : Path) → IsAt self.now p node →
+            MatchOption result (length (children_of self.now.tree p) ≤ index) (λ subkey. IsSubkeyAt self.now p node index subkey) }
+    {
+        read::subkey_from(&self.arena, node, index)
+    }
+
     /// The key behind one among those right below a key, in the order of their folded names; `None` where that one is the last.
     /// However many there are, it takes as long, so a walk from the first on goes once over them; `subkey` looks for each anew.
     pub fn next_subkey(&self, node: Node, subkey: Subkey) -> Option<Subkey>

@@ -89,20 +89,20 @@ fn tell_subkeys(tree: &Tree, node: Node, index: u32, rows: &mut [ZugSubkey], roo
         AreMost (key_name tree.now.tree) (subkeys_from index tree.now.tree p) result rows.old room.old }
 {
     let left = tree.subkeys(node).saturating_sub(index);
+    let mut next = tree.subkey_from(node, index);
     let mut count = 0;
     let mut used = 0;
     while count < left && (count as usize) < rows.len() {
-        let Some(child) = tree.subkey(node, index + count) else {
-            unreachable!()
-        };
-        let name = tree.name(child);
+        let Some(subkey) = next else { unreachable!() };
+        let name = tree.name(subkey.node);
         if name.len() > room.len() - used {
             return count;
         }
         fill_at(room, used, name);
-        rows[count as usize] = subkey_row(tree, child);
+        rows[count as usize] = subkey_row(tree, subkey.node);
         used += name.len();
         count += 1;
+        next = tree.next_subkey(node, subkey);
     }
     count
 }

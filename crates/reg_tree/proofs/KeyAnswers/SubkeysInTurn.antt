@@ -42,6 +42,9 @@ module _ (bytes : List ℕ) (key : ℕ) (t : IsHere bytes key) (count list : ℕ
     index_is = sym (index-is bytes key t count list has place) ∙ is;
   }
 
+  pub placed_at : (place : Place) (index : ℕ) → StandsIn (index_of h count list) place × (flat h count list place ≡ index) → IsPlaceAt h key index place
+  placed_at place index is = place_of_key place index is.0 is.1
+
   pub placed_first : (count ≡ 0 → ⊥) → IsPlaceAt h key 0 first_place
   placed_first some = let f = first-for h count list _ (subkeys bytes key t count list has) some in place_of_key first_place 0 f.stands f.flat_is
 
@@ -76,7 +79,7 @@ module _ (bins : Bins) (root : ℕ) {table : DescriptorCells} (holds : TreeInvar
   pub place_there : (index : ℕ) (subkey : Subkey) → IsSubkeyAt now p node index subkey → IsPlaceOf (heap_of bins) node.offset subkey.place
   place_there index subkey s = (place_seen index subkey s).stands
 
-  seen : (index : ℕ) (result : Option Subkey) →
+  pub seen : (index : ℕ) (result : Option Subkey) →
       IsPlacedSubkey (heap_of bins) root p (children_of (tree_in bins.bytes root) p) node index result →
       MatchOption result (length (children_of now.tree p) ≤ index) (λ subkey. IsSubkeyAt now p node index subkey)
   seen index None s = subst (λ (k : Keys). length (children_of k.tree p) ≤ index) view_is s
