@@ -163,8 +163,7 @@ uint32_t zug_image_size(zug_hive *hive, uint64_t *size, uint64_t *entries);
 
 /* Fills a room with the bytes of the hive's image from an offset on. What of the room reaches behind the image's end stays as it was.
  * `moment` and `sequence` stand in the image's base block; the second is best one more than that of the file before, 32 bits at its byte 4.
- * `entries` is what zug_image_size told: parts of one hive's image are of one state. It takes no
- * memory.
+ * `entries` is what zug_image_size told: so parts of one hive's image are of one state. No memory is taken.
  * 6. 87: the hive has had another number of entries by now. */
 uint32_t zug_image_part(zug_hive *hive, uint64_t moment, uint32_t sequence, uint64_t entries, uint64_t offset,
                         uint8_t *room, size_t room_length);
