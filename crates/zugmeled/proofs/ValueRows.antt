@@ -1,5 +1,5 @@
 -- What is told of a value is that of the value at its index.
-use Rattle.std.proofs.Common.{◌≡◌, ℕ, ◌+◌, List, [], ◌++◌, Some, length, get_or, slice_get, sym, subst, ap, ap₂, ◌∙◌, length-append}
+use Rattle.std.proofs.Common.{◌≡◌, ℕ, ◌+◌, List, [], ◌++◌, Some, length, get_or, slice_get, sym, subst, ap, ap₂, ◌∙◌, add-zero, length-append}
 use Rattle.std.proofs.lemmas.List.{get_or-drop}
 use Rattle.std.proofs.lemmas.Option.{get_or_from_slice_get, same_Some}
 use Rattle.reg_heap.specs.Edits.{values_at}
@@ -22,3 +22,8 @@ tells-any values index m other name kind size here told is = subst (λ (v : Memb
 pub value-at : (index n : ℕ) (t : Tree) (p : Path) (m : Member) → slice_get (values_at t p) (index + n) ≡ Some m →
     get_or (values_from index t p) n no_value ≡ m
 value-at index n t p m is = get_or-drop index (values_at t p) n no_value ∙ get_or_from_slice_get (values_at t p) (index + n) m no_value is
+
+pub first-value : (index : ℕ) (t : Tree) (p : Path) (m : Member) → slice_get (values_at t p) index ≡ Some m → get_or (values_from index t p) 0 no_value ≡ m
+first-value index t p m is =
+    get_or-drop index (values_at t p) 0 no_value ∙ ap (λ (n : ℕ). get_or (values_at t p) n no_value) (add-zero index)
+    ∙ get_or_from_slice_get (values_at t p) index m no_value is

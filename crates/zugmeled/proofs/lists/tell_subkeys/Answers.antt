@@ -28,6 +28,9 @@ loop-count-preserved c = λ p at.
     let on = goes-on (key_row tree) (key_name tree) (subkeys_from c.args.index tree p) c.loop-count.count [] child c.args.rows.now c.loop-count.rows
     c.args.room.now c.loop-count.room c.fill_at.new.room c.loop-count.used c.subkey_row.result c.name-name.result.now
     t.0 t.2 (omega (arith, s.within, length-drop c.args.index (children_of tree p))) c.if-count-rows.true (at-index c.args.index c.loop-count.count tree p)
-    (c.subkey_row.ensures child s.at) name (omega (arith, short, t.0.fits, t.2)) c.fill_at.ensures in
-    (on.0, next-turn c.args.tree.now p c.args.node c.args.index c.loop-count.count c.next_subkey.result
-    (c.next_subkey.ensures p at (c.args.index + c.loop-count.count) s), on.1)
+    (c.subkey_row.ensures child s.at) name (omega (arith, short, t.0.fits, t.2)) c.fill_at.ensures in (
+      on.0,
+      next-turn c.args.tree.now p c.args.node c.args.index c.loop-count.count c.next_subkey-next.result
+          (c.next_subkey-next.ensures p at (c.args.index + c.loop-count.count) s),
+      on.1,
+    )

@@ -1,4 +1,4 @@
-use Rattle.std.proofs.Common.{◌+◌, ◌++◌, length, refl, ap, ◌∙◌, arith, length-drop, length-append}
+use Rattle.std.proofs.Common.{◌+◌, ◌++◌, refl, ap, ◌∙◌, arith, length-drop}
 use Rattle.reg_heap.specs.Edits.{values_at}
 use Rattle.zugmeled.specs.Lists.{value_bytes, value_row, values_from}
 use Rattle.zugmeled.proofs.ItemsTold.{goes-on, no-room, room-long}
