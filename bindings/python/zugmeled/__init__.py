@@ -49,6 +49,7 @@ from ._values import (
     from_data,
     to_data,
 )
+from ._walk import KeyRow
 
 __version__ = "1.0.0"
 
@@ -73,6 +74,7 @@ __all__ = [
     "InUse",
     "Key",
     "KeyInfo",
+    "KeyRow",
     "MATCHED",
     "NotFound",
     "Notice",
