@@ -12,6 +12,8 @@ from zugmeled import _library as c
 TYPES = {
     "zug_hive *": POINTER(c.HiveWords),
     "zug_info *": POINTER(c.Info),
+    "zug_subkey *": POINTER(c.ZugSubkey),
+    "zug_value *": POINTER(c.ZugValue),
     "const uint8_t *": c_char_p,
     "uint8_t *": POINTER(c_uint8),
     "uint32_t *": POINTER(c_uint32),
@@ -44,7 +46,7 @@ def type_of(parameter):
 class HeaderTest(unittest.TestCase):
     def test_functions(self):
         told = re.findall(r"\b(uint32_t|void) (zug_\w+)\(([^)]*)\);", header())
-        self.assertEqual(len(told), 25)
+        self.assertEqual(len(told), 28)
         for result, name, parameters in told:
             with self.subTest(function=name):
                 function = getattr(c.library, name)
@@ -66,9 +68,16 @@ class HeaderTest(unittest.TestCase):
         self.assertLessEqual(statuses, set(_errors._WORDS))
 
     def test_info(self):
-        fields = re.search(r"typedef struct zug_info \{(.*?)\}", header(), re.DOTALL)[1]
-        told = [(name, TYPES[kind + " "]) for kind, name in re.findall(r"(uint\d+_t) (\w+);", fields)]
-        self.assertEqual(told, c.Info._fields_)
+        self.check_fields("zug_info", c.Info)
+
+    def test_rows(self):
+        self.check_fields("zug_subkey", c.ZugSubkey)
+        self.check_fields("zug_value", c.ZugValue)
+
+    def check_fields(self, name, structure):
+        fields = re.search(rf"typedef struct {name} \{{(.*?)\}}", header(), re.DOTALL)[1]
+        told = [(field, TYPES[kind + " "]) for kind, field in re.findall(r"(uint\d+_t) (\w+);", fields)]
+        self.assertEqual(told, structure._fields_)
 
 
 if __name__ == "__main__":

@@ -277,6 +277,13 @@ class NoHiveTest(LibraryTest):
         self.assertEqual(LIBRARY.zug_hive_cut(words, number), c.INVALID_HANDLE)
         self.assertEqual(LIBRARY.zug_image_size(words, number, c_uint64()), c.INVALID_HANDLE)
         self.assertEqual(LIBRARY.zug_image_part(words, 0, 1, 0, 0, room, 8), c.INVALID_HANDLE)
+        key, value, count = c.ZugSubkey(9), c.ZugValue(9), c_uint32(77)
+        self.assertEqual(LIBRARY.zug_key_at(words, b"", 0, key, room, 8), c.INVALID_HANDLE)
+        self.assertEqual(key.time, 0)
+        self.assertEqual(LIBRARY.zug_subkeys_at(words, b"", 0, 0, key, 1, room, 8, count), c.INVALID_HANDLE)
+        self.assertEqual(count.value, 0)
+        self.assertEqual(LIBRARY.zug_values_at(words, b"", 0, 0, value, 1, room, 8, count), c.INVALID_HANDLE)
+        self.assertEqual(value.name_size, 9)
 
     def test_no_session(self):
         for session in (64, 255):
@@ -518,6 +525,85 @@ class QuestionTest(LibraryTest):
         self.get_security(self.deleted(), 20, c.KEY_DELETED)
 
 
+def fields(row):
+    return tuple(getattr(row, name) for name, _type in row._fields_)
+
+
+class PathTest(LibraryTest):
+    """The questions by a path."""
+
+    UNTOUCHED = b"\xff" * 12
+
+    def setUp(self):
+        super().setUp()
+        self.create(b"Soft\\Zug")
+        self.create(b"soft\\abc\\d")
+        self.zug = self.open(b"Soft\\Zug")
+        self.set(self.zug, b"Name", b"data", kind=9)
+        self.set(self.zug, b"", b"more")
+
+    def key_at(self, path, size, expected=0):
+        room, row = create_string_buffer(self.UNTOUCHED, 12), c.ZugSubkey(9, 9, 9, 9, 9)
+        self.assertEqual(LIBRARY.zug_key_at(self.words, *sized(path), row, room, size), expected)
+        return room.raw, fields(row)
+
+    def test_key_at(self):
+        self.assertEqual(self.key_at(b"", 12), (b"ROOT" + self.UNTOUCHED[4:], (MOMENT, 4, 1, 0, 8)))
+        self.assertEqual(self.key_at(b"SOFT\\zug", 3), (b"Zug" + self.UNTOUCHED[3:], (MOMENT, 3, 0, 2, 0)))
+        self.assertEqual(self.key_at(b"Soft", 3, c.MORE_DATA), (self.UNTOUCHED, (MOMENT, 4, 2, 0, 0)))
+        self.assertEqual(self.key_at(b"None", 12, c.FILE_NOT_FOUND), (self.UNTOUCHED, (0, 0, 0, 0, 0)))
+        self.assertEqual(self.key_at(b"Soft\\", 12, c.INVALID_PARAMETER), (self.UNTOUCHED, (0, 0, 0, 0, 0)))
+
+    def items_at(self, name, row_type, path, index, count, size, expected=0):
+        """What is told of items: how many, the rows as tuples, and the room."""
+        room, rows, told = create_string_buffer(self.UNTOUCHED, 12), (row_type * 3)(), c_uint32(77)
+        status = getattr(LIBRARY, name)(self.words, *sized(path), index, rows, count, room, size, told)
+        self.assertEqual(status, expected)
+        return told.value, [fields(row) for row in rows], room.raw
+
+    def subkeys_at(self, *arguments, **named):
+        return self.items_at("zug_subkeys_at", c.ZugSubkey, *arguments, **named)
+
+    def test_subkeys_at(self):
+        abc, zug, none = (MOMENT, 3, 1, 0, 0), (MOMENT, 3, 0, 2, 0), (0, 0, 0, 0, 0)
+        self.assertEqual(self.subkeys_at(b"soft", 0, 3, 12), (2, [abc, zug, none], b"abcZug" + self.UNTOUCHED[6:]))
+        self.assertEqual(self.subkeys_at(b"soft", 0, 3, 5), (1, [abc, none, none], b"abc" + self.UNTOUCHED[3:]))
+        self.assertEqual(self.subkeys_at(b"soft", 0, 1, 12), (1, [abc, none, none], b"abc" + self.UNTOUCHED[3:]))
+        self.assertEqual(self.subkeys_at(b"soft", 1, 3, 12), (1, [zug, none, none], b"Zug" + self.UNTOUCHED[3:]))
+        self.assertEqual(self.subkeys_at(b"soft", 1, 3, 2, c.MORE_DATA), (0, [zug, none, none], self.UNTOUCHED))
+        nothing = (0, [none, none, none], self.UNTOUCHED)
+        self.assertEqual(self.subkeys_at(b"soft", 0, 0, 12, c.MORE_DATA), nothing)
+        self.assertEqual(self.subkeys_at(b"soft", 2, 3, 12, c.NO_MORE_ITEMS), nothing)
+        self.assertEqual(self.subkeys_at(b"soft", 0xFFFFFFFF, 3, 12, c.NO_MORE_ITEMS), nothing)
+        self.assertEqual(self.subkeys_at(b"None", 0, 3, 12, c.FILE_NOT_FOUND), nothing)
+        self.assertEqual(self.subkeys_at(b"\\", 0, 3, 12, c.INVALID_PARAMETER), nothing)
+
+    def values_at(self, *arguments, **named):
+        return self.items_at("zug_values_at", c.ZugValue, *arguments, **named)
+
+    def test_values_at(self):
+        named, default, none = (4, 9, 4), (0, 3, 4), (0, 0, 0)
+        path = b"SOFT\\ZUG"
+        self.assertEqual(self.values_at(path, 0, 3, 12), (2, [named, default, none], b"Namedatamore"))
+        self.assertEqual(self.values_at(path, 0, 3, 11), (1, [named, none, none], b"Namedata" + self.UNTOUCHED[8:]))
+        self.assertEqual(self.values_at(path, 0, 1, 12), (1, [named, none, none], b"Namedata" + self.UNTOUCHED[8:]))
+        self.assertEqual(self.values_at(path, 1, 3, 12), (1, [default, none, none], b"more" + self.UNTOUCHED[4:]))
+        self.assertEqual(self.values_at(path, 0, 3, 7, c.MORE_DATA), (0, [named, none, none], self.UNTOUCHED))
+        nothing = (0, [none, none, none], self.UNTOUCHED)
+        self.assertEqual(self.values_at(path, 0, 0, 12, c.MORE_DATA), nothing)
+        self.assertEqual(self.values_at(path, 2, 3, 12, c.NO_MORE_ITEMS), nothing)
+        self.assertEqual(self.values_at(b"Soft", 0, 3, 12, c.NO_MORE_ITEMS), nothing)
+        self.assertEqual(self.values_at(b"None", 0, 3, 12, c.FILE_NOT_FOUND), nothing)
+        self.assertEqual(self.values_at(b"\\", 0, 3, 12, c.INVALID_PARAMETER), nothing)
+
+    def test_no_entry(self):
+        before = self.entries()
+        self.key_at(b"Soft", 12)
+        self.subkeys_at(b"Soft", 0, 3, 12)
+        self.values_at(b"Soft\\Zug", 0, 3, 12)
+        self.assertEqual(self.entries(), before)
+
+
 class NoticeTest(LibraryTest):
     def notify(self, handle, kinds, subtree):
         watch = c_uint64()
@@ -576,6 +662,11 @@ class NothingGivenTest(LibraryTest):
         self.create(b"Sub")
         self.assertEqual(LIBRARY.zug_enum_key(self.words, 0, self.root, 0, None, 0, size, opened), c.MORE_DATA)
         self.assertEqual(size.value, 3)
+        key = c.ZugSubkey()
+        self.assertEqual(LIBRARY.zug_key_at(self.words, None, 0, key, None, 0), c.MORE_DATA)
+        self.assertEqual((key.name_size, key.subkeys), (4, 1))
+        self.assertEqual(LIBRARY.zug_subkeys_at(self.words, None, 0, 0, None, 0, None, 0, size), c.MORE_DATA)
+        self.assertEqual(LIBRARY.zug_values_at(self.words, None, 0, 0, None, 0, None, 0, size), c.NO_MORE_ITEMS)
 
 
 class CauseTest(LibraryTest):

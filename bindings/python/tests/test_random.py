@@ -57,6 +57,17 @@ def tree(key):
     return values, {child.name: tree(child) for child in key}
 
 
+def walked(hive):
+    """The same by a walk."""
+    trees = {}
+    for path, _subkeys, values in hive.walk():
+        trees[path] = [(name, data or b"") for name, data in values], {}
+        if path:
+            above, _cut, name = path.rpartition("\\")
+            trees[above][1][name] = trees[path]
+    return trees[""]
+
+
 class RandomTest(unittest.TestCase):
     def test_hive_and_model(self):
         for seed in range(20):
@@ -79,6 +90,7 @@ class RandomTest(unittest.TestCase):
                 given = {"set": (name, data), "delete_value": (name,)}.get(call, ())
                 self.assertEqual(self.on_hive(hive, call, path, given), self.on_model(model, call, path, given))
         self.assertEqual(tree(hive.root), model.tree())
+        self.assertEqual(walked(hive), model.tree())
         hive.close()
 
     def on_hive(self, hive, call, path, given):

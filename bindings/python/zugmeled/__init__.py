@@ -50,6 +50,7 @@ from ._values import (
     from_data,
     to_data,
 )
+from ._walk import KeyRow
 
 __version__ = "1.0.0"
 
@@ -75,6 +76,7 @@ __all__ = [
     "InUse",
     "Key",
     "KeyInfo",
+    "KeyRow",
     "MATCHED",
     "NotFound",
     "Notice",

@@ -14,6 +14,7 @@ from . import _files
 from . import _library as c
 from ._errors import error, load_error
 from ._values import Value, from_data, kind_for, to_data
+from ._walk import KeyRow, Rooms, Step
 
 #: A security descriptor without owner, group and lists.
 EMPTY_SECURITY = bytes.fromhex("0100048000000000000000000000000000000000")
@@ -140,6 +141,11 @@ class Hive:
         return Key(self, "", c.ALL_ACCESS, _ROOT)
 
     @property
+    def name(self) -> str:
+        """The root's name."""
+        return self.look().name
+
+    @property
     def path(self) -> Optional[str]:
         """The file that `save` writes, if the hive has one."""
         return self._file.path if self._file else None
@@ -148,6 +154,40 @@ class Hive:
     def changed(self) -> bool:
         """Whether a call may have changed a key since the hive was made, loaded or saved to its own file."""
         return self._changed
+
+    def look(self, path: str = "") -> KeyRow:
+        """Tells of the key at the end of a path from the root. FileNotFoundError where there is none.
+
+        It opens no key, and neither do `subkeys`, `values` and `walk`. So no entry of the journal comes of them.
+        """
+        return Rooms(self._call).key(_encoded(path))
+
+    def subkeys(self, path: str = "") -> Iterator[KeyRow]:
+        """Goes through the subkeys of the key at the end of a path, in the order of their names. FileNotFoundError where there is none.
+
+        Up to 256 are asked for at once, by the index of the first. Where subkeys are made or deleted meanwhile, one may be passed over, come
+        twice or be gone: `list` has all first. Where the key itself is deleted it is FileNotFoundError at the next that is asked for.
+        """
+        return Rooms(self._call).subkeys(_encoded(path))
+
+    def values(self, path: str = "") -> Iterator[Tuple[str, Value]]:
+        """Goes through the names of a key's values, each with what `key[name]` is, in the order in which they were added.
+
+        They are asked for as `subkeys` are.
+        """
+        return Rooms(self._call).values(_encoded(path))
+
+    def walk(self, path: str = "") -> Iterator[Step]:
+        """Goes through the key at the end of a path and all keys below it, each before its subkeys, in the order of names.
+
+            for path, subkeys, values in hive.walk():
+                print(path, [row.name for row in subkeys], dict(values))
+
+        Paths are from the root. What you remove from the list of subkeys isn't gone to. A key is asked when the walk comes to it, so what is
+        changed meanwhile below it is told as it is then, and a key that was deleted is passed over. FileNotFoundError where the first key
+        isn't there.
+        """
+        return Rooms(self._call).walk(_encoded(path))
 
     def image(self) -> bytes:
         """The bytes of a hive file: this hive's, with the clock's moment and the next sequence number."""

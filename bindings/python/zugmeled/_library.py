@@ -124,6 +124,24 @@ class Info(Structure):
     ]
 
 
+class ZugSubkey(Structure):
+    """A key, as it stands among others."""
+
+    _fields_ = [
+        ("time", c_uint64),
+        ("name_size", c_uint32),
+        ("subkeys", c_uint32),
+        ("values", c_uint32),
+        ("marks", c_uint32),
+    ]
+
+
+class ZugValue(Structure):
+    """A value, as it stands among others."""
+
+    _fields_ = [("name_size", c_uint32), ("kind", c_uint32), ("size", c_uint32)]
+
+
 _HIVE = POINTER(HiveWords)
 _OUT8 = POINTER(c_uint8)
 _OUT32 = POINTER(c_uint32)
@@ -132,6 +150,10 @@ _OUT64 = POINTER(c_uint64)
 # Bytes that a call reads, and a room that it writes: each with its length.
 _BYTES = (c_char_p, c_size_t)
 _ROOM = (c_void_p, c_size_t)
+
+# Rows that a call writes, with how many there are.
+_SUBKEYS = (POINTER(ZugSubkey), c_size_t)
+_VALUES = (POINTER(ZugValue), c_size_t)
 
 # What stands before a change's own arguments (hive, session, moment), and before a question's (hive, session, handle).
 _CHANGE = (_HIVE, c_uint8, c_uint64)
@@ -159,6 +181,9 @@ _ARGUMENTS = {
     "zug_enum_value": (*_QUESTION, c_uint32, *_ROOM, _OUT32, *_ROOM, _OUT32, _OUT32),
     "zug_query_info": (*_QUESTION, POINTER(Info)),
     "zug_get_security": (*_QUESTION, *_ROOM, _OUT32),
+    "zug_key_at": (_HIVE, *_BYTES, POINTER(ZugSubkey), *_ROOM),
+    "zug_subkeys_at": (_HIVE, *_BYTES, c_uint32, *_SUBKEYS, *_ROOM, _OUT32),
+    "zug_values_at": (_HIVE, *_BYTES, c_uint32, *_VALUES, *_ROOM, _OUT32),
     "zug_take_notice": (_HIVE, c_uint8, _OUT64, _OUT64, _OUT32),
     "zug_cause": (*_CHANGE, c_uint32, c_uint64, *_BYTES, c_uint32, *_BYTES, c_bool),
 }

@@ -113,6 +113,26 @@ pub struct Info {
     pub time: u64,
 }
 
+/// `zug_subkey`: a key, as it stands among others.
+#[repr(C)]
+#[derive(Clone, Default)]
+pub struct Subkey {
+    pub time: u64,
+    pub name_size: u32,
+    pub subkeys: u32,
+    pub values: u32,
+    pub marks: u32,
+}
+
+/// `zug_value`: a value, as it stands among others.
+#[repr(C)]
+#[derive(Clone, Default)]
+pub struct Value {
+    pub name_size: u32,
+    pub kind: u32,
+    pub size: u32,
+}
+
 unsafe extern "C" {
     pub safe fn zug_version() -> u32;
 
@@ -272,6 +292,37 @@ unsafe extern "C" {
         room: *mut u8,
         room_length: usize,
         size: *mut u32,
+    ) -> u32;
+
+    pub fn zug_key_at(
+        hive: *mut HiveWords,
+        path: *const u8,
+        path_length: usize,
+        key: *mut Subkey,
+        name_room: *mut u8,
+        name_room_length: usize,
+    ) -> u32;
+    pub fn zug_subkeys_at(
+        hive: *mut HiveWords,
+        path: *const u8,
+        path_length: usize,
+        index: u32,
+        subkeys: *mut Subkey,
+        subkeys_length: usize,
+        name_room: *mut u8,
+        name_room_length: usize,
+        count: *mut u32,
+    ) -> u32;
+    pub fn zug_values_at(
+        hive: *mut HiveWords,
+        path: *const u8,
+        path_length: usize,
+        index: u32,
+        values: *mut Value,
+        values_length: usize,
+        room: *mut u8,
+        room_length: usize,
+        count: *mut u32,
     ) -> u32;
 
     pub fn zug_take_notice(

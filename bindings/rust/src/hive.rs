@@ -7,6 +7,8 @@ use crate::flags::Rights;
 use crate::key::Key;
 use crate::moment::Clock;
 use crate::raw::{Asked, Handle, Stamp, Words};
+use crate::value::Value;
+use crate::walk::{self, Items, KeyRow, Walk};
 use std::cell::{Cell, RefCell};
 use std::fmt;
 use std::io::Write;
@@ -129,6 +131,101 @@ impl Hive {
         } else {
             Err(Status::INVALID_PARAMETER.into())
         }
+    }
+
+    /// What there is to tell of the key at the end of a path from the root. The empty path is the
+    /// root's own.
+    ///
+    /// It opens no key, and neither do [`Hive::subkeys`], [`Hive::values`] and [`Hive::walk`]. So
+    /// they need no rights, and no entry of the journal comes of them.
+    ///
+    /// ```
+    /// # use zugmeled::{Hive, EMPTY_SECURITY};
+    /// let hive = Hive::new("ROOT", &EMPTY_SECURITY)?;
+    /// hive.root()?.create(r"Software\Zug")?;
+    /// let row = hive.look("SOFTWARE")?;
+    /// assert_eq!((row.name.as_str(), row.subkeys), ("Software", 1));
+    /// # Ok::<(), zugmeled::Error>(())
+    /// ```
+    ///
+    /// # Errors
+    /// [`Status::FILE_NOT_FOUND`] where there is none; [`Status::INVALID_PARAMETER`] for what is no
+    /// path.
+    pub fn look(&self, path: &str) -> Result<KeyRow> {
+        walk::look(&self.words, path)
+    }
+
+    /// Goes through the subkeys of the key at the end of a path, in the order of their names.
+    ///
+    /// Up to 256 are asked for at once, by the index of the first. Where subkeys are made or
+    /// deleted meanwhile, one may be passed over, come twice or be gone: collect them first, then.
+    ///
+    /// ```
+    /// # use zugmeled::{Hive, Result, EMPTY_SECURITY};
+    /// let hive = Hive::new("ROOT", &EMPTY_SECURITY)?;
+    /// hive.root()?.create(r"Software\Zug")?;
+    /// hive.root()?.create(r"Software\Another")?;
+    /// let names: Vec<String> = hive
+    ///     .subkeys("Software")
+    ///     .map(|row| Ok(row?.name))
+    ///     .collect::<Result<_>>()?;
+    /// assert_eq!(names, ["Another", "Zug"]);
+    /// # Ok::<(), zugmeled::Error>(())
+    /// ```
+    ///
+    /// # Errors
+    /// An item is [`Status::FILE_NOT_FOUND`] where there is no such key, or it was deleted
+    /// meanwhile; [`Status::INVALID_PARAMETER`] for what is no path. Behind an error nothing comes.
+    pub fn subkeys(&self, path: &str) -> Items<'_, KeyRow> {
+        Items::subkeys(self, path)
+    }
+
+    /// Goes through the values of the key at the end of a path with their names, in the order in
+    /// which these were added.
+    ///
+    /// They are asked for as those of [`Hive::subkeys`] are.
+    ///
+    /// ```
+    /// # use zugmeled::{Hive, EMPTY_SECURITY};
+    /// let hive = Hive::new("ROOT", &EMPTY_SECURITY)?;
+    /// hive.root()?.create(r"Software\Zug")?.set("Version", 4_u32)?;
+    /// for value in hive.values(r"Software\Zug") {
+    ///     let (name, value) = value?;
+    ///     assert_eq!((name.as_str(), u32::try_from(&value)?), ("Version", 4));
+    /// }
+    /// # Ok::<(), zugmeled::Error>(())
+    /// ```
+    ///
+    /// # Errors
+    /// As of [`Hive::subkeys`]; [`Status::NOT_ENOUGH_MEMORY`].
+    pub fn values(&self, path: &str) -> Items<'_, (String, Value)> {
+        Items::values(self, path)
+    }
+
+    /// Goes through the key at the end of a path and all keys below it, each before its subkeys, in
+    /// the order of names. Paths are from the root.
+    ///
+    /// A key is asked when the walk comes to it. So what is changed below it meanwhile is told as it
+    /// is then, and a key that was deleted is passed over. [`Walk::skip_subkeys`] leaves out what is
+    /// below a key.
+    ///
+    /// ```
+    /// # use zugmeled::{Hive, EMPTY_SECURITY};
+    /// let hive = Hive::new("ROOT", &EMPTY_SECURITY)?;
+    /// hive.root()?.create(r"Software\Zug")?.set("Version", 4_u32)?;
+    /// for step in hive.walk("") {
+    ///     let step = step?;
+    ///     println!("{} has {} values", step.path, step.values.len());
+    /// }
+    /// # Ok::<(), zugmeled::Error>(())
+    /// ```
+    ///
+    /// # Errors
+    /// The first item is [`Status::FILE_NOT_FOUND`] where there is no such key, and
+    /// [`Status::INVALID_PARAMETER`] for what is no path; each may be
+    /// [`Status::NOT_ENOUGH_MEMORY`]. Behind an error nothing comes.
+    pub fn walk(&self, path: &str) -> Walk<'_> {
+        Walk::of(self, path)
     }
 
     /// Takes the notices that came to session 0, each once, until no more are there.

@@ -511,7 +511,7 @@ fn with_room(short: u32, mut ask: impl FnMut(&mut [u8]) -> Answer) -> Result<(Ki
 }
 
 /// The name at the front of a room. It is ASCII, as all names of a hive are.
-fn name(room: &[u8], size: u32) -> String {
+pub(crate) fn name(room: &[u8], size: u32) -> String {
     room[..size as usize]
         .iter()
         .copied()

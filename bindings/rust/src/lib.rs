@@ -17,8 +17,8 @@
 //! # Ok::<(), zugmeled::Error>(())
 //! ```
 //!
-//! [`Hive`] has makers, files, the journal and notices; [`Key`] has what is done with keys and
-//! values. What is refused is an [`Error`] with a [`Status`]. A hive is for one thread at a time,
+//! [`Hive`] has makers, files, walks, the journal and notices; [`Key`] has what is done with keys
+//! and values. What is refused is an [`Error`] with a [`Status`]. A hive is for one thread at a time,
 //! and a [`Mutex`](std::sync::Mutex) shares it. The child of a process with threads may call
 //! nothing here before it runs another program.
 
@@ -38,6 +38,7 @@ mod moment;
 #[allow(unsafe_code)]
 mod raw;
 mod value;
+mod walk;
 
 pub use error::{Error, Fault, Result, Status};
 pub use flags::{Filter, Rights};
@@ -45,6 +46,7 @@ pub use hive::{Entries, Hive, Notice, Reason, Session, Watch, EMPTY_SECURITY};
 pub use key::{Change, Created, Info, Key, Keys, SubKey, Values};
 pub use moment::{Clock, Moment};
 pub use value::{Kind, Value};
+pub use walk::{Items, KeyRow, Step, Walk};
 
 /// The version of the library that was linked: 10,000 a version, 100 a lower one, 1 a patch.
 ///

@@ -383,6 +383,76 @@ impl Words {
         answer
     }
 
+    /// The key at the end of a path, with its name at the front of the room.
+    pub fn key_at(&self, path: &[u8], room: &mut [u8]) -> Result<ffi::Subkey> {
+        let mut key = ffi::Subkey::default();
+        // SAFETY: by the list at the top.
+        told(unsafe {
+            ffi::zug_key_at(
+                self.at(),
+                path.as_ptr(),
+                path.len(),
+                &mut key,
+                room.as_mut_ptr(),
+                room.len(),
+            )
+        })?;
+        Ok(key)
+    }
+
+    /// How many subkeys were told, from an index on.
+    pub fn subkeys_at(
+        &self,
+        path: &[u8],
+        index: u32,
+        rows: &mut [ffi::Subkey],
+        room: &mut [u8],
+    ) -> Result<u32> {
+        let mut count = 0;
+        // SAFETY: by the list at the top.
+        told(unsafe {
+            ffi::zug_subkeys_at(
+                self.at(),
+                path.as_ptr(),
+                path.len(),
+                index,
+                rows.as_mut_ptr(),
+                rows.len(),
+                room.as_mut_ptr(),
+                room.len(),
+                &mut count,
+            )
+        })?;
+        Ok(count)
+    }
+
+    /// How many values were told, from an index on. Where the room is too short the first row tells
+    /// the first value.
+    pub fn values_at(
+        &self,
+        path: &[u8],
+        index: u32,
+        rows: &mut [ffi::Value],
+        room: &mut [u8],
+    ) -> Result<u32> {
+        let mut count = 0;
+        // SAFETY: by the list at the top.
+        told(unsafe {
+            ffi::zug_values_at(
+                self.at(),
+                path.as_ptr(),
+                path.len(),
+                index,
+                rows.as_mut_ptr(),
+                rows.len(),
+                room.as_mut_ptr(),
+                room.len(),
+                &mut count,
+            )
+        })?;
+        Ok(count)
+    }
+
     /// The numbers of the watch and of the entry, and the reason.
     pub fn take_notice(&self, session: u8) -> Result<(u64, u64, u32)> {
         let (mut watch, mut entry, mut reason) = (0, 0, 0);

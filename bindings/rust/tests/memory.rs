@@ -144,6 +144,24 @@ fn questions_are_refused() {
 }
 
 #[test]
+fn questions_by_a_path_need_no_memory() {
+    let hive = Hive::new("ROOT", &EMPTY_SECURITY).unwrap();
+    let root = hive.root().unwrap();
+    root.create("k\\below").unwrap();
+    root.set("large", vec![1; 100_000]).unwrap();
+    GRANTED.set(0);
+    let looked = hive.look("k");
+    let subkeys = hive.subkeys("k").collect::<Result<Vec<_>>>();
+    let values = hive.values("").collect::<Result<Vec<_>>>();
+    let steps = hive.walk("").collect::<Result<Vec<_>>>();
+    GRANTED.set(usize::MAX);
+    assert_eq!(looked.unwrap().subkeys, 1);
+    assert_eq!(subkeys.unwrap().len(), 1);
+    assert_eq!(values.unwrap().len(), 1);
+    assert_eq!(steps.unwrap().len(), 3);
+}
+
+#[test]
 fn handles_and_watches_are_refused() {
     let hive = Hive::new("ROOT", &EMPTY_SECURITY).unwrap();
     let root = hive.root().unwrap();

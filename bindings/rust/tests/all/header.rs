@@ -13,7 +13,7 @@ fn functions_have_the_types_of_the_header() {
         .filter(|it| it.contains('('))
         .map(|it| function_in_rust(it))
         .collect();
-    assert_eq!(told.len(), 25);
+    assert_eq!(told.len(), 28);
     assert_eq!(declared, told);
 }
 
@@ -55,8 +55,18 @@ fn statuses_of_the_header_have_words() {
 
 #[test]
 fn info_has_the_fields_of_the_header() {
+    check_fields("zug_info", "Info");
+}
+
+#[test]
+fn rows_have_the_fields_of_the_header() {
+    check_fields("zug_subkey", "Subkey");
+    check_fields("zug_value", "Value");
+}
+
+fn check_fields(name: &str, name_in_rust: &str) {
     let header = without_comments(&source("../../include/zugmeled.h"));
-    let told = between(&header, "typedef struct zug_info {", "}");
+    let told = between(&header, &format!("typedef struct {name} {{"), "}");
     let told: Vec<String> = told
         .split(';')
         .map(str::trim)
@@ -64,7 +74,7 @@ fn info_has_the_fields_of_the_header() {
         .map(parameter_in_rust)
         .collect();
     let ffi = source("src/ffi.rs");
-    let declared = between(&ffi, "pub struct Info {", "}");
+    let declared = between(&ffi, &format!("pub struct {name_in_rust} {{"), "}");
     let declared: Vec<String> = declared
         .split(',')
         .map(|field| field.trim().trim_start_matches("pub ").to_string())
@@ -143,6 +153,8 @@ fn parameter_in_rust(parameter: &str) -> String {
         "uint64_t" if is_pointer => "*mut u64",
         "zug_hive" => "*mut HiveWords",
         "zug_info" => "*mut Info",
+        "zug_subkey" => "*mut Subkey",
+        "zug_value" => "*mut Value",
         "uint8_t" => "u8",
         "uint32_t" => "u32",
         "uint64_t" => "u64",

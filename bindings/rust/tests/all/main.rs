@@ -10,6 +10,7 @@ mod notices;
 mod random;
 mod threads;
 mod values;
+mod walks;
 
 use std::fmt::Debug;
 use zugmeled::{Clock, Hive, Key, Moment, Result, Rights, Status, EMPTY_SECURITY};

@@ -49,9 +49,11 @@ fn random_calls_answer_as_the_model_does() {
                 call(&hive, &mut model, &mut random);
             }
             assert_eq!(tree_of(&hive), model);
+            assert_eq!(walked(&hive), model);
             hive = Hive::load(&hive.image().unwrap()).unwrap();
             hive.set_clock(Clock::At(MOMENT));
             assert_eq!(tree_of(&hive), model);
+            assert_eq!(walked(&hive), model);
         }
     }
 }
@@ -153,4 +155,10 @@ fn walk(key: &Key<'_>, path: &str, tree: &mut Model) -> Result<()> {
         walk(&key.open(&name)?, &below, tree)?;
     }
     Ok(())
+}
+
+/// The same by a walk without handles.
+fn walked(hive: &Hive) -> Model {
+    let steps = hive.walk("").map(|step| step.unwrap());
+    steps.map(|step| (step.path, step.values)).collect()
 }
