@@ -56,10 +56,8 @@ impl HeldFile {
         Ok(bytes)
     }
 
-    /// Puts another file in this one's place, with its owner, group and permissions.
-    ///
-    /// After an error the file is as it was. Only where the folder couldn't be synced the new one
-    /// stands there.
+    /// Puts another file in this one's place, with its owner, group and permissions. After an error
+    /// the file is as it was.
     pub fn replace(&mut self, write: impl FnOnce(&File) -> Result<()>) -> Result<()> {
         self.check()?;
         // Nobody but its owner may open it before it has the rights of the other.
@@ -70,6 +68,11 @@ impl HeldFile {
             return Err(error);
         }
         self.file = file;
+        Ok(())
+    }
+
+    /// Has the system keep that another file was put in the place of the first.
+    pub fn sync_folder(&self) -> Result<()> {
         sync_folder(&self.path)
     }
 
@@ -109,6 +112,10 @@ impl HeldFile {
 /// program is killed. After an error there is none. Only where the folder couldn't be synced it
 /// stands there.
 pub fn make(path: &Path, write: impl FnOnce(&File) -> Result<()>) -> Result<()> {
+    // What decides is the move. This saves the writing, and comes before what else is refused.
+    if fs::symlink_metadata(path).is_ok() {
+        return Err(std::io::Error::from(ErrorKind::AlreadyExists).into());
+    }
     let (name, file) = create_beside(path, MADE_MODE)?;
     let made = write(&file)
         .and_then(|()| Ok(file.sync_all()?))
@@ -135,7 +142,8 @@ fn move_to_free(name: &Path, path: &Path) -> Result<()> {
     }
 }
 
-/// The same without a link: an empty file takes the path, and the other one its place.
+/// The same without a link: an empty file takes the path, and the other one its place. A program
+/// that is killed between the two leaves the empty one.
 fn move_over_empty(name: &Path, path: &Path) -> Result<()> {
     File::create_new(path)?;
     if let Err(error) = fs::rename(name, path) {
@@ -264,8 +272,13 @@ mod tests {
         in_folder("there", |folder| {
             let (path, name) = (folder.join("a"), folder.join("b"));
             fs::write(&path, "before").unwrap();
-            let refused = make(&path, |_| Ok(())).unwrap_err();
+            let refused = make(&path, |_| panic!("nothing is written")).unwrap_err();
             assert_eq!(refused.status(), Status::ALREADY_EXISTS);
+            let came = folder.join("c");
+            let refused = make(&came, |_| Ok(fs::write(&came, "meanwhile")?)).unwrap_err();
+            assert_eq!(refused.status(), Status::ALREADY_EXISTS);
+            assert_eq!(fs::read(&came).unwrap(), b"meanwhile");
+            fs::remove_file(&came).unwrap();
             assert_eq!(names(folder), ["a"]);
             fs::write(&name, "other").unwrap();
             let refused = move_over_empty(&name, &path).unwrap_err();

@@ -204,7 +204,7 @@ impl Hive {
         let file = file.as_mut().ok_or(Status::INVALID_HANDLE)?;
         file.replace(|file| self.write_image(file))?;
         self.sequence.set(self.next_sequence());
-        Ok(())
+        file.sync_folder()
     }
 
     /// Makes another file with the hive. The hive keeps its own, if it has one.
