@@ -10,6 +10,8 @@ from repository import TOP, Untried, below, folder_of
 
 PROGRAMS = f"{TOP}/bindings/c"
 COMPILER = os.environ.get("CC", "cc")
+# The programs keep to ISO C and POSIX, so that every compiler takes them.
+ISO_C = ["-std=c99", "-D_POSIX_C_SOURCE=200809L", "-pedantic-errors"]
 # Each program, and what it is compiled with beside the library.
 REFUSING = ["-Wl,--wrap=malloc", "-Wl,--wrap=realloc"]
 FLAGS = {"every_export": REFUSING, "hostile": REFUSING}
@@ -49,7 +51,7 @@ def put(behind_the_gate=False):
 def compiled(folder, name, *flags):
     """Compiles a program of bindings/c with the library in a folder, and answers its path there."""
     program = f"{folder}/{name}"
-    words = [COMPILER, *flags, f"-I{folder}", f"{PROGRAMS}/{name}.c", f"{folder}/lib{library.NAME}.a", *FLAGS.get(name, []), "-o", program]
+    words = [COMPILER, *ISO_C, *flags, f"-I{folder}", f"{PROGRAMS}/{name}.c", f"{folder}/lib{library.NAME}.a", *FLAGS.get(name, []), "-o", program]
     try:
         ran = subprocess.run(words, stdin=subprocess.DEVNULL, stdout=subprocess.PIPE, stderr=subprocess.STDOUT, text=True)
     except FileNotFoundError:

@@ -9,13 +9,16 @@
 
 static int save(zug_hive *hive, const char *path) {
     uint64_t size, entries;
-    zug_image_size(hive, &size, &entries);
-    uint8_t *image = malloc(size);
-    FILE *out = fopen(path, "wb");
-    if (!image || !out || zug_image_part(hive, 0, 1, entries, 0, image, size) || fwrite(image, 1, size, out) != size)
+    if (zug_image_size(hive, &size, &entries))
         return 1;
+    /* The image comes first: where there is no memory for it, a file that is there stays as it is. */
+    uint8_t *image = malloc(size);
+    FILE *out = image && zug_image_part(hive, 0, 1, entries, 0, image, size) == 0 ? fopen(path, "wb") : NULL;
+    int failed = !out || fwrite(image, 1, size, out) != size;
+    if (out && fclose(out))
+        failed = 1;
     free(image);
-    return fclose(out) != 0;
+    return failed;
 }
 
 int main(int count, char **words) {

@@ -140,16 +140,20 @@ static void change(image *it, size_t room) {
         it->length = at;
         return;
     case 1:
-        return lengthen(it, room);
+        lengthen(it, room);
+        return;
     case 2:
     case 3:
-        return repeat(it);
+        repeat(it);
+        return;
     case 4:
     case 5:
-        return put_word(it, at & ~(size_t)3, telling_word(it));
+        put_word(it, at & ~(size_t)3, telling_word(it));
+        return;
     case 6:
         at &= ~(size_t)3;
-        return put_word(it, at, it->length - at < 4 ? 0 : word_at(it, at) + (uint32_t)below(17) - 8);
+        put_word(it, at, it->length - at < 4 ? 0 : word_at(it, at) + (uint32_t)below(17) - 8);
+        return;
     case 7:
     case 8:
     case 9:

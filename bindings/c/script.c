@@ -199,8 +199,10 @@ static text taken(uint32_t length, uint32_t longest) {
 static void open_root(script *it, words *line) {
     uint32_t mask = small(line);
     uint64_t opened;
-    if (!ends(line))
-        return bad(it);
+    if (!ends(line)) {
+        bad(it);
+        return;
+    }
     uint32_t status = zug_open_root(&it->hive, it->session, it->moment, mask, &opened);
     told_number(it, status, "handle", opened);
 }
@@ -209,8 +211,10 @@ static void open_key(script *it, words *line) {
     uint64_t handle = number(line, UINT64_MAX), opened;
     text path = name(line);
     uint32_t mask = small(line);
-    if (!ends(line))
-        return bad(it);
+    if (!ends(line)) {
+        bad(it);
+        return;
+    }
     uint32_t status = zug_open_key(&it->hive, it->session, it->moment, handle, path.at, path.length, mask, &opened);
     told_number(it, status, "handle", opened);
 }
@@ -222,13 +226,17 @@ static void create_key(script *it, words *line) {
     uint32_t mask = small(line), disposition;
     bool is_given = !line->is_over;
     text own = is_given ? data(line) : (text){NULL, 0};
-    if (!ends(line))
-        return bad(it);
+    if (!ends(line)) {
+        bad(it);
+        return;
+    }
     bool is_empty = is_given && own.length == 0;
     uint32_t status = zug_create_key(&it->hive, it->session, it->moment, handle, path.at, path.length, mask,
                                      is_empty ? long_bytes : own.at, is_empty ? TOO_LONG : own.length, &opened, &disposition);
-    if (status)
-        return told(it, status);
+    if (status) {
+        told(it, status);
+        return;
+    }
     fprintf(it->out, "0 handle %" PRIu64 " disposition %" PRIu32 "\n", opened, disposition);
 }
 
@@ -237,8 +245,10 @@ static void set_value(script *it, words *line) {
     text value = name(line);
     uint32_t kind = small(line);
     text bytes = data(line);
-    if (!ends(line))
-        return bad(it);
+    if (!ends(line)) {
+        bad(it);
+        return;
+    }
     told(it, zug_set_value(&it->hive, it->session, it->moment, handle, value.at, value.length, kind, bytes.at, bytes.length));
 }
 
@@ -248,8 +258,10 @@ typedef uint32_t change(zug_hive *, uint8_t, uint64_t, uint64_t, const uint8_t *
 static void named(script *it, words *line, change *call) {
     uint64_t handle = number(line, UINT64_MAX);
     text given = name(line);
-    if (!ends(line))
-        return bad(it);
+    if (!ends(line)) {
+        bad(it);
+        return;
+    }
     told(it, call(&it->hive, it->session, it->moment, handle, given.at, given.length));
 }
 
@@ -262,8 +274,10 @@ static void delete_tree(script *it, words *line) { named(it, line, zug_delete_tr
 static void set_security(script *it, words *line) {
     uint64_t handle = number(line, UINT64_MAX);
     text own = data(line);
-    if (!ends(line))
-        return bad(it);
+    if (!ends(line)) {
+        bad(it);
+        return;
+    }
     told(it, zug_set_security(&it->hive, it->session, it->moment, handle, own.at, own.length));
 }
 
@@ -271,16 +285,20 @@ static void notify(script *it, words *line) {
     uint64_t handle = number(line, UINT64_MAX), watch;
     uint32_t filter = small(line);
     bool subtree = zero_or_one(line);
-    if (!ends(line))
-        return bad(it);
+    if (!ends(line)) {
+        bad(it);
+        return;
+    }
     uint32_t status = zug_notify(&it->hive, it->session, it->moment, handle, filter, subtree, &watch);
     told_number(it, status, "watch", watch);
 }
 
 static void close_handle(script *it, words *line) {
     uint64_t handle = number(line, UINT64_MAX);
-    if (!ends(line))
-        return bad(it);
+    if (!ends(line)) {
+        bad(it);
+        return;
+    }
     told(it, zug_close(&it->hive, it->session, it->moment, handle));
 }
 
@@ -293,8 +311,10 @@ static uint32_t by_room(uint32_t status, room given, uint32_t size) {
 
 /* The reply that tells a value: its name, where it was asked by its index, type, size and data. */
 static void told_value(script *it, uint32_t status, const text *value, uint32_t kind, text bytes, bool is_with_data) {
-    if (status && status != ZUG_MORE_DATA)
-        return told(it, status);
+    if (status && status != ZUG_MORE_DATA) {
+        told(it, status);
+        return;
+    }
     fprintf(it->out, "%" PRIu32, status);
     if (status == 0 && value) {
         fputc(' ', it->out);
@@ -311,8 +331,10 @@ static void query_value(script *it, words *line) {
     text value = name(line);
     room given = room_or_none(line);
     uint32_t kind, size;
-    if (!ends(line))
-        return bad(it);
+    if (!ends(line)) {
+        bad(it);
+        return;
+    }
     text bytes = taken(given.length, LONGEST_DATA);
     uint32_t status = zug_query_value(&it->hive, it->session, handle, value.at, value.length, bytes.at, bytes.length, &kind, &size);
     told_value(it, by_room(status, given, size), NULL, kind, (text){bytes.at, size}, given.is_given);
@@ -323,8 +345,10 @@ static void enum_value(script *it, words *line) {
     uint64_t handle = number(line, UINT64_MAX);
     uint32_t index = small(line), for_name = small(line), name_size, kind, size;
     room given = room_or_none(line);
-    if (!ends(line))
-        return bad(it);
+    if (!ends(line)) {
+        bad(it);
+        return;
+    }
     text value = taken(for_name, LONGEST_NAME), bytes = taken(given.length, LONGEST_DATA);
     uint32_t status = zug_enum_value(&it->hive, it->session, handle, index, value.at, value.length, &name_size,
                                      bytes.at, bytes.length, &kind, &size);
@@ -337,8 +361,10 @@ static void enum_value(script *it, words *line) {
 static void enum_key(script *it, words *line) {
     uint64_t handle = number(line, UINT64_MAX), time;
     uint32_t index = small(line), length = small(line), size;
-    if (!ends(line))
-        return bad(it);
+    if (!ends(line)) {
+        bad(it);
+        return;
+    }
     text key = taken(length, LONGEST_NAME);
     uint32_t status = zug_enum_key(&it->hive, it->session, handle, index, key.at, key.length, &size, &time);
     if (status == 0) {
@@ -356,11 +382,15 @@ static void enum_key(script *it, words *line) {
 static void query_info(script *it, words *line) {
     uint64_t handle = number(line, UINT64_MAX);
     zug_info info;
-    if (!ends(line))
-        return bad(it);
+    if (!ends(line)) {
+        bad(it);
+        return;
+    }
     uint32_t status = zug_query_info(&it->hive, it->session, handle, &info);
-    if (status)
-        return told(it, status);
+    if (status) {
+        told(it, status);
+        return;
+    }
     fprintf(it->out, "0 subkeys %" PRIu32 " longest %" PRIu32 " values %" PRIu32 " longest %" PRIu32, info.subkeys, info.longest_key,
             info.values, info.longest_value);
     fprintf(it->out, " largest %" PRIu32 " security %" PRIu32 " time %" PRIu64 "\n", info.largest, info.security, info.time);
@@ -369,8 +399,10 @@ static void query_info(script *it, words *line) {
 static void get_security(script *it, words *line) {
     uint64_t handle = number(line, UINT64_MAX);
     uint32_t length = small(line), size;
-    if (!ends(line))
-        return bad(it);
+    if (!ends(line)) {
+        bad(it);
+        return;
+    }
     text own = taken(length, TOO_LONG);
     uint32_t status = zug_get_security(&it->hive, it->session, handle, own.at, own.length, &size);
     if (status == 0) {
@@ -391,8 +423,10 @@ static void notice(script *it, words *line) {
     static const char *const reasons[] = {"", "matched", "gone", "closed"};
     uint64_t watch, entry;
     uint32_t reason;
-    if (!ends(line))
-        return bad(it);
+    if (!ends(line)) {
+        bad(it);
+        return;
+    }
     if (zug_take_notice(&it->hive, it->session, &watch, &entry, &reason))
         fputs("notice none\n", it->out);
     else
@@ -401,15 +435,19 @@ static void notice(script *it, words *line) {
 
 static void set_moment(script *it, words *line) {
     uint64_t moment = number(line, UINT64_MAX);
-    if (!ends(line))
-        return bad(it);
+    if (!ends(line)) {
+        bad(it);
+        return;
+    }
     it->moment = moment;
 }
 
 static void set_session(script *it, words *line) {
     uint64_t session = number(line, 63);
-    if (!ends(line))
-        return bad(it);
+    if (!ends(line)) {
+        bad(it);
+        return;
+    }
     it->session = (uint8_t)session;
 }
 
@@ -453,8 +491,10 @@ static void run_line(script *it, text given) {
         return;
     text verb = next(&line);
     for (size_t at = 0; at < sizeof verbs / sizeof *verbs; at++)
-        if (is(verb, verbs[at].word))
-            return verbs[at].run(it, &line);
+        if (is(verb, verbs[at].word)) {
+            verbs[at].run(it, &line);
+            return;
+        }
     bad(it);
 }
 

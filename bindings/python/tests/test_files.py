@@ -1,19 +1,22 @@
 """Hive files: what is locked, and what is saved. What is expected is what docs/TOOL.md says of `edit`."""
 
+import contextlib
 import errno
 import fcntl
 import os
+import signal
 import stat
 import struct
 import subprocess
 import sys
 import tempfile
+import threading
 import unittest
 from pathlib import Path
 from unittest import mock
 
 import zugmeled
-from zugmeled import Hive
+from zugmeled import Hive, _files
 
 MOMENT = 133_000_000_000_000_000
 
@@ -227,6 +230,225 @@ class SaveTest(FileTest):
         with Hive.new() as hive, mock.patch.object(os, "fsync", side_effect=OSError(errno.EIO, "no")):
             self.assertRaises(OSError, hive.save, self.folder / "new.hive")
         self.assertEqual(self.names(), ["my.hive"])
+
+    def test_a_folder_that_is_not_synced(self):
+        """The new file stands there then, and is saved again the next time."""
+        with Hive.open(self.path) as hive:
+            hive.root["Name"] = 1
+            with mock.patch.object(_files, "_sync_folder", side_effect=OSError(errno.EIO, "no")):
+                self.assertRaises(OSError, hive.save)
+                self.assertRaises(OSError, hive.save, self.folder / "copy.hive")
+            self.assertTrue(hive.changed)
+            self.assertEqual(self.sequence(), (2, 2))
+            hive.save()
+            self.assertFalse(hive.changed)
+            self.assertEqual(self.sequence(), (3, 3))
+        self.assertEqual(self.names(), ["copy.hive", "my.hive"])
+        with Hive.open(self.folder / "copy.hive") as hive:
+            self.assertEqual(hive.root["Name"], 1)
+
+    def test_ctrl_c_behind_the_rename(self):
+        rename = os.rename
+
+        def interrupted(*names):
+            rename(*names)
+            raise KeyboardInterrupt
+
+        with Hive.open(self.path) as hive:
+            hive.root["Name"] = 1
+            with mock.patch.object(os, "rename", interrupted):
+                self.assertRaises(KeyboardInterrupt, hive.save)
+            self.assertInUse(lambda: Hive.open(self.path))
+            hive.root["Name"] = 2
+            hive.save()
+        with Hive.open(self.path) as hive:
+            self.assertEqual(hive.root["Name"], 2)
+        self.assertEqual(self.names(), ["my.hive"])
+
+    def test_a_killed_save_leaves_no_part(self):
+        program = (
+            "import os, signal, sys; from zugmeled import Hive\n"
+            "os.fsync = lambda descriptor: os.kill(os.getpid(), signal.SIGKILL)\n"
+            "Hive.new().save(sys.argv[1])\n"
+        )
+        top = Path(zugmeled.__file__).parents[1]
+        new = self.folder / "new.hive"
+        done = subprocess.run([sys.executable, "-c", program, str(new)], cwd=top)
+        self.assertEqual(done.returncode, -signal.SIGKILL)
+        self.assertFalse(new.exists())
+        with Hive.new() as hive:
+            hive.save(new)
+        Hive.open(new).close()
+
+    def test_a_new_file_has_the_mode_of_any(self):
+        before = os.umask(0o027)
+        try:
+            with Hive.new() as hive:
+                hive.save(self.folder / "new.hive")
+        finally:
+            os.umask(before)
+        self.assertEqual(stat.S_IMODE((self.folder / "new.hive").stat().st_mode), 0o640)
+
+    def test_a_file_system_without_links(self):
+        new = self.folder / "new.hive"
+        with Hive.new() as hive, mock.patch.object(os, "link", side_effect=PermissionError(errno.EPERM, "no")):
+            with mock.patch.object(os, "rename", side_effect=OSError(errno.EIO, "no")):
+                self.assertRaises(OSError, hive.save, new)
+            self.assertEqual(self.names(), ["my.hive"])
+            hive.save(new)
+            self.assertRaises(FileExistsError, hive.save, new)
+        Hive.open(new).close()
+        self.assertEqual(self.names(), ["my.hive", "new.hive"])
+
+    def test_a_file_that_comes_meanwhile_is_kept(self):
+        new = self.folder / "new.hive"
+        write = _files._write
+
+        def written(descriptor, data):
+            write(descriptor, data)
+            new.write_bytes(b"other")
+
+        with Hive.new() as hive:
+            for links in (contextlib.nullcontext(), mock.patch.object(os, "link", side_effect=OSError(errno.EPERM, "no"))):
+                with links, mock.patch.object(_files, "_write", written):
+                    self.assertRaises(FileExistsError, hive.save, new)
+                self.assertEqual(new.read_bytes(), b"other")
+                self.assertEqual(self.names(), ["my.hive", "new.hive"])
+                new.unlink()
+
+
+class ThreadTest(FileTest):
+    """Saves of several threads."""
+
+    def setUp(self):
+        super().setUp()
+        self.hive = Hive.open(self.path)
+        self.addCleanup(self.hive.close)
+        self.root = self.hive.root
+        self.raised = []
+
+    def started(self, call):
+        """A thread that calls, and keeps what is raised."""
+
+        def run():
+            try:
+                call()
+            except BaseException as why:
+                self.raised.append(why)
+
+        thread = threading.Thread(target=run, daemon=True)
+        thread.start()
+        return thread
+
+    def ended(self, *threads):
+        for thread in threads:
+            thread.join(60)
+            self.assertFalse(thread.is_alive())
+
+    def held(self, call):
+        """A thread that is held up where its save, which has the image, is to write it; and what lets it go on."""
+        has_image, go_on = threading.Event(), threading.Event()
+        write = _files._write
+
+        def written(descriptor, data):
+            if not has_image.is_set():
+                has_image.set()
+                go_on.wait(60)
+            write(descriptor, data)
+
+        patched = mock.patch.object(_files, "_write", written)
+        patched.start()
+        self.addCleanup(patched.stop)
+        thread = self.started(call)
+        self.assertTrue(has_image.wait(60))
+        return thread, go_on
+
+    def values(self):
+        with Hive.open(self.path, read_only=True) as hive:
+            return dict(hive.root.values())
+
+    def test_an_older_image_never_comes_last(self):
+        self.root["a"] = 1
+        one, go_on = self.held(self.hive.save)
+        self.root["b"] = 2
+        two = self.started(self.hive.save)
+        # It waits for the first. Were it to come first, this is time enough.
+        two.join(0.2)
+        go_on.set()
+        self.ended(one, two)
+        self.assertEqual(self.raised, [])
+        self.assertEqual(self.values(), {"a": 1, "b": 2})
+        self.assertFalse(self.hive.changed)
+        self.assertEqual(self.sequence(), (3, 3))
+
+    def test_what_comes_behind_the_image_is_not_saved(self):
+        self.root["a"] = 1
+        one, go_on = self.held(self.hive.save)
+        # The file doesn't have it yet.
+        self.assertTrue(self.hive.changed)
+        self.root["b"] = 2
+        go_on.set()
+        self.ended(one)
+        self.assertEqual(self.values(), {"a": 1})
+        self.assertTrue(self.hive.changed)
+
+    def test_many_saves(self):
+        def work(name):
+            for turn in range(30):
+                self.root[name] = turn
+                self.hive.save()
+
+        self.ended(*[self.started(lambda name=name: work(name)) for name in ("a", "b", "c")])
+        self.assertEqual(self.raised, [])
+        self.assertEqual(self.values(), {"a": 29, "b": 29, "c": 29})
+        self.assertFalse(self.hive.changed)
+        self.assertEqual(self.sequence(), (91, 91))
+        self.assertEqual(self.names(), ["my.hive"])
+        self.hive.save()
+
+    def test_close_waits_for_a_save(self):
+        self.root["a"] = 1
+        one, go_on = self.held(self.hive.save)
+        two = self.started(self.hive.close)
+        two.join(0.2)
+        go_on.set()
+        self.ended(one, two)
+        self.assertEqual(self.raised, [])
+        self.assertEqual(self.values(), {"a": 1})
+        Hive.open(self.path).close()
+        with self.assertRaises(zugmeled.Error) as raised:
+            self.hive.save()
+        self.assertEqual(raised.exception.winerror, 6)
+
+    def test_no_change_between_a_save_and_the_close(self):
+        self.root["a"] = 1
+        one, go_on = self.held(lambda: self.hive.close(save=True))
+        two = self.started(lambda: self.root.set("b", 4, bytes(4)))
+        two.join(0.2)
+        go_on.set()
+        self.ended(one, two)
+        self.assertEqual([why.winerror for why in self.raised], [6])
+        self.assertEqual(self.values(), {"a": 1})
+        self.hive.close(save=True)
+
+    def test_where_the_save_fails_the_hive_stays_open(self):
+        self.root["a"] = 1
+        with mock.patch.object(os, "rename", side_effect=OSError(errno.EIO, "no")):
+            one, go_on = self.held(lambda: self.hive.close(save=True))
+            two = self.started(lambda: self.root.set("b", 4, bytes(4)))
+            go_on.set()
+            self.ended(one, two)
+        self.assertEqual([why.errno for why in self.raised], [errno.EIO])
+        self.hive.close(save=True)
+        self.assertEqual(self.values(), {"a": 1, "b": 0})
+
+    def test_close_saves_what_changed_alone(self):
+        before = self.path.stat().st_ino
+        self.hive.close(save=True)
+        self.assertEqual(self.path.stat().st_ino, before)
+        with Hive.new() as hive:
+            hive.root["a"] = 1
+            hive.close(save=True)
 
 
 class EndTest(FileTest):

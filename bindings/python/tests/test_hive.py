@@ -1,12 +1,15 @@
 """Hives and keys. What is expected is what docs/RULES.md says."""
 
+import contextlib
 import datetime
 import gc
+import itertools
 import pickle
 import struct
 import threading
 import unittest
 from pathlib import Path
+from unittest import mock
 
 import zugmeled
 from zugmeled import (
@@ -20,7 +23,9 @@ from zugmeled import (
     Hive,
     Key,
     Notice,
+    _hive,
 )
+from zugmeled import _library as c
 
 MOMENT = 133_000_000_000_000_000
 
@@ -119,6 +124,138 @@ class LifeTest(HiveTest):
         deleted.close()
         self.assertStatus(6, deleted.values)
 
+    def cut_of(self, calls):
+        """Cuts a hive of five keys where the calls of the library go through a function. Answers what the keys are then checked by."""
+        hive = Hive.new(clock=lambda: MOMENT)
+        self.addCleanup(hive.close)
+        root = hive.root
+        key = root.create("A\\B")
+        key["Name"] = 1
+        reader, writer = root.open("a", mask=zugmeled.ENUMERATE_SUB_KEYS), root.open("A")
+        closed = root.open("A")
+        closed.close()
+        deleted = root.create("Gone")
+        root.delete("Gone")
+        root.create("Gone").close()
+
+        def check():
+            # Whatever is used first, no path may lead to another key than before.
+            writer.delete_tree("B")
+            writer.create("B").close()
+            self.assertStatus(1018, key.values)
+            self.assertEqual(reader.subkeys(), ["B"])
+            self.assertStatus(5, reader.values)
+            self.assertStatus(6, closed.values)
+            with self.assertRaises(zugmeled.Error) as raised:
+                deleted.values()
+            self.assertIn(raised.exception.winerror, (6, 1018))
+            self.assertEqual(hive.root.subkeys(), ["A", "Gone"])
+            # No handle was lost.
+            hive.cut()
+            self.assertEqual(reader.subkeys(), ["B"])
+
+        with contextlib.ExitStack() as patched:
+            for name in ("zug_cause", "zug_close", "zug_hive_cut", "zug_open_root", "zug_open_key"):
+                patched.enter_context(mock.patch.object(c.library, name, calls(getattr(c.library, name))))
+            try:
+                hive.cut()
+            except (KeyboardInterrupt, zugmeled.Error):
+                return hive, check, False
+        return hive, check, True
+
+    def test_a_cut_that_is_interrupted(self):
+        """Ctrl-C before each call of the library, and behind each."""
+        for is_behind in (False, True):
+            for at in range(100):
+                count = itertools.count()
+
+                def calls(function):
+                    def call(*arguments):
+                        is_now = next(count) == at
+                        if is_now and not is_behind:
+                            raise KeyboardInterrupt
+                        status = function(*arguments)
+                        if is_now:
+                            raise KeyboardInterrupt
+                        return status
+
+                    return call
+
+                with self.subTest(at=at, is_behind=is_behind):
+                    _, check, is_done = self.cut_of(calls)
+                    check()
+                if is_done:
+                    break
+            self.assertTrue(10 < at < 99)
+
+    def test_a_cut_without_memory(self):
+        """Each call that opens is refused, once or until the memory is there again."""
+        for is_once in (True, False):
+            for at in range(100):
+                count = itertools.count()
+
+                def calls(function):
+                    def call(*arguments):
+                        number = next(count)
+                        is_refused = number == at if is_once else number >= at
+                        return c.NOT_ENOUGH_MEMORY if is_refused else function(*arguments)
+
+                    return call if function in (c.library.zug_open_root, c.library.zug_open_key) else function
+
+                with self.subTest(at=at, is_once=is_once):
+                    _, check, is_done = self.cut_of(calls)
+                    check()
+                if is_done:
+                    break
+            self.assertEqual(at, 4)
+
+    def test_keys_that_a_cut_left_closed(self):
+        open_key = c.library.zug_open_key
+
+        def refuses(*arguments):
+            return c.NOT_ENOUGH_MEMORY
+
+        hive, check, is_done = self.cut_of(lambda function: refuses if function is open_key else function)
+        self.assertFalse(is_done)
+        with mock.patch.object(c.library, "zug_open_key", refuses):
+            # Nothing is changed by who is refused, and the hive can still be saved.
+            before = hive.image()
+            self.assertStatus(8, hive.root.delete_tree, "A")
+            self.assertStatus(8, hive.root.subkeys)
+            self.assertEqual(hive.image(), before)
+        check()
+
+    def test_a_clock_that_fails_in_a_cut(self):
+        key = self.root.create("A")
+        self.root.open("A").close()
+        self.root.open("A")
+        for good in range(8):
+            moments = iter([MOMENT] * good)
+            self.hive.clock = lambda: next(moments)
+            try:
+                self.hive.cut()
+                self.root.open("A").close()
+            except StopIteration:
+                pass
+            self.hive.clock = lambda: MOMENT
+            key["Name"] = good
+            self.assertEqual(self.root.open("A")["Name"], good)
+        self.hive.cut()
+
+    def test_an_opening_that_is_interrupted(self):
+        """Ctrl-C right behind the library's call: nobody has the key, so that a cut closes it."""
+        for name, call in (("zug_open_key", lambda: self.root.open("A")), ("zug_create_key", lambda: self.root.create("A"))):
+            function = getattr(c.library, name)
+
+            def interrupted(*arguments):
+                function(*arguments)
+                raise KeyboardInterrupt
+
+            self.root.create("A").close()
+            with mock.patch.object(c.library, name, interrupted):
+                self.assertRaises(KeyboardInterrupt, call)
+            self.hive.cut()
+
     def test_cut_waits_for_notices(self):
         self.root.notify()
         self.assertStatus(170, self.hive.cut)
@@ -144,6 +281,28 @@ class LifeTest(HiveTest):
         self.root.create("A")
         self.assertTrue(self.hive.changed)
 
+    def test_a_change_that_is_interrupted(self):
+        """Ctrl-C right behind the library's call: the key was changed, and the hive may not say otherwise."""
+        set_value = c.library.zug_set_value
+
+        def interrupted(*arguments):
+            set_value(*arguments)
+            raise KeyboardInterrupt
+
+        with mock.patch.object(c.library, "zug_set_value", interrupted):
+            self.assertRaises(KeyboardInterrupt, self.root.set, "Name", REG_DWORD, bytes(4))
+        self.assertEqual(self.root["Name"], 0)
+        self.assertTrue(self.hive.changed)
+
+    def test_what_is_refused_changes_nothing(self):
+        reader = self.root.open(mask=zugmeled.QUERY_VALUE)
+        self.assertStatus(5, reader.set, "Name", REG_DWORD, b"")
+        self.assertStatus(2, self.root.delete, "None")
+        self.assertStatus(2, self.root.delete_value, "None")
+        self.assertStatus(87, self.root.create, "A\\")
+        self.root.create("").close()
+        self.assertFalse(self.hive.changed)
+
     def test_what_changes(self):
         self.root.create("A\\B")
         self.root["Name"] = 1
@@ -161,6 +320,21 @@ class LifeTest(HiveTest):
                 self.assertFalse(hive.changed)
                 change(hive.root)
                 self.assertTrue(hive.changed)
+
+    def test_clock_of_no_moments(self):
+        key = self.root.create("A")
+        for moment in (-1, 1 << 64):
+            self.hive.clock = lambda: moment
+            self.assertRaises(OverflowError, self.root.set, "Name", REG_DWORD, b"")
+            self.assertRaises(OverflowError, self.hive.image)
+            self.assertRaises(OverflowError, Hive.new, clock=self.hive.clock)
+            self.assertRaises(OverflowError, key.close)
+        self.hive.clock = lambda: (1 << 64) - 1
+        self.root["Name"] = 1
+        self.assertEqual(self.root.time, (1 << 64) - 1)
+        # Nothing stayed open.
+        del key
+        self.hive.cut()
 
     def test_clock(self):
         with Hive.new() as hive:
@@ -401,6 +575,22 @@ class ValueTest(HiveTest):
         ):
             self.assertRaises(TypeError, call)
 
+    def test_numbers_that_are_too_large(self):
+        self.root["Name"] = 1
+        self.root.create("A")
+        for number in (1 << 32, (1 << 32) + 1, -1, 1 << 64):
+            for call in (
+                lambda: self.root.value_at(number),
+                lambda: self.root.subkey_at(number),
+                lambda: self.root.set("Name", number, b""),
+                lambda: self.root.open("A", mask=number),
+                lambda: self.root.create("B", mask=number),
+                lambda: self.root.notify(number),
+            ):
+                self.assertRaises(OverflowError, call)
+        self.assertStatus(259, self.root.value_at, 0xFFFFFFFF)
+        self.assertEqual(tree(self.root)[2:], ([("Name", REG_DWORD, b"\1\0\0\0")], {"A": tree(self.root.open("A"))}))
+
     def test_large_data(self):
         data = bytes(range(256)) * 4096
         self.root.set("Large", REG_BINARY, data)
@@ -478,6 +668,32 @@ class NoticeTest(HiveTest):
 
 
 class ThreadTest(HiveTest):
+    def test_an_image_beside_busy_writers_ends(self):
+        made, failed = [], []
+        room = _hive.create_string_buffer
+
+        def write(turn):
+            self.root["Name"] = turn
+
+        def beside(size):
+            """Another thread writes whenever there is room for the image."""
+            made.append(threading.Thread(target=write, args=(len(made),), daemon=True))
+            made[-1].start()
+            made[-1].join(0.2)
+            # It would go on for ever.
+            failed.append(len(made) > 5)
+            if failed[-1]:
+                raise AssertionError("the image doesn't end")
+            return room(size)
+
+        with mock.patch.object(_hive, "create_string_buffer", beside):
+            image = self.hive.image()
+        for thread in made:
+            thread.join(60)
+        self.assertFalse(any(failed))
+        Hive.loads(image).close()
+        self.assertIn("Name", self.root)
+
     def test_threads_share_a_hive(self):
         failed = []
 

@@ -1,15 +1,17 @@
 """The stand-in for winreg. What is expected is what the documentation of the standard module says, and docs/RULES.md."""
 
 import inspect
+import itertools
 import os
 import struct
 import tempfile
+import threading
 import time
 import unittest
 from pathlib import Path
 from unittest import mock
 
-from zugmeled import Hive, winreg
+from zugmeled import Hive, _files, winreg
 from zugmeled.winreg import HKEY_CURRENT_USER, HKEY_LOCAL_MACHINE, HKEY_USERS, KEY_ALL_ACCESS
 
 ROOTS = [
@@ -207,6 +209,20 @@ class HandleTest(WinregTest):
         self.assertStatus(6, winreg.OpenKey, 0, "A")
         self.assertStatus(6, winreg.OpenKey, 12345, "A")
 
+    def test_numbers_of_handles_are_no_roots(self):
+        self.mount(HKEY_LOCAL_MACHINE, "SOFTWARE")
+        mounted = [self.mount(getattr(winreg, name), "") for name in ROOTS if name not in ("HKEY_CURRENT_USER", "HKEY_LOCAL_MACHINE")]
+        for first in (0x7FFFFFFC, 0xFFFFFFFF7FFFFFFC):
+            with mock.patch.object(winreg, "_numbers", itertools.count(first, 4)):
+                keys = [winreg.CreateKey(HKEY_LOCAL_MACHINE, rf"SOFTWARE\Key{number}") for number in range(4)]
+            self.assertEqual(len({key.handle for key in keys}), 4)
+            for number, key in enumerate(keys):
+                winreg.SetValueEx(key, "Number", 0, winreg.REG_DWORD, number)
+            for number, key in enumerate(keys):
+                self.assertEqual(winreg.QueryValueEx(key, "Number"), (number, winreg.REG_DWORD))
+                key.Close()
+        self.assertEqual([it.hive.root.values() for it in mounted], [[]] * 5)
+
     def test_roots_of_32_bits(self):
         winreg.CreateKey(0x80000001, "A").Close()
         self.assertEqual(winreg.EnumKey(HKEY_CURRENT_USER, 0), "A")
@@ -236,6 +252,21 @@ class KeyTest(WinregTest):
             for call in (winreg.OpenKey, winreg.CreateKey, winreg.CreateKeyEx):
                 with call(HKEY_CURRENT_USER, sub_key) as key:
                     self.assertTrue(key)
+
+    def test_a_root_itself(self):
+        """Of a root and None the handle that is returned is the root's own, as the documentation says."""
+        for root in (HKEY_CURRENT_USER, 0x80000001, HKEY_USERS):
+            for call in (winreg.CreateKey, winreg.CreateKeyEx):
+                with call(root, None) as key:
+                    self.assertIs(type(key), winreg.HKEYType)
+                    self.assertEqual(key.handle, root)
+                    self.assertEqual(call(key, None).handle, root)
+                self.assertFalse(key)
+                self.assertEqual(winreg.QueryInfoKey(root)[:2], (0, 0))
+                # Each other handle is a new one.
+                with call(root, "") as key:
+                    self.assertNotEqual(key.handle, root)
+                    self.assertNotEqual(call(key, None).handle, key.handle)
 
     def test_missing(self):
         raised = self.assertStatus(2, winreg.OpenKey, HKEY_CURRENT_USER, "None")
@@ -287,6 +318,9 @@ class KeyTest(WinregTest):
         self.assertEqual(rights(0x20000000), read)
         self.assertEqual(rights(0xC0000000), everything)
         self.assertStatus(87, winreg.OpenKey, HKEY_CURRENT_USER, "A", 0, 0x400)
+        for access in (1 << 32 | winreg.KEY_READ, -0x80000001):
+            for call in (winreg.OpenKey, winreg.CreateKeyEx):
+                self.assertRaises(OverflowError, call, HKEY_CURRENT_USER, "A", 0, access)
 
     def test_delete_key(self):
         winreg.CreateKey(HKEY_CURRENT_USER, "A\\B").Close()
@@ -372,6 +406,14 @@ class ValueTest(WinregTest):
                 winreg.SetValueEx(HKEY_CURRENT_USER, "Name", 0, kind, value)
         self.assertStatus(2, winreg.QueryValueEx, HKEY_CURRENT_USER, "Name")
 
+    def test_types_that_are_no_numbers_of_32_bits(self):
+        self.assertRaises(OverflowError, winreg.SetValueEx, HKEY_CURRENT_USER, "Name", 0, 1 << 32 | winreg.REG_DWORD, 1)
+        self.assertRaises(ValueError, winreg.SetValueEx, HKEY_CURRENT_USER, "Name", 0, -1, b"")
+        self.assertRaises(TypeError, winreg.SetValueEx, HKEY_CURRENT_USER, "Name", 0, "4", 1)
+        self.assertStatus(2, winreg.QueryValueEx, HKEY_CURRENT_USER, "Name")
+        winreg.SetValueEx(HKEY_CURRENT_USER, "Name", 0, 0xFFFFFFFF, b"data")
+        self.assertEqual(winreg.QueryValueEx(HKEY_CURRENT_USER, "Name"), (b"data", 0xFFFFFFFF))
+
     def test_default_value(self):
         for name in (None, ""):
             winreg.SetValueEx(HKEY_CURRENT_USER, name, None, winreg.REG_DWORD, 1)
@@ -397,6 +439,17 @@ class ValueTest(WinregTest):
         with winreg.CreateKey(HKEY_CURRENT_USER, "A") as key:
             winreg.SetValueEx(key, None, 0, winreg.REG_DWORD, 1)
             self.assertStatus(13, winreg.QueryValue, key, None)
+
+    def test_query_value_of_the_handle_itself(self):
+        winreg.SetValue(HKEY_CURRENT_USER, r"A\B", winreg.REG_SZ, "below")
+        with winreg.CreateKeyEx(HKEY_CURRENT_USER, "A", 0, winreg.KEY_SET_VALUE) as key:
+            winreg.SetValueEx(key, None, 0, winreg.REG_SZ, "own")
+            for sub_key in (None, ""):
+                self.assertStatus(5, winreg.QueryValue, key, sub_key)
+            # Another key is opened to be read, whatever the handle allows.
+            self.assertEqual(winreg.QueryValue(key, "B"), "below")
+        with winreg.OpenKey(HKEY_CURRENT_USER, "A", 0, winreg.KEY_QUERY_VALUE) as key:
+            self.assertEqual(winreg.QueryValue(key, None), "own")
 
     def test_enum_value(self):
         for name in ("b", "a"):
@@ -516,6 +569,61 @@ class MountTest(WinregTest):
         key.Close()
         with Hive.open(path) as hive:
             self.assertEqual(hive.root.subkeys(), ["New", "Zug"])
+
+    def test_no_change_is_lost_by_an_unmount(self):
+        path = self.hive_file()
+        winreg.mount(HKEY_LOCAL_MACHINE, "SOFTWARE", path)
+        key = winreg.CreateKey(HKEY_LOCAL_MACHINE, r"SOFTWARE\New")
+        write, raised, threads = _files._write, [], []
+
+        def change():
+            try:
+                winreg.SetValueEx(key, "Late", 0, winreg.REG_DWORD, 1)
+            except OSError as why:
+                raised.append(why.winerror)
+
+        def written(descriptor, data):
+            # The image has been made by now.
+            threads.append(threading.Thread(target=change, daemon=True))
+            threads[0].start()
+            threads[0].join(0.2)
+            write(descriptor, data)
+
+        with mock.patch.object(_files, "_write", written):
+            winreg.unmount(HKEY_LOCAL_MACHINE, "SOFTWARE")
+        threads[0].join(60)
+        self.assertEqual(raised, [6])
+        with Hive.open(path) as hive:
+            self.assertEqual(hive.root.open("New").values(), [])
+
+    def test_unmount_that_is_not_saved(self):
+        path = self.hive_file()
+        mounted = self.mount(HKEY_LOCAL_MACHINE, "SOFTWARE", path)
+        winreg.CreateKey(HKEY_LOCAL_MACHINE, r"SOFTWARE\New").Close()
+        with mock.patch.object(os, "rename", side_effect=PermissionError(13, "no")):
+            self.assertStatus(5, winreg.unmount, HKEY_LOCAL_MACHINE, "SOFTWARE")
+        winreg.CreateKey(HKEY_LOCAL_MACHINE, r"SOFTWARE\Newer").Close()
+        winreg.unmount(HKEY_LOCAL_MACHINE, "SOFTWARE")
+        mounted.unmount()
+        with Hive.open(path) as hive:
+            self.assertEqual(hive.root.subkeys(), ["New", "Newer", "Zug"])
+
+    def test_two_mounts_at_once(self):
+        """Of two threads that mount at one path one is refused."""
+        opened = Hive.open
+
+        def late(path, **named):
+            # Another thread comes between.
+            with mock.patch.object(Hive, "open", opened):
+                self.mount(HKEY_LOCAL_MACHINE, "SOFTWARE", self.hive_file("first.hive"))
+            return opened(path, **named)
+
+        path = self.hive_file()
+        with mock.patch.object(Hive, "open", late):
+            self.assertStatus(183, winreg.mount, HKEY_LOCAL_MACHINE, "SOFTWARE", path)
+        # The other's lock was given up.
+        Hive.open(path).close()
+        winreg.OpenKey(HKEY_LOCAL_MACHINE, r"SOFTWARE\Zug").Close()
 
     def test_unmount_without_saving(self):
         path = self.hive_file()

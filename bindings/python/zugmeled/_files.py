@@ -17,6 +17,10 @@ Path = Union[str, "os.PathLike[str]"]
 _RUNNER_BITS = stat.S_ISUID | stat.S_ISGID
 _GROUP_BITS = stat.S_IRWXG
 
+# The mode of a file that its owner alone may open, and that of one that is made, less what the program takes from all it makes.
+_OWN_MODE = 0o600
+_MADE_MODE = 0o666
+
 
 @with_winerror
 def read(path: Path) -> bytes:
@@ -27,16 +31,24 @@ def read(path: Path) -> bytes:
 
 @with_winerror
 def make(path: Path, data: bytes) -> None:
-    """Makes a file, anew: FileExistsError where one is there. After a fault there is none."""
+    """Makes a file, anew: FileExistsError where one is there.
+
+    It is written under another name, so that no part of it is found at its path, even where the program is killed. After a fault nothing is
+    there. Only where the folder couldn't be synced the whole file stands there.
+    """
     place = os.fspath(path)
-    descriptor = os.open(place, os.O_WRONLY | os.O_CREAT | os.O_EXCL | os.O_CLOEXEC, 0o666)
+    # What decides is the move. This saves the writing, and comes before what else is refused.
+    if os.path.lexists(place):
+        raise FileExistsError(errno.EEXIST, os.strerror(errno.EEXIST), place)
+    descriptor, name = _create_beside(place, _MADE_MODE)
     try:
         try:
             _write(descriptor, data)
         finally:
             os.close(descriptor)
+        _move_to_free(name, place)
     except BaseException:
-        os.unlink(place)
+        _remove(name)
         raise
     _sync_folder(place)
 
@@ -70,12 +82,10 @@ class HeldFile:
 
     @with_winerror
     def replace(self, data: bytes) -> None:
-        """Puts other bytes in the file's place, with its owner, group and permissions.
-
-        After a fault the file is as it was. Only where the folder couldn't be synced the new one stands there.
-        """
+        """Puts other bytes in the file's place, with its owner, group and permissions. After a fault the file is as it was."""
         self._check()
-        descriptor, name = _create_beside(self.path)
+        # Nobody but its owner may open it before it has the rights of the other.
+        descriptor, name = _create_beside(self.path, _OWN_MODE)
         try:
             # The lock is taken before the name is, so that nobody comes between two saves.
             _lock(descriptor)
@@ -83,18 +93,36 @@ class HeldFile:
             _write(descriptor, data)
             os.rename(name, self.path)
         except BaseException:
-            os.close(descriptor)
-            os.unlink(name)
+            # A signal may have come right behind the rename.
+            if self._stands(descriptor):
+                self._hold(descriptor)
+            else:
+                os.close(descriptor)
+                _remove(name)
             raise
-        os.close(self._descriptor)
-        self._descriptor = descriptor
+        self._hold(descriptor)
+
+    @with_winerror
+    def sync_folder(self) -> None:
+        """Has the system keep that a file was put in the other's place."""
         _sync_folder(self.path)
 
     def close(self) -> None:
         """Gives up the lock. A second time nothing happens."""
-        if self._descriptor >= 0:
-            os.close(self._descriptor)
-            self._descriptor = -1
+        self._hold(-1)
+
+    def _hold(self, descriptor: int) -> None:
+        """Takes over another descriptor, and closes the one before. That is let go first, so that it is never closed twice."""
+        before, self._descriptor = self._descriptor, descriptor
+        if before >= 0:
+            os.close(before)
+
+    def _stands(self, descriptor: int) -> bool:
+        """Whether a file that is open is the one at the path."""
+        try:
+            return os.path.samestat(os.fstat(descriptor), os.stat(self.path))
+        except OSError:
+            return False
 
     def _check(self) -> None:
         """Tests that the file is a regular one, and that no other took its place since it was opened."""
@@ -112,13 +140,48 @@ def _lock(descriptor: int) -> None:
         raise error(SHARING_VIOLATION) from None
 
 
-def _create_beside(path: str) -> Tuple[int, str]:
-    """Makes a file beside a path, anew, that nobody but its owner may open: its descriptor and its name."""
+def _move_to_free(name: str, path: str) -> None:
+    """Moves a file to a path where nothing is."""
+    try:
+        os.link(name, path)
+    except FileExistsError:
+        raise
+    except OSError:
+        # Some file systems have no hard links.
+        _move_over_empty(name, path)
+    else:
+        # The file stands where it should, also if it keeps the other name.
+        _remove(name)
+
+
+def _move_over_empty(name: str, path: str) -> None:
+    """The same without a link: an empty file takes the path, and the other one its place.
+
+    A program that is killed between the two leaves the empty one.
+    """
+    os.close(os.open(path, os.O_WRONLY | os.O_CREAT | os.O_EXCL | os.O_CLOEXEC, _OWN_MODE))
+    try:
+        os.rename(name, path)
+    except BaseException:
+        _remove(path)
+        raise
+
+
+def _remove(name: str) -> None:
+    """Removes a file that is of no more use, if it can be: what is reported is what came before."""
+    try:
+        os.unlink(name)
+    except OSError:
+        pass
+
+
+def _create_beside(path: str, mode: int) -> Tuple[int, str]:
+    """Makes a file beside a path, anew, with a mode: its descriptor and its name."""
     number = 0
     while True:
         name = f"{path}.zugmeled-{number}"
         try:
-            return os.open(name, os.O_WRONLY | os.O_CREAT | os.O_EXCL | os.O_CLOEXEC, 0o600), name
+            return os.open(name, os.O_WRONLY | os.O_CREAT | os.O_EXCL | os.O_CLOEXEC, mode), name
         except FileExistsError:
             # Whoever left it: it isn't ours to write over.
             number += 1

@@ -36,6 +36,10 @@ _CUT_AT = 16 << 20
 
 _SEQUENCES = 1 << 32
 
+# The library's numbers are of 32 bits, its moments of 64. ctypes would cut what is larger.
+_WORDS = 1 << 32
+_MOMENTS = 1 << 64
+
 # Units of 100 ns in a second, and from 1601 to 1970.
 _TICKS = 10_000_000
 _TICKS_TO_1970 = 116_444_736_000_000_000
@@ -69,7 +73,7 @@ class KeyInfo(NamedTuple):
 class Hive:
     """A hive in memory: a tree of keys. It is made by `Hive.open`, `Hive.new` or `Hive.loads`, and freed by `close`.
 
-    Threads may share it. What a call refuses is an `Error`, with the status as its `winerror`.
+    Threads may share it; what handles a signal may not call it. What a call refuses is an `Error`, with the status as its `winerror`.
     """
 
     def __init__(self, words: c.HiveWords, sequence: int, clock: Callable[[], int]) -> None:
@@ -78,16 +82,22 @@ class Hive:
         self._sequence = sequence
         self._file: Optional[_files.HeldFile] = None
         self._lock = threading.Lock()
+        # One save at a time: it is held from the image to the file, and taken before the other.
+        self._saving = threading.Lock()
         # Handles of keys that went without being closed. A key may go while another call is under way, even in the same thread, so it
         # closes nothing itself.
         self._forgotten: Deque[int] = deque()
         self._keys: "weakref.WeakSet[Key]" = weakref.WeakSet()
+        # The keys that a cut closed and that are to be opened again, behind the root. None where nothing is due.
+        self._closed_by_cut: Optional[List[Key]] = None
         self._watches = 0
         self._uncut = 0
-        self._changed = False
-        #: Tells the moment of each call, in units of 100 ns since 1601. It may be set to another function.
+        # How many changes there may have been, and of how many the hive's own file knows.
+        self._changes = 0
+        self._saved = 0
+        #: Tells the moment of each call, in units of 100 ns since 1601. It may be set to another function, which calls no hive.
         self.clock = clock
-        self._root = self._opened_root()
+        self._root = self._opened_root(self._moment())
 
     @classmethod
     def open(cls, path: _files.Path, *, read_only: bool = False) -> "Hive":
@@ -112,7 +122,7 @@ class Hive:
         words = c.HiveWords()
         name = _encoded(root_name)
         security = _bytes_of(security)
-        _told(c.library.zug_hive_new(words, name, len(name), security, len(security), clock()))
+        _told(c.library.zug_hive_new(words, name, len(name), security, len(security), _moment_of(clock)))
         return cls(words, 0, clock)
 
     @classmethod
@@ -153,7 +163,7 @@ class Hive:
     @property
     def changed(self) -> bool:
         """Whether a call may have changed a key since the hive was made, loaded or saved to its own file."""
-        return self._changed
+        return self._changes != self._saved
 
     def look(self, path: str = "") -> KeyRow:
         """Tells of the key at the end of a path from the root. FileNotFoundError where there is none.
@@ -191,21 +201,16 @@ class Hive:
 
     def image(self) -> bytes:
         """The bytes of a hive file: this hive's, with the clock's moment and the next sequence number."""
-        size, entries = c_uint64(), c_uint64()
-        while True:
-            _told(self._call(c.library.zug_image_size, size, entries))
-            room = create_string_buffer(size.value)
-            part = (self.clock(), self._next_sequence(), entries.value, 0, room, len(room))
-            status = self._call(c.library.zug_image_part, *part)
-            # It is this status where another thread changed the hive between the two calls.
-            if status != c.INVALID_PARAMETER:
-                _told(status)
-                return room.raw
+        moment = self._moment()
+        with self._lock:
+            return self._image(moment)
 
     def save(self, path: Optional[_files.Path] = None) -> None:
         """Saves the hive to its own file, or makes another file with it: FileExistsError where one is there.
 
-        Whatever fails, the hive's own file is as it was. ValueError where it has none and no path is given.
+        Whatever fails, the hive's own file is as it was, and another one isn't made. Only where the folder couldn't be synced the new file
+        stands there. ValueError where the hive has no file and no path is given. Threads save one after another: once the call returns, the
+        file has all changes that were made before it, and maybe later ones.
         """
         if self._file and (path is None or self._file.is_at(path)):
             self._save_own(self._file)
@@ -237,21 +242,32 @@ class Hive:
 
         An Error with winerror 170 where a notice that was asked for wasn't taken. The hive does so itself where it can, once the journal
         has some 16 MB.
+
+        All keys are closed for that, and opened again. Where one can't be (8), or Ctrl-C comes, this is tried again at the next use of any
+        key: that is refused, and changes nothing, until all are open.
         """
         freed = c_uint64()
         with self._lock:
-            self._close_forgotten()
+            self._prepare()
             if self._watches:
                 raise error(c.BUSY, "a notice is waited for")
             _told(self._cut(freed))
         return freed.value
 
-    def close(self) -> None:
-        """Frees the hive, and gives up its file. What wasn't saved is lost, and calls on its keys answer 6. A second time nothing happens."""
-        with self._lock:
-            c.library.zug_hive_close(self._words)
-        if self._file:
-            self._file.close()
+    def close(self, *, save: bool = False) -> None:
+        """Frees the hive, and gives up its file. What wasn't saved is lost, and calls on its keys answer 6. A second time nothing happens.
+
+        With `save` it is saved to its own file first, if it has one and may have changed; where that fails it stays open. No change of
+        another thread comes between the two and is lost: its call waits for this one, and answers 6 then.
+        """
+        with self._saving:
+            moment = self._moment() if save else 0
+            with self._lock:
+                if save and self._file and self.changed and self._words.holds:
+                    self._put(self._file, self._image(moment), self._changes)
+                c.library.zug_hive_close(self._words)
+                if self._file:
+                    self._file.close()
 
     def __enter__(self) -> "Hive":
         return self
@@ -270,15 +286,31 @@ class Hive:
     def _next_sequence(self) -> int:
         return (self._sequence + 1) % _SEQUENCES
 
+    def _moment(self) -> int:
+        return _moment_of(self.clock)
+
+    def _image(self, moment: int) -> bytes:
+        """The hive's image. The lock is held, so that no change comes between the two calls."""
+        size, entries = c_uint64(), c_uint64()
+        _told(c.library.zug_image_size(self._words, size, entries))
+        room = create_string_buffer(size.value)
+        part = (moment, self._next_sequence(), entries.value, 0, room, len(room))
+        _told(c.library.zug_image_part(self._words, *part))
+        return room.raw
+
     def _save_own(self, file: _files.HeldFile) -> None:
-        # What another thread changes from here on is to be saved next time.
-        self._changed = False
-        try:
-            file.replace(self.image())
-        except BaseException:
-            self._changed = True
-            raise
+        with self._saving:
+            moment = self._moment()
+            with self._lock:
+                image, changes = self._image(moment), self._changes
+            self._put(file, image, changes)
+
+    def _put(self, file: _files.HeldFile, image: bytes, changes: int) -> None:
+        """Puts an image in the file's place, which knows of so many changes then."""
+        file.replace(image)
         self._sequence = self._next_sequence()
+        file.sync_folder()
+        self._saved = changes
 
     def _call(self, function: Any, *arguments: Any) -> int:
         """Calls a function of the library on this hive, under its lock, and answers the status."""
@@ -289,13 +321,13 @@ class Hive:
     def _ask(self, function: Any, key: "Key", *arguments: Any) -> int:
         """Asks a question of a key, and answers the status."""
         with self._lock:
-            self._close_forgotten()
+            self._prepare()
             return function(self._words, _SESSION, key._number(), *arguments)
 
     def _change(self, function: Any, key: "Key", *arguments: Any) -> None:
-        """Makes a change by a key's handle."""
+        """Makes a change of keys by a key's handle."""
         with self._lock:
-            self._make(function, key, *arguments)
+            self._make(function, key, *arguments, is_of_keys=True)
 
     def _watch(self, function: Any, key: "Key", *arguments: Any) -> None:
         """Makes a change by a key's handle that asks for a notice."""
@@ -310,65 +342,112 @@ class Hive:
             opens._handle = opened.value
             self._keys.add(opens)
 
-    def _make(self, function: Any, key: "Key", *arguments: Any) -> None:
-        self._close_forgotten()
+    def _create_key(self, opens: "Key", opened: c_uint64, disposition: c_uint32, function: Any, key: "Key", *arguments: Any) -> None:
+        """The same of a change that may make keys."""
+        with self._lock:
+            self._make(function, key, *arguments, is_of_keys=True)
+            opens._handle = opened.value
+            self._keys.add(opens)
+            if disposition.value != c.CREATED:
+                self._changes -= 1
+
+    def _make(self, function: Any, key: "Key", *arguments: Any, is_of_keys: bool = False) -> None:
+        self._prepare()
         if self._uncut > _CUT_AT and not self._watches:
             # Where it is refused the journal grows on, which is no fault of this call.
             self._cut(c_uint64())
-        _told(function(self._words, _SESSION, self.clock(), key._number(), *arguments))
+        moment, handle = self._moment(), key._number()
+        # It counts before it is made, so that no signal comes between the two.
+        self._changes += is_of_keys
+        status = function(self._words, _SESSION, moment, handle, *arguments)
+        if status != c.SUCCESS:
+            self._changes -= is_of_keys
+            raise error(status)
         self._uncut += _ENTRY + sum(len(given) for given in arguments if isinstance(given, bytes))
 
-    def _close_handle(self, handle: int) -> None:
-        # The status is 6 where the hive was closed before its key.
-        c.library.zug_close(self._words, _SESSION, self.clock(), handle)
+    def _close_handle(self, handle: int, moment: int) -> None:
+        # The status is 6 where the hive was closed before its key, or the handle before: none is used twice.
+        c.library.zug_close(self._words, _SESSION, moment, handle)
         self._uncut += _ENTRY
 
     def _close_forgotten(self) -> None:
         while self._forgotten:
-            self._close_handle(self._forgotten.popleft())
+            self._close_handle(self._forgotten[0], self._moment())
+            # Not before, since the handle would be lost where that is interrupted.
+            self._forgotten.popleft()
 
-    def _opened_root(self) -> int:
+    def _prepare(self) -> None:
+        """Does what is due before a key is used."""
+        if self._forgotten:
+            self._close_forgotten()
+        if self._closed_by_cut is not None:
+            self._open_again(self._moment())
+
+    def _opened_root(self, moment: int) -> int:
         opened = c_uint64()
-        _told(c.library.zug_open_root(self._words, _SESSION, self.clock(), c.ALL_ACCESS, opened))
+        _told(c.library.zug_open_root(self._words, _SESSION, moment, c.ALL_ACCESS, opened))
         return opened.value
 
     def _cut(self, freed: c_uint64) -> int:
         """Cuts the journal, and answers the status. No handle may be open for that, so all are closed, and opened again behind it.
 
-        A key has its path as long as it isn't deleted, so that the path leads to it again.
+        A key has its path as long as it isn't deleted, so that the path leads to it again. Where this is refused or interrupted, the list of
+        the keys that are to be opened stays, and the next use goes on with it. It makes no change before, so each path still leads to its key.
         """
-        closed = self._closed_keys()
-        self._close_handle(self._root)
+        moment = self._moment()
+        keys = [key for key in self._keys if key._own_handle() is not None]
+        deleted = {key for key in keys if self._is_deleted(key, moment)}
+        self._closed_by_cut = [key for key in keys if key not in deleted]
+        for key in keys:
+            self._close_own_handle(key, moment)
+            if key in deleted:
+                key._handle = _DELETED
+        self._close_handle(self._root, moment)
         status = c.library.zug_hive_cut(self._words, freed)
+        if status == c.BUSY:
+            self._close_lost(moment)
+            status = c.library.zug_hive_cut(self._words, freed)
         self._uncut = 0
-        self._root = self._opened_root()
-        for key in closed:
-            key._handle = self._opened_again(key)
+        self._open_again(moment)
         return status
 
-    def _closed_keys(self) -> List["Key"]:
-        """Closes all keys that are open, and answers those that weren't deleted."""
-        closed = []
-        for key in list(self._keys):
-            handle = key._take_handle()
-            if handle is None:
-                continue
-            if self._is_deleted(handle):
-                key._handle = _DELETED
-            else:
-                closed.append(key)
-            self._close_handle(handle)
-        return closed
+    def _close_lost(self, moment: int) -> None:
+        """Closes the handles that no key has, because a signal came right behind their opening. A handle's number is its entry's."""
+        entries, kept = c_uint64(), c_uint64()
+        _told(c.library.zug_entries(self._words, entries, kept))
+        for handle in range(entries.value - kept.value, entries.value):
+            self._close_handle(handle, moment)
 
-    def _is_deleted(self, handle: int) -> bool:
-        arguments = (c.OPEN_KEY, handle, b"", 0, c.ALL_ACCESS, b"", 0, False)
-        return c.library.zug_cause(self._words, _SESSION, self.clock(), *arguments) == c.KEY_DELETED
+    def _is_deleted(self, key: "Key", moment: int) -> bool:
+        arguments = (c.OPEN_KEY, key._handle, b"", 0, c.ALL_ACCESS, b"", 0, False)
+        status = c.library.zug_cause(self._words, _SESSION, moment, *arguments)
+        # 1450 where no more handles may be open; 6 where a cut was interrupted behind the closing of a deleted key's.
+        if status not in (c.SUCCESS, c.NO_SYSTEM_RESOURCES, c.KEY_DELETED, c.INVALID_HANDLE):
+            raise error(status)
+        return status in (c.KEY_DELETED, c.INVALID_HANDLE)
 
-    def _opened_again(self, key: "Key") -> int:
+    def _open_again(self, moment: int) -> None:
+        """Opens the root and the keys that a cut closed. What is open, because this or the cut was interrupted, is closed first."""
+        self._close_handle(self._root, moment)
+        self._root = self._opened_root(moment)
+        while self._closed_by_cut:
+            key = self._closed_by_cut[-1]
+            self._close_own_handle(key, moment)
+            if key._own_handle() is not None:
+                key._handle = self._opened_by_path(key, moment)
+            self._closed_by_cut.pop()
+        self._closed_by_cut = None
+
+    def _close_own_handle(self, key: "Key", moment: int) -> None:
+        handle = key._own_handle()
+        if handle is not None:
+            self._close_handle(handle, moment)
+
+    def _opened_by_path(self, key: "Key", moment: int) -> int:
         path = _encoded(key.path)
         opened = c_uint64()
         arguments = (self._root, path, len(path), key._mask, opened)
-        _told(c.library.zug_open_key(self._words, _SESSION, self.clock(), *arguments))
+        _told(c.library.zug_open_key(self._words, _SESSION, moment, *arguments))
         return opened.value
 
 
@@ -407,7 +486,7 @@ class Key:
         text = _encoded(path)
         opened = c_uint64()
         key = Key(self.hive, self._joined(path), mask)
-        self.hive._open_key(key, opened, c.library.zug_open_key, self, text, len(text), mask, opened)
+        self.hive._open_key(key, opened, c.library.zug_open_key, self, text, len(text), _word(mask), opened)
         return key
 
     def create(self, path: str, mask: int = c.ALL_ACCESS, security: bytes = b"") -> "Key":
@@ -419,10 +498,8 @@ class Key:
         security = _bytes_of(security)
         opened, disposition = c_uint64(), c_uint32()
         key = Key(self.hive, self._joined(path), mask)
-        arguments = (text, len(text), mask, security, len(security), opened, disposition)
-        self.hive._open_key(key, opened, c.library.zug_create_key, self, *arguments)
-        if disposition.value == c.CREATED:
-            self.hive._changed = True
+        arguments = (text, len(text), _word(mask), security, len(security), opened, disposition)
+        self.hive._create_key(key, opened, disposition, c.library.zug_create_key, self, *arguments)
         return key
 
     def subkeys(self) -> List[str]:
@@ -441,7 +518,7 @@ class Key:
         """The name of the subkey at an index, and when it was last written. An Error with winerror 259 past the last."""
         room = create_string_buffer(c.KEY_NAME_LIMIT)
         size, written = c_uint32(), c_uint64()
-        _told(self.hive._ask(c.library.zug_enum_key, self, index, room, len(room), size, written))
+        _told(self.hive._ask(c.library.zug_enum_key, self, _word(index), room, len(room), size, written))
         return _decoded(room, size.value), written.value
 
     def values(self) -> List[Tuple[str, Value]]:
@@ -451,7 +528,7 @@ class Key:
     def value_at(self, index: int) -> Tuple[str, int, bytes]:
         """The name, type and data of the value at an index. An Error with winerror 259 past the last."""
         room = _ValueRoom()
-        _told(room.fill(self, index))
+        _told(room.fill(self, _word(index)))
         return room.told()
 
     def value(self, name: str = "") -> Tuple[int, bytes]:
@@ -478,26 +555,22 @@ class Key:
         """Sets a value to a type and data, as they are."""
         text = _encoded(name)
         data = _bytes_of(data)
-        self.hive._change(c.library.zug_set_value, self, text, len(text), kind, data, len(data))
-        self.hive._changed = True
+        self.hive._change(c.library.zug_set_value, self, text, len(text), _word(kind), data, len(data))
 
     def delete_value(self, name: str = "") -> None:
         """Deletes a value. FileNotFoundError where there is none."""
         text = _encoded(name)
         self.hive._change(c.library.zug_delete_value, self, text, len(text))
-        self.hive._changed = True
 
     def delete(self, path: str) -> None:
         """Deletes a key below this one, with its values. PermissionError where it has subkeys."""
         text = _encoded(path)
         self.hive._change(c.library.zug_delete_key, self, text, len(text))
-        self.hive._changed = True
 
     def delete_tree(self, path: str = "") -> None:
         """Deletes a key below this one with all below it. Without a path this key stays, but without subkeys and values."""
         text = _encoded(path)
         self.hive._change(c.library.zug_delete_tree, self, text, len(text))
-        self.hive._changed = True
 
     @property
     def info(self) -> KeyInfo:
@@ -534,7 +607,6 @@ class Key:
     def security(self, descriptor: bytes) -> None:
         descriptor = _bytes_of(descriptor)
         self.hive._change(c.library.zug_set_security, self, descriptor, len(descriptor))
-        self.hive._changed = True
 
     def notify(self, kinds: int = c.FILTER_NAME | c.FILTER_LAST_SET, subtree: bool = False) -> int:
         """Asks for one notice of the next change of some kinds (FILTER_NAME, ..), with `subtree` also of keys below this one.
@@ -542,17 +614,18 @@ class Key:
         The number that is told names the watch in `hive.notices()`. The watch ends with the key, too: it has to stay open.
         """
         watch = c_uint64()
-        self.hive._watch(c.library.zug_notify, self, kinds, subtree, watch)
+        self.hive._watch(c.library.zug_notify, self, _word(kinds), subtree, watch)
         return watch.value
 
     def close(self) -> None:
         """Closes the key. A second time nothing happens."""
         with self.hive._lock:
-            handle = self._take_handle()
+            handle = self._own_handle()
             if handle is not None:
-                self.hive._close_handle(handle)
+                self.hive._forgotten.append(handle)
             # The root's own handle, and what stands for a deleted key's, are let go too.
             self._handle = None
+            self.hive._close_forgotten()
 
     def __getitem__(self, name: str) -> Value:
         kind, data = self.value(name)
@@ -592,7 +665,7 @@ class Key:
         self.close()
 
     def __del__(self) -> None:
-        handle = self._take_handle()
+        handle = self._own_handle()
         if handle is not None:
             self.hive._forgotten.append(handle)
 
@@ -617,13 +690,9 @@ class Key:
             raise error(c.KEY_DELETED)
         return self.hive._root if self._handle == _ROOT else self._handle
 
-    def _take_handle(self) -> Optional[int]:
-        """The key's own handle, if it has one, which it has no more."""
-        handle = self._handle
-        if handle is None or handle < 0:
-            return None
-        self._handle = None
-        return handle
+    def _own_handle(self) -> Optional[int]:
+        """The key's own handle, if it has one."""
+        return None if self._handle is None or self._handle < 0 else self._handle
 
     def _joined(self, path: str) -> str:
         return "\\".join(part for part in (self._path, path) if part)
@@ -657,6 +726,21 @@ def _told(status: int) -> None:
     """Raises the exception of a status that isn't 0."""
     if status != c.SUCCESS:
         raise error(status)
+
+
+def _word(number: int) -> int:
+    """A number that the library is given. OverflowError where it has more than 32 bits, or is negative."""
+    if not 0 <= number < _WORDS:
+        raise OverflowError(f"{number} is no number of 32 bits")
+    return number
+
+
+def _moment_of(clock: Callable[[], int]) -> int:
+    """The clock's moment. OverflowError where it is before 1601, or has more than 64 bits."""
+    moment = clock()
+    if not 0 <= moment < _MOMENTS:
+        raise OverflowError(f"the clock's moment {moment} is no number of 64 bits")
+    return moment
 
 
 def _bytes_of(data: Any) -> bytes:

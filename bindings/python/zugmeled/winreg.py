@@ -178,7 +178,7 @@ _STANDS_FOR = {
 # The names of a path from a root, folded, so that those of one key are equal.
 _Folded = Tuple[bytes, ...]
 
-# What is open, by the handle's number. As on Windows these are multiples of 4. None is used twice.
+# What is open, by the handle's number. As on Windows these are multiples of 4. None is used twice, and none is a root's.
 _opened: "Dict[int, _Opened]" = {}
 _numbers = itertools.count(4, 4)
 
@@ -199,13 +199,14 @@ class Mount:
             self.hive.save()
 
     def unmount(self, save: bool = True) -> None:
-        """Takes the hive out, and saves it unless told not to. Keys that are open in it answer 6 from then on."""
-        if save:
-            self.flush()
+        """Takes the hive out, and saves it unless told not to. Keys that are open in it answer 6 from then on.
+
+        So do changes that other threads make meanwhile, where they came too late to be saved. Where the save fails all stays mounted.
+        """
+        self.hive.close(save=save)
         mounts = _mounts[self._root]
         if mounts.get(self._folded) is self:
-            del mounts[self._folded]
-        self.hive.close()
+            mounts.pop(self._folded, None)
 
     def __enter__(self) -> "Mount":
         return self
@@ -335,13 +336,15 @@ def ConnectRegistry(computer_name: Optional[str], key: _KeyType, /) -> HKEYType:
 
 
 def CreateKey(key: _KeyType, sub_key: Optional[str], /) -> HKEYType:
-    """Opens a key with all rights, and makes what is missing of its path."""
-    return _create(_place(key, _text(sub_key, "CreateKey", "sub_key")), KEY_ALL_ACCESS)
+    """Opens a key with all rights, and makes what is missing of its path. Of a root and None it is that root's own handle."""
+    path = _text(sub_key, "CreateKey", "sub_key")
+    return _root_itself(key, sub_key) or _create(_place(key, path), KEY_ALL_ACCESS)
 
 
 def CreateKeyEx(key: _KeyType, sub_key: Optional[str], reserved: int = 0, access: int = KEY_WRITE) -> HKEYType:
-    """Opens a key with the rights of a mask, and makes what is missing of its path."""
-    return _create(_place(key, _text(sub_key, "CreateKeyEx", "sub_key")), access)
+    """Opens a key with the rights of a mask, and makes what is missing of its path. Of a root and None it is that root's own handle."""
+    path = _text(sub_key, "CreateKeyEx", "sub_key")
+    return _root_itself(key, sub_key) or _create(_place(key, path), access)
 
 
 def DeleteKey(key: _KeyType, sub_key: str, /) -> None:
@@ -428,11 +431,13 @@ def QueryInfoKey(key: _KeyType, /) -> Tuple[int, int, int]:
 def QueryValue(key: _KeyType, sub_key: Optional[str], /) -> str:
     """The text of a key's default value; the empty text where it has none. OSError where the value is of another type than REG_SZ."""
     path = _text(sub_key, "QueryValue", "sub_key")
-    with _open(_place(key, path), KEY_QUERY_VALUE) as opened:
-        try:
-            kind, data = _opened_of(opened).key.value()
-        except FileNotFoundError:
-            return ""
+    if path:
+        with _open(_place(key, path), KEY_QUERY_VALUE) as opened:
+            return QueryValue(opened, None)
+    try:
+        kind, data = _opened_of(key).key.value()
+    except FileNotFoundError:
+        return ""
     if kind != REG_SZ:
         raise _error(INVALID_DATA)
     return str(from_data(data, kind))
@@ -447,7 +452,8 @@ def QueryValueEx(key: _KeyType, name: Optional[str], /) -> Tuple[Value, int]:
 def SaveKey(key: _KeyType, file_name: str, /) -> None:
     """Makes a file with a key and all that is below it. FileExistsError where one is there.
 
-    Of a mount's root it is the image of its hive, of another key that of a copy. What is mounted below it isn't part of it.
+    Of a mount's root it is the image of its hive. Of another key it is that of a copy, which has no classes of keys, nor the marks by which
+    some may not be deleted. What is mounted below a key isn't part of either.
     """
     file = _text(file_name, "SaveKey", "file_name", needed=True)
     opened = _opened_of(key)
@@ -475,8 +481,9 @@ def SetValue(key: _KeyType, sub_key: Optional[str], type: int, value: str, /) ->
 def SetValueEx(key: _KeyType, value_name: Optional[str], reserved: Any, type: int, value: Any, /) -> None:
     """Sets a value to a type, and to data that is made of an object as that type has it."""
     name = _text(value_name, "SetValueEx", "value_name")
+    kind = _kind(type)
     place = _to_change(_place(key, ""))
-    place.key.set(name, type, to_data(value, type))
+    place.key.set(name, kind, to_data(value, kind))
 
 
 def DisableReflectionKey(key: _KeyType, /) -> None:
@@ -530,8 +537,19 @@ def _index(index: int) -> int:
     return index & 0xFFFFFFFF
 
 
+def _kind(kind: int) -> int:
+    if kind < 0:
+        raise ValueError("value must be positive")
+    if kind >= 1 << 32:
+        raise OverflowError("Python int too large to convert to C unsigned long")
+    return kind
+
+
 def _mask(access: int) -> int:
     """The rights of a mask: those that stand for others are mapped, and those that choose a view of the registry dropped."""
+    # As a C int it may be negative, too.
+    if not -(1 << 31) <= access < 1 << 32:
+        raise OverflowError("Python int too large to convert to C int")
     mask = access & 0xFFFFFFFF & ~(KEY_WOW64_64KEY | KEY_WOW64_32KEY)
     for bit, rights in _STANDS_FOR.items():
         if mask & bit:
@@ -565,6 +583,12 @@ def _root_number(number: int) -> Optional[int]:
     if number >> 32 == 0:
         number |= 0xFFFFFFFF << 32
     return number if number in _mounts else None
+
+
+def _root_itself(key: Any, sub_key: Optional[str]) -> Optional[HKEYType]:
+    """The handle of a root, where a call gives a root and None. A root stays open, so it is no handle more."""
+    number = _key_number(key)
+    return HKEYType(number) if sub_key is None and _root_number(number) is not None else None
 
 
 def _root(number: int) -> int:
@@ -621,6 +645,8 @@ def _to_change(place: _Place) -> _Place:
 
 def _opened_as(place: _Place, key: Key) -> HKEYType:
     number = next(_numbers)
+    while _root_number(number) is not None:
+        number = next(_numbers)
     _opened[number] = _Opened(place.mount, key, place.names)
     return HKEYType(number)
 
@@ -660,7 +686,7 @@ def _delete(key: Any, path: str) -> None:
 def _is_mount_at_or_below(place: _Place) -> bool:
     folded = _fold(place.names)
     mounts = _mounts[place.mount._root]
-    return any(at and at[: len(folded)] == folded for at in mounts)
+    return any(at and at[: len(folded)] == folded for at in list(mounts))
 
 
 def _mounted_below(opened: _Opened) -> List[str]:
@@ -695,5 +721,9 @@ def _mount_at(root: int, names: Tuple[str, ...], file: Optional[_files.Path], cr
         with Hive.new() as made:
             made.save(file)
     hive = Hive.new() if file is None else Hive.open(file, read_only=read_only)
-    mounts[folded] = Mount(root, names, hive, not read_only)
-    return mounts[folded]
+    mounted = Mount(root, names, hive, not read_only)
+    # Another thread may have come before.
+    if mounts.setdefault(folded, mounted) is not mounted:
+        hive.close()
+        raise _error(_c.ALREADY_EXISTS)
+    return mounted

@@ -18,6 +18,11 @@ const MODE_BITS: u32 = 0o7777;
 const RUNNER_BITS: u32 = 0o6000;
 const GROUP_BITS: u32 = 0o070;
 
+/// The mode of a file that its owner alone may open, and that of one that is made, less what the
+/// program takes from all it makes.
+const OWN_MODE: u32 = 0o600;
+const MADE_MODE: u32 = 0o666;
+
 /// A file that is open and locked, so that one at a time edits it.
 pub struct HeldFile {
     path: PathBuf,
@@ -51,19 +56,23 @@ impl HeldFile {
         Ok(bytes)
     }
 
-    /// Puts another file in this one's place, with its owner, group and permissions.
-    ///
-    /// After an error the file is as it was. Only where the folder couldn't be synced the new one
-    /// stands there.
+    /// Puts another file in this one's place, with its owner, group and permissions. After an error
+    /// the file is as it was.
     pub fn replace(&mut self, write: impl FnOnce(&File) -> Result<()>) -> Result<()> {
         self.check()?;
-        let (name, file) = create_beside(&self.path)?;
+        // Nobody but its owner may open it before it has the rights of the other.
+        let (name, file) = create_beside(&self.path, OWN_MODE)?;
         if let Err(error) = self.fill_and_rename(&name, &file, write) {
             // What is reported is why the file wasn't saved.
             let _ = fs::remove_file(&name);
             return Err(error);
         }
         self.file = file;
+        Ok(())
+    }
+
+    /// Has the system keep that another file was put in the place of the first.
+    pub fn sync_folder(&self) -> Result<()> {
         sync_folder(&self.path)
     }
 
@@ -97,14 +106,51 @@ impl HeldFile {
     }
 }
 
-/// Makes a file, anew: [`Status::ALREADY_EXISTS`] where one is there. After an error there is none.
+/// Makes a file, anew: [`Status::ALREADY_EXISTS`] where one is there.
+///
+/// It is written under another name, so that no part of it is found at its path, even where the
+/// program is killed. After an error there is none. Only where the folder couldn't be synced it
+/// stands there.
 pub fn make(path: &Path, write: impl FnOnce(&File) -> Result<()>) -> Result<()> {
-    let file = File::create_new(path)?;
-    if let Err(error) = write(&file).and_then(|()| Ok(file.sync_all()?)) {
-        let _ = fs::remove_file(path);
+    // What decides is the move. This saves the writing, and comes before what else is refused.
+    if fs::symlink_metadata(path).is_ok() {
+        return Err(std::io::Error::from(ErrorKind::AlreadyExists).into());
+    }
+    let (name, file) = create_beside(path, MADE_MODE)?;
+    let made = write(&file)
+        .and_then(|()| Ok(file.sync_all()?))
+        .and_then(|()| move_to_free(&name, path));
+    if let Err(error) = made {
+        // What is reported is why the file wasn't made.
+        let _ = fs::remove_file(&name);
         return Err(error);
     }
     sync_folder(path)
+}
+
+/// Moves a file to a path where nothing is.
+fn move_to_free(name: &Path, path: &Path) -> Result<()> {
+    match fs::hard_link(name, path) {
+        Ok(()) => {
+            // The file stands where it should, also if it keeps the other name.
+            let _ = fs::remove_file(name);
+            Ok(())
+        }
+        Err(error) if error.kind() == ErrorKind::AlreadyExists => Err(error.into()),
+        // Some file systems have no hard links.
+        Err(_) => move_over_empty(name, path),
+    }
+}
+
+/// The same without a link: an empty file takes the path, and the other one its place. A program
+/// that is killed between the two leaves the empty one.
+fn move_over_empty(name: &Path, path: &Path) -> Result<()> {
+    File::create_new(path)?;
+    if let Err(error) = fs::rename(name, path) {
+        let _ = fs::remove_file(path);
+        return Err(error.into());
+    }
+    Ok(())
 }
 
 fn lock(file: &File) -> Result<()> {
@@ -114,8 +160,8 @@ fn lock(file: &File) -> Result<()> {
     })
 }
 
-/// Makes a file beside a path, anew, that nobody but its owner may open.
-fn create_beside(path: &Path) -> Result<(PathBuf, File)> {
+/// Makes a file beside a path, anew, with a mode.
+fn create_beside(path: &Path, mode: u32) -> Result<(PathBuf, File)> {
     let mut number = 0_u64;
     loop {
         let mut name = OsString::from(path);
@@ -123,7 +169,7 @@ fn create_beside(path: &Path) -> Result<(PathBuf, File)> {
         match OpenOptions::new()
             .write(true)
             .create_new(true)
-            .mode(0o600)
+            .mode(mode)
             .open(&name)
         {
             Ok(file) => return Ok((name.into(), file)),
@@ -183,19 +229,75 @@ mod tests {
         entries.map(|entry| entry.unwrap().file_name()).collect()
     }
 
+    /// A folder of a test's own, which is removed behind it.
+    fn in_folder(name: &str, test: impl FnOnce(&Path)) {
+        let folder = env::temp_dir().join(format!("zugmeled-{name}-{}", process::id()));
+        fs::create_dir(&folder).unwrap();
+        test(&folder);
+        fs::remove_dir_all(&folder).unwrap();
+    }
+
     #[test]
     fn what_fails_leaves_no_file() {
-        let folder = env::temp_dir().join(format!("zugmeled-file-{}", process::id()));
-        let path = folder.join("a");
-        fs::create_dir(&folder).unwrap();
-        let refused = make(&path, fail).unwrap_err();
-        assert_eq!(refused.status(), Status::NOT_ENOUGH_MEMORY);
-        assert!(names(&folder).is_empty());
-        fs::write(&path, "before").unwrap();
-        let refused = HeldFile::open(&path).unwrap().replace(fail).unwrap_err();
-        assert_eq!(refused.status(), Status::NOT_ENOUGH_MEMORY);
-        assert_eq!(names(&folder), ["a"]);
-        assert_eq!(fs::read(&path).unwrap(), b"before");
-        fs::remove_dir_all(&folder).unwrap();
+        in_folder("fails", |folder| {
+            let path = folder.join("a");
+            let refused = make(&path, fail).unwrap_err();
+            assert_eq!(refused.status(), Status::NOT_ENOUGH_MEMORY);
+            assert!(names(folder).is_empty());
+            fs::write(&path, "before").unwrap();
+            let refused = HeldFile::open(&path).unwrap().replace(fail).unwrap_err();
+            assert_eq!(refused.status(), Status::NOT_ENOUGH_MEMORY);
+            assert_eq!(names(folder), ["a"]);
+            assert_eq!(fs::read(&path).unwrap(), b"before");
+        });
+    }
+
+    #[test]
+    fn a_file_takes_its_path_once_it_is_whole() {
+        in_folder("whole", |folder| {
+            let path = folder.join("a");
+            make(&path, |mut file| {
+                file.write_all(b"begun")?;
+                assert!(!path.exists());
+                Ok(file.write_all(b", ended")?)
+            })
+            .unwrap();
+            assert_eq!(fs::read(&path).unwrap(), b"begun, ended");
+            assert_eq!(names(folder), ["a"]);
+        });
+    }
+
+    #[test]
+    fn a_file_that_is_there_is_kept() {
+        in_folder("there", |folder| {
+            let (path, name) = (folder.join("a"), folder.join("b"));
+            fs::write(&path, "before").unwrap();
+            let refused = make(&path, |_| panic!("nothing is written")).unwrap_err();
+            assert_eq!(refused.status(), Status::ALREADY_EXISTS);
+            let came = folder.join("c");
+            let refused = make(&came, |_| Ok(fs::write(&came, "meanwhile")?)).unwrap_err();
+            assert_eq!(refused.status(), Status::ALREADY_EXISTS);
+            assert_eq!(fs::read(&came).unwrap(), b"meanwhile");
+            fs::remove_file(&came).unwrap();
+            assert_eq!(names(folder), ["a"]);
+            fs::write(&name, "other").unwrap();
+            let refused = move_over_empty(&name, &path).unwrap_err();
+            assert_eq!(refused.status(), Status::ALREADY_EXISTS);
+            assert_eq!(fs::read(&path).unwrap(), b"before");
+        });
+    }
+
+    #[test]
+    fn without_links_a_file_takes_its_path_too() {
+        in_folder("links", |folder| {
+            let (path, name) = (folder.join("a"), folder.join("b"));
+            fs::write(&name, "whole").unwrap();
+            move_over_empty(&name, &path).unwrap();
+            assert_eq!(fs::read(&path).unwrap(), b"whole");
+            assert_eq!(names(folder), ["a"]);
+            let refused = move_over_empty(&name, &folder.join("c")).unwrap_err();
+            assert_eq!(refused.status(), Status::FILE_NOT_FOUND);
+            assert_eq!(names(folder), ["a"]);
+        });
     }
 }

@@ -267,7 +267,8 @@ impl Hive {
         Ok(image)
     }
 
-    /// Writes the bytes of [`Hive::image`], without having all of them in memory.
+    /// Writes the bytes of [`Hive::image`], without having all of them in memory, and flushes the
+    /// writer.
     ///
     /// # Errors
     /// What the writer says; [`Status::INVALID_PARAMETER`] where the writer changes the hive;
@@ -284,7 +285,8 @@ impl Hive {
             writer.write_all(part)?;
             offset += length;
         }
-        Ok(())
+        // A writer that is dropped with bytes in it has nobody to tell that they weren't written.
+        Ok(writer.flush()?)
     }
 
     /// Saves the hive to its own file: another one is written beside it, synced, and put in its
@@ -299,13 +301,16 @@ impl Hive {
         let file = file.as_mut().ok_or(Status::INVALID_HANDLE)?;
         file.replace(|file| self.write_image(file))?;
         self.sequence.set(self.next_sequence());
-        Ok(())
+        file.sync_folder()
     }
 
     /// Makes another file with the hive. The hive keeps its own, if it has one.
     ///
+    /// The file is written beside its path under another name, and takes its own once it is whole.
+    ///
     /// # Errors
-    /// [`Status::ALREADY_EXISTS`] where one is there; what the system says. No file is there then.
+    /// [`Status::ALREADY_EXISTS`] where one is there; what the system says. No file is made then;
+    /// only where the folder couldn't be synced it stands there.
     pub fn save_as(&self, path: impl AsRef<Path>) -> Result<()> {
         file::make(path.as_ref(), |file| self.write_image(file))
     }

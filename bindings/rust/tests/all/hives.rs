@@ -1,7 +1,7 @@
 //! Hives made and loaded, their images and their journals.
 
 use crate::{new_hive, refused, MOMENT};
-use std::io::{self, Write};
+use std::io::{self, BufWriter, Write};
 use std::mem;
 use zugmeled::{
     library_version, Clock, Entries, Fault, Hive, Moment, Rights, Status, EMPTY_SECURITY,
@@ -123,6 +123,29 @@ fn what_a_writer_says_is_the_error_of_its_image() {
         }
     }
     assert_eq!(refused(new_hive().write_image(Full)), Status::DISK_FULL);
+}
+
+#[test]
+fn what_a_writer_holds_back_is_written_with_its_image() {
+    struct Disk(usize);
+    impl Write for Disk {
+        fn write(&mut self, bytes: &[u8]) -> io::Result<usize> {
+            if self.0 == 0 {
+                return Err(io::ErrorKind::StorageFull.into());
+            }
+            let written = bytes.len().min(self.0);
+            self.0 -= written;
+            Ok(written)
+        }
+        fn flush(&mut self) -> io::Result<()> {
+            Ok(())
+        }
+    }
+    let hive = new_hive();
+    let size = hive.image().unwrap().len();
+    let over = |room| BufWriter::with_capacity(2 * size, Disk(room));
+    assert!(hive.write_image(over(size)).is_ok());
+    assert_eq!(refused(hive.write_image(over(size - 1))), Status::DISK_FULL);
 }
 
 #[test]
