@@ -107,12 +107,13 @@ static size_t place(const image *it) {
     return at;
 }
 
-/* A word that a test may go by: none, all, the least and greatest numbers, sizes and offsets of cells. */
+/* A word that a test may go by: the least and greatest numbers, sizes, offsets of cells, and another word of the image. */
 static uint32_t telling_word(const image *it) {
     static const uint32_t words[] = {0, 1, 0xFFFFFFFFu, 0x7FFFFFFFu, 0x80000000u, 0x80000004u, 32, 4096, 0xFFFFFFF8u, 0xFFFF, 512, 60000};
-    if (below(2))
+    size_t other = place(it) & ~(size_t)3;
+    if (below(3) == 0)
         return words[below(sizeof words / sizeof *words)];
-    return (uint32_t)below(it->length) & ~7u;
+    return below(2) || it->length - other < 4 ? (uint32_t)below(it->length) & ~7u : word_at(it, other);
 }
 
 /* Copies a piece of at most 64 bytes to another place. */
@@ -148,13 +149,13 @@ static void change(image *it, size_t room) {
         return;
     case 4:
     case 5:
+    case 6:
         put_word(it, at & ~(size_t)3, telling_word(it));
         return;
-    case 6:
+    case 7:
         at &= ~(size_t)3;
         put_word(it, at, it->length - at < 4 ? 0 : word_at(it, at) + (uint32_t)below(17) - 8);
         return;
-    case 7:
     case 8:
     case 9:
         it->at[at] ^= (uint8_t)(1u << below(8));
@@ -244,14 +245,14 @@ static void look_at_security(zug_hive *hive, uint64_t handle, uint32_t length) {
 /* Goes through a key and all below it, and answers how many keys that are. */
 static uint64_t walk(zug_hive *hive, uint64_t handle) {
     zug_info info;
-    uint8_t name[255], none[1];
-    uint32_t size = 0, kind = 0;
+    uint8_t name[255], data[1];
+    uint32_t size = 0, kind = 0, data_size = 0;
     uint64_t time = 0, below_it = 0, keys = 1;
     IS(zug_query_info(hive, 0, handle, &info), 0);
     look_at_security(hive, handle, info.security);
     for (uint32_t index = 0; index < info.values; index++)
         look_at_value(hive, handle, &info, index);
-    IS(zug_enum_value(hive, 0, handle, info.values, name, 255, &size, none, 1, &kind, &size), ZUG_NO_MORE_ITEMS);
+    IS(zug_enum_value(hive, 0, handle, info.values, name, 255, &size, data, 1, &kind, &data_size), ZUG_NO_MORE_ITEMS);
     for (uint32_t index = 0; index < info.subkeys; index++) {
         IS(zug_enum_key(hive, 0, handle, index, name, info.longest_key, &size, &time), 0);
         IS(zug_open_key(hive, 0, MOMENT, handle, name, size, ZUG_ALL_ACCESS, &below_it), 0);
