@@ -1,6 +1,5 @@
 """What tries the library by programs in C: where it is, and how these are compiled with it."""
 import os
-import subprocess
 import tempfile
 from contextlib import contextmanager
 from glob import glob
@@ -19,7 +18,7 @@ FLAGS = {"every_export": REFUSING, "hostile": REFUSING}
 UNDER = {
     "": (["-O2"], []),
     "asan": (["-O1", "-g", "-fsanitize=address,undefined", "-fno-sanitize-recover=all"], []),
-    "valgrind": (["-O1", "-g"], ["valgrind", "-q", "--leak-check=full", "--show-leak-kinds=all", "--error-exitcode=9"]),
+    "valgrind": (["-O1", "-g"], ["valgrind", "-q", "--leak-check=full", "--show-leak-kinds=all", "--errors-for-leak-kinds=all", "--error-exitcode=9"]),
 }
 
 
@@ -51,11 +50,5 @@ def put(behind_the_gate=False):
 def compiled(folder, name, *flags):
     """Compiles a program of bindings/c with the library in a folder, and answers its path there."""
     program = f"{folder}/{name}"
-    words = [COMPILER, *ISO_C, *flags, f"-I{folder}", f"{PROGRAMS}/{name}.c", f"{folder}/lib{library.NAME}.a", *FLAGS.get(name, []), "-o", program]
-    try:
-        ran = subprocess.run(words, stdin=subprocess.DEVNULL, stdout=subprocess.PIPE, stderr=subprocess.STDOUT, text=True)
-    except FileNotFoundError:
-        raise Untried(f"there is no C compiler: {COMPILER} isn't on the path") from None
-    if ran.returncode:
-        raise Untried(f"{name}.c isn't compiled:\n{ran.stdout}")
+    library.run(COMPILER, *ISO_C, *flags, f"-I{folder}", f"{PROGRAMS}/{name}.c", f"{folder}/lib{library.NAME}.a", *FLAGS.get(name, []), "-o", program)
     return program

@@ -14,7 +14,10 @@ DIST = f"{TOP}/dist"
 
 def run(*words, folder=None):
     """Runs a command, which has to end well."""
-    done = subprocess.run(words, cwd=folder, stdout=subprocess.PIPE, stderr=subprocess.STDOUT, text=True)
+    try:
+        done = subprocess.run(words, cwd=folder, stdout=subprocess.PIPE, stderr=subprocess.STDOUT, text=True)
+    except FileNotFoundError:
+        raise Untried(f"{words[0]} isn't on the path") from None
     if done.returncode:
         raise Untried(f"{' '.join(words)} ended with {done.returncode}:\n{done.stdout}")
 

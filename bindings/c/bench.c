@@ -11,7 +11,6 @@
 #include <string.h>
 #include <time.h>
 
-#define TEXT(text) (const uint8_t *)(text), sizeof(text) - 1
 #define PARENTS 204u
 #define KEYS 98u
 #define MOMENT 133000000000000000u
@@ -22,6 +21,9 @@ static zug_hive hive;
 static char names[KEYS][8];
 static size_t lengths[KEYS];
 static uint64_t handles[KEYS];
+
+/* The name of the value that is set and asked for, of five bytes. */
+static const char *value = "Value";
 
 static void must(uint32_t status) {
     if (status) {
@@ -78,7 +80,7 @@ static void open_and_close(uint64_t parent) {
 
 static void set(uint64_t parent) {
     for (unsigned key = 0; key < KEYS; key++)
-        must(zug_set_value(&hive, 0, MOMENT, handles[key], TEXT("Value"), 4, (const uint8_t *)&parent, 4));
+        must(zug_set_value(&hive, 0, MOMENT, handles[key], (const uint8_t *)value, 5, 4, (const uint8_t *)&parent, 4));
 }
 
 static void query(uint64_t parent) {
@@ -86,7 +88,7 @@ static void query(uint64_t parent) {
     uint32_t kind, size;
     (void)parent;
     for (unsigned key = 0; key < KEYS; key++)
-        must(zug_query_value(&hive, 0, handles[key], TEXT("Value"), room, sizeof room, &kind, &size));
+        must(zug_query_value(&hive, 0, handles[key], (const uint8_t *)value, 5, room, sizeof room, &kind, &size));
 }
 
 static void enumerate(uint64_t parent) {
@@ -125,32 +127,58 @@ static void calls(void) {
     measure("set a new value", set, parents, true);
     measure("set a value", set, parents, true);
     measure("query a value", query, parents, true);
+    value = "Other";
+    measure("set a second value", set, parents, true);
+    value = "Third";
+    measure("set a third value", set, parents, true);
+    value = "Other";
+    measure("set one of three values", set, parents, true);
+    measure("query one of three values", query, parents, true);
     measure("enumerate a key", enumerate, parents, false);
 }
 
-/* ---- A walk ---- */
+/* ---- A walk, by paths ---- */
+
+#define ROWS 256u
 
 static uint64_t keys, values;
 
-static void walk(uint64_t key) {
-    static uint8_t value_name[16383], data[1048576];
-    uint8_t name[255];
-    uint32_t name_size, size, kind;
-    uint64_t time, child;
+static void go_through_values(const uint8_t *path, size_t length, uint32_t there) {
+    static zug_value rows[ROWS];
+    static uint8_t room[1048576 + 16383];
+    uint32_t count;
+    for (uint32_t at = 0; at < there; at += count) {
+        must(zug_values_at(&hive, path, length, at, rows, ROWS, room, sizeof room, &count));
+        values += count;
+    }
+}
+
+/* A key with all below it. Behind its path there is place for the names of those. */
+static void walk(uint8_t *path, size_t length, uint32_t subkeys, uint32_t its_values) {
+    uint8_t *below = path + length;
+    zug_subkey rows[ROWS];
+    uint8_t room[ROWS * 32];
+    uint32_t count;
     keys += 1;
-    for (uint32_t at = 0; zug_enum_value(&hive, 0, key, at, value_name, sizeof value_name, &name_size, data, sizeof data, &kind, &size) == 0; at++)
-        values += 1;
-    for (uint32_t at = 0; zug_enum_key(&hive, 0, key, at, name, sizeof name, &name_size, &time) == 0; at++) {
-        must(zug_open_key(&hive, 0, MOMENT, key, name, name_size, ZUG_QUERY_VALUE | ZUG_ENUMERATE_SUB_KEYS, &child));
-        walk(child);
-        must(zug_close(&hive, 0, MOMENT, child));
+    go_through_values(path, length, its_values);
+    if (length)
+        *below++ = '\\';
+    for (uint32_t at = 0; at < subkeys; at += count) {
+        const uint8_t *name = room;
+        must(zug_subkeys_at(&hive, path, length, at, rows, ROWS, room, sizeof room, &count));
+        for (uint32_t key = 0; key < count; name += rows[key++].name_size) {
+            memcpy(below, name, rows[key].name_size);
+            walk(path, (size_t)(below - path) + rows[key].name_size, rows[key].subkeys, rows[key].values);
+        }
     }
 }
 
 static void walk_all(void) {
-    uint64_t root;
-    must(zug_open_root(&hive, 0, MOMENT, ZUG_ALL_ACCESS, &root));
-    walk(root);
+    static uint8_t path[ZUG_PATH_LIMIT * (ZUG_KEY_NAME_LIMIT + 1)];
+    zug_subkey root;
+    uint8_t name[ZUG_KEY_NAME_LIMIT];
+    must(zug_key_at(&hive, path, 0, &root, name, sizeof name));
+    walk(path, 0, root.subkeys, root.values);
     printf("%" PRIu64 " keys %" PRIu64 " values\n", keys, values);
 }
 

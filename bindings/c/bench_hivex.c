@@ -22,6 +22,9 @@ static hive_h *hive;
 static char names[KEYS][8];
 static hive_node_h nodes[KEYS];
 
+/* The name of the value that is set and asked for. */
+static const char *value = "Value";
+
 static void must(bool is_well) {
     if (!is_well) {
         perror("hivex");
@@ -48,9 +51,9 @@ static void open_and_close(hive_node_h parent) {
 }
 
 static void set(hive_node_h parent) {
-    hive_set_value value = {"Value", hive_t_dword, 4, (char *)&parent};
+    hive_set_value given = {(char *)value, hive_t_dword, 4, (char *)&parent};
     for (unsigned key = 0; key < KEYS; key++)
-        must(hivex_node_set_value(hive, nodes[key], &value, 0) == 0);
+        must(hivex_node_set_value(hive, nodes[key], &given, 0) == 0);
 }
 
 static void query(hive_node_h parent) {
@@ -58,7 +61,7 @@ static void query(hive_node_h parent) {
     size_t size;
     (void)parent;
     for (unsigned key = 0; key < KEYS; key++) {
-        char *data = hivex_value_value(hive, hivex_node_get_value(hive, nodes[key], "Value"), &type, &size);
+        char *data = hivex_value_value(hive, hivex_node_get_value(hive, nodes[key], value), &type, &size);
         must(data != NULL);
         free(data);
     }
@@ -102,6 +105,13 @@ static void calls(void) {
     measure("set a new value", set, parents, true);
     measure("set a value", set, parents, true);
     measure("query a value", query, parents, true);
+    value = "Other";
+    measure("set a second value", set, parents, true);
+    value = "Third";
+    measure("set a third value", set, parents, true);
+    value = "Other";
+    measure("set one of three values", set, parents, true);
+    measure("query one of three values", query, parents, true);
     measure("enumerate a key", enumerate, parents, false);
 }
 

@@ -5,7 +5,8 @@
  *
  * A change is of a byte, a bit or a word, or moves a piece, or cuts or lengthens the image. Three quarters of the images have the checksum
  * mended, so that a change of the base block gets past it. Of one in 16 memory is refused from some request on. Each load answers 0, 8, or
- * 1017 with a fault from 2 to 13; 8 only where memory was refused. Where it is refused the zug_hive holds no hive. Where it succeeds the hive's image is taken in parts and loaded: that hive has the same image. Then every key
+ * 1017 with a fault from 2 to 13; 8 only where memory was refused. Where it doesn't succeed the zug_hive holds no hive. Where it does, the
+ * hive's image is taken in parts and loaded: that hive has the same image, but for the links of free cells (docs/FORMAT.md). Then each key
  * and value is gone through, a value is set, and the image loads again.
  *
  * Each image has a seed of its own, from SEED (0: one of the clock) on. The program ends with status 1 at the first that is answered
@@ -205,19 +206,45 @@ static image image_of(zug_hive *hive) {
     return whole;
 }
 
-/* The image of a hive loads, and to a hive with that image. */
-static void loads_again(zug_hive *hive) {
-    zug_hive other = {0};
+/* The links of free cells, which are the first four bytes of what these hold, are written over: a load lists the cells anew. */
+static void drop_links(image *it) {
+    for (size_t bin = BLOCK, size; bin < it->length; bin += size) {
+        size = word_at(it, bin + 8);
+        for (size_t cell = bin + 32, length; cell < bin + size; cell += length) {
+            uint32_t word = word_at(it, cell);
+            length = word & 0x80000000u ? 0u - word : word;
+            if (length == word)
+                put_word(it, cell + 4, 0xFFFFFFFFu);
+        }
+    }
+}
+
+static void are_same(const image *one, const image *other) {
+    IS(one->length, other->length);
+    IS(memcmp(one->at, other->at, one->length), 0);
+}
+
+/* The image of the hive that an image loads to. */
+static image image_again(const image *it) {
+    zug_hive hive = {0};
     uint8_t fault = 99;
-    image first = image_of(hive);
-    IS(zug_hive_load(&other, first.at, first.length, &fault), 0);
+    IS(zug_hive_load(&hive, it->at, it->length, &fault), 0);
     IS(fault, 0);
-    image second = image_of(&other);
-    IS(first.length, second.length);
-    IS(memcmp(first.at, second.at, first.length), 0);
-    zug_hive_close(&other);
+    image whole = image_of(&hive);
+    zug_hive_close(&hive);
+    return whole;
+}
+
+/* The image of a hive loads, to a hive with that image but for the links of free cells, and with these too from the second on. */
+static void loads_again(zug_hive *hive) {
+    image first = image_of(hive), second = image_again(&first), third = image_again(&second);
+    are_same(&second, &third);
+    drop_links(&first);
+    drop_links(&second);
+    are_same(&first, &second);
     free(first.at);
     free(second.at);
+    free(third.at);
 }
 
 /* The value at an index of a key, asked for by its index and by its name. */
