@@ -22,6 +22,11 @@ static char names[KEYS][8];
 static size_t lengths[KEYS];
 static uint64_t handles[KEYS];
 
+/* The names of the parents, and which is at work. */
+static char parent_names[PARENTS][16];
+static size_t parent_lengths[PARENTS];
+static unsigned present;
+
 /* The name of the value that is set and asked for, of five bytes. */
 static const char *value = "Value";
 
@@ -99,12 +104,22 @@ static void enumerate(uint64_t parent) {
         must(zug_enum_key(&hive, 0, parent, key, room, sizeof room, &size, &time));
 }
 
+static void list(uint64_t parent) {
+    zug_subkey rows[KEYS];
+    uint8_t room[KEYS * sizeof names[0]];
+    uint32_t count;
+    (void)parent;
+    must(zug_subkeys_at(&hive, (const uint8_t *)parent_names[present], parent_lengths[present], 0, rows, KEYS, room, sizeof room, &count));
+    must(count != KEYS);
+}
+
 /* Does something with the keys below each parent, whose handles are open meanwhile where it needs them. */
 static void measure(const char *what, void (*does)(uint64_t), const uint64_t *parents, bool needs_handles) {
     uint64_t took = 0;
     for (unsigned at = 0; at < PARENTS; at++) {
         for (unsigned key = 0; needs_handles && key < KEYS; key++)
             handles[key] = opened(parents[at], key);
+        present = at;
         uint64_t begun = nanoseconds();
         does(parents[at]);
         took += nanoseconds() - begun;
@@ -116,12 +131,13 @@ static void measure(const char *what, void (*does)(uint64_t), const uint64_t *pa
 
 static void calls(void) {
     uint64_t root, parents[PARENTS];
-    char name[16];
     must(zug_open_root(&hive, 0, MOMENT, ZUG_ALL_ACCESS, &root));
     for (unsigned key = 0; key < KEYS; key++)
         lengths[key] = (size_t)snprintf(names[key], sizeof names[key], "Key%u", key);
-    for (unsigned at = 0; at < PARENTS; at++)
-        parents[at] = made(root, name, (size_t)snprintf(name, sizeof name, "Parent%u", at));
+    for (unsigned at = 0; at < PARENTS; at++) {
+        parent_lengths[at] = (size_t)snprintf(parent_names[at], sizeof parent_names[at], "Parent%u", at);
+        parents[at] = made(root, parent_names[at], parent_lengths[at]);
+    }
     measure("make a key", make, parents, false);
     measure("open and close a key", open_and_close, parents, false);
     measure("set a new value", set, parents, true);
@@ -135,6 +151,7 @@ static void calls(void) {
     measure("set one of three values", set, parents, true);
     measure("query one of three values", query, parents, true);
     measure("enumerate a key", enumerate, parents, false);
+    measure("list a key by its path", list, parents, false);
 }
 
 /* ---- A walk, by paths ---- */

@@ -113,6 +113,7 @@ static void calls(void) {
     measure("set one of three values", set, parents, true);
     measure("query one of three values", query, parents, true);
     measure("enumerate a key", enumerate, parents, false);
+    measure("list a key by its path", enumerate, parents, false);
 }
 
 /* ---- A walk ---- */
