@@ -23,6 +23,8 @@ SOURCES = ("src", "specs", "proofs")
 MEMORY = 3_000_000_000
 # The fewest and the most jobs of one check. With one alone processors are idle while others wait for the library.
 FEWEST, JOBS = 2, 4
+# The niceness of the check that most stands behind, and of the others.
+FIRST, OTHERS = 0, 10
 
 
 class Failed(Exception):
@@ -144,6 +146,17 @@ def started(folder, log, *words):
         return subprocess.Popen(["rt", *words], cwd=folder, stdin=subprocess.DEVNULL, stdout=out, stderr=out, start_new_session=True)
 
 
+def yields(command, niceness):
+    """Sets how much the session of a command yields to others, where Linux shares processors by session."""
+    try:
+        with open(f"/proc/{command.pid}/autogroup", "r+", encoding="utf-8") as group:
+            if not group.read().rstrip().endswith(f" nice {niceness}"):
+                group.write(str(niceness))
+    except OSError:
+        # It has ended, or Linux counts no sessions here.
+        pass
+
+
 def stop(commands, rooms):
     """Ends commands that run, and waits at most 10 seconds until nothing that they started works in the rooms."""
     for it in commands:
@@ -190,8 +203,8 @@ class Build:
         every = repository.crates()
         self.uses = {it: every[it] for it in repository.below([program])}
         self.count, self.done, self.begun = len(self.uses) + 1, [], time.monotonic()
-        behind = chains(self.uses)
-        self.left = sorted(self.uses, key=lambda it: -behind[it])
+        self.behind = chains(self.uses)
+        self.left = sorted(self.uses, key=lambda it: -self.behind[it])
         self.running = {}
 
     def is_ready(self, crate):
@@ -205,13 +218,27 @@ class Build:
             if idle < 1:
                 return
             jobs = max(FEWEST, min(JOBS, idle // (len(ready) - at)))
-            if self.running and sum(taken(it) for _, it in self.running.values()) + taken(jobs) > self.memory:
+            if self.has_longest_chain(crate) and self.has_memory(JOBS):
+                jobs = JOBS
+            if self.running and not self.has_memory(jobs):
                 return
             room = Room(self.rooms, crate)
             self.left.remove(crate)
             self.running[crate] = room, jobs
             room.fill()
             room.start(jobs)
+
+    def has_memory(self, jobs):
+        return sum(taken(it) for _, it in self.running.values()) + taken(jobs) <= self.memory
+
+    def has_longest_chain(self, crate):
+        """Whether no library that is being built has a longer chain behind it."""
+        return all(self.behind[it] <= self.behind[crate] for it in self.running)
+
+    def weigh(self):
+        """Lets the others yield the processors to the library with the longest chain behind it."""
+        for crate, (room, _) in self.running.items():
+            yields(room.command, FIRST if self.has_longest_chain(crate) else OTHERS)
 
     def end(self):
         """Takes what has been built. Raises `Failed` at a library that wasn't."""
@@ -234,6 +261,7 @@ class Build:
         try:
             while self.left or self.running:
                 self.begin()
+                self.weigh()
                 time.sleep(0.1)
                 self.end()
         finally:
