@@ -11,8 +11,8 @@
  *     zug_hive_close(&hive);
  *
  * Status. Each function but zug_version and zug_hive_close answers a status of Win32: 0 is success. Under each stands which others come.
- * 6 comes where the zug_hive holds no hive, 87 where the session is 64 or above, both before all else that a call tests. 8 comes where
- * memory was refused: for a copy of what was given, before all else, or in place of a success that needed some. No call ends the process.
+ * 6 comes where the zug_hive holds no hive, 87 where the session is 64 or above, both before all else. 8 comes where memory was refused:
+ * for a copy of what was given, before all else that a call tests, or in place of a success that needed some. No call ends the process.
  *
  * What goes out. A call that answers another status than 0 changes nothing of the hive, sets each number that it hands out to 0, and leaves
  * each room, a buffer of yours, as it was. Only 234 and 122 tell a size, and 234 a type, or the first row of several. With 0 a room has the

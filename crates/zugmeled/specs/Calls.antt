@@ -43,13 +43,23 @@ IsAsked (Some hive) session query body =
     ((SESSIONS_LIMIT ≤ session) × (body ≡ Refused INVALID_PARAMETER))
     ⊎ ((session < SESSIONS_LIMIT) × IsRead (asks hive) (state (seen hive)) session query body)
 
--- before that, 8 where there is no memory for a copy of what is given, of which there is some; then nothing changes
+-- where there is no memory for a copy of what is given, of which there is some, nothing changes: with no hive 6, else of a session from 64
+-- on 87, else 8
+abbrev pub IsLack : Option HeldHive → ℕ → ℕ → Type 0
+IsLack None session status = status ≡ INVALID_HANDLE
+IsLack (Some hive) session status =
+    ((SESSIONS_LIMIT ≤ session) × (status ≡ INVALID_PARAMETER))
+    ⊎ ((session < SESSIONS_LIMIT) × (status ≡ NOT_ENOUGH_MEMORY))
+
+-- a change, or a question, is answered, or lacks that copy
 abbrev pub IsReplied : List ℕ → Option HeldHive → Option HeldHive → ℕ → ℕ → Change → ChangeReply → Type 0
 IsReplied given old new session moment change reply =
-    ((given ≢ []) × (reply ≡ refusal NOT_ENOUGH_MEMORY) × (new ≡ old)) ⊎ IsChanged old new session moment change reply
+    ((given ≢ []) × (status : ℕ) × IsLack old session status × (reply ≡ refusal status) × (new ≡ old))
+    ⊎ IsChanged old new session moment change reply
 
 abbrev pub IsAnswered : List ℕ → Option HeldHive → ℕ → Query → AnswerBody → Type 0
-IsAnswered given hive session query body = ((given ≢ []) × (body ≡ Refused NOT_ENOUGH_MEMORY)) ⊎ IsAsked hive session query body
+IsAnswered given hive session query body =
+    ((given ≢ []) × (status : ℕ) × IsLack hive session status × (body ≡ Refused status)) ⊎ IsAsked hive session query body
 
 -- so a call tells what it tells of that reply, or of that answer
 abbrev pub Replies : List ℕ → Option HeldHive → Option HeldHive → ℕ → ℕ → Change → (ChangeReply → Type 0) → Type 0

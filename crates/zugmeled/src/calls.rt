@@ -1,9 +1,8 @@
 //! The calls of the rules, answered by the hive that C holds.
-ghost use Rattle.std.specs.Prelude.{◌≡◌, ◌≢◌, IfOk, OnErr};
+ghost use Rattle.std.specs.Prelude.{◌≡◌, ℕ, IfOk, OnErr};
 ghost use Rattle.reg_model.specs.Replies.{refusal};
-ghost use Rattle.reg_model.specs.declared.statuses.TheConstants.{NOT_ENOUGH_MEMORY};
 ghost use Rattle.reg_model.specs.declared.answer.AnswerBody.TheVariants.{Refused};
-ghost use Rattle.zugmeled.specs.Calls.{IsChanged, IsAsked};
+ghost use Rattle.zugmeled.specs.Calls.{IsChanged, IsAsked, IsLack};
 
 use crate::hive::ZugHive;
 use reg_model::limits::SESSIONS_LIMIT;
@@ -45,6 +44,21 @@ pub(crate) fn change(
     reply
 }
 
+/// The status by which a call is refused where a copy of what it was given lacks memory.
+pub(crate) fn lack(alloc: Global, hive: &mut ZugHive, session: u8) -> u32
+    ensures same { hive.new.held.value ≡ hive.old.held.value }
+    ensures lack { IsLack hive.old.held.value session result }
+{
+    let Some(held) = hive.take(alloc) else {
+        return INVALID_HANDLE;
+    };
+    hive.put(held);
+    if session as usize >= SESSIONS_LIMIT {
+        return INVALID_PARAMETER;
+    }
+    NOT_ENOUGH_MEMORY
+}
+
 /// Answers a change that was made, or refuses one for want of memory.
 pub(crate) fn change_if(
     alloc: Global,
@@ -54,11 +68,12 @@ pub(crate) fn change_if(
     made: Result<Change, AllocError>,
 ) -> ChangeReply
     ensures made { IfOk made (λ change. IsChanged hive.old.held.value hive.new.held.value session moment change result) }
-    ensures lack { OnErr made ((result ≡ refusal NOT_ENOUGH_MEMORY) × (hive.new.held.value ≡ hive.old.held.value)) }
+    ensures lack { OnErr made ((status : ℕ) × IsLack hive.old.held.value session status × (result ≡ refusal status)
+        × (hive.new.held.value ≡ hive.old.held.value)) }
 {
     match made {
         Ok(made) => change(alloc, hive, session, moment, made),
-        Err(_) => refused(NOT_ENOUGH_MEMORY),
+        Err(_) => refused(lack(alloc, hive, session)),
     }
 }
 
@@ -92,12 +107,12 @@ pub(crate) fn ask_if(
 ) -> AnswerBody
     ensures same { hive.new.held.value ≡ hive.old.held.value }
     ensures made { IfOk made (λ query. IsAsked hive.old.held.value session query result) }
-    ensures lack { OnErr made (result ≡ Refused NOT_ENOUGH_MEMORY) }
+    ensures lack { OnErr made ((status : ℕ) × IsLack hive.old.held.value session status × (result ≡ Refused status)) }
 {
     match made {
         Ok(query) => ask(alloc, hive, session, &query),
         Err(_) => AnswerBody::Refused {
-            status: NOT_ENOUGH_MEMORY,
+            status: lack(alloc, hive, session),
         },
     }
 }

@@ -1,18 +1,19 @@
 //! The refusal that a change would meet.
 ghost use Rattle.std.specs.Prelude.{◌≡◌, ◌≢◌, ◌⊎◌, ◌<◌, ◌++◌, [], Ok, Some, IfOk, OnErr, IsErr};
 ghost use Rattle.reg_model.specs.declared.limits.TheConstants.{SESSIONS_LIMIT};
-ghost use Rattle.reg_model.specs.declared.statuses.TheConstants.{NOT_ENOUGH_MEMORY};
+ghost use Rattle.zugmeled.specs.Calls.{IsLack};
 ghost use Rattle.zugmeled.specs.Causes.{cause_at, IsCause, IsCauseOf};
 ghost use Rattle.zugmeled.specs.Makers.{change_of};
 ghost use Rattle.zugmeled.specs.Told.{or_zero};
 
+use crate::calls::lack;
 use crate::hive::ZugHive;
 use crate::makers;
 use reg_callbacks::NoCallback;
 use reg_calls::SeatedHive;
 use reg_model::Change;
 use reg_model::limits::SESSIONS_LIMIT;
-use reg_model::statuses::{INVALID_HANDLE, INVALID_PARAMETER, NOT_ENOUGH_MEMORY};
+use reg_model::statuses::{INVALID_HANDLE, INVALID_PARAMETER};
 use std::alloc::{AllocError, Global};
 
 fn some(made: Result<Change, AllocError>) -> Result<Option<Change>, AllocError>
@@ -132,11 +133,11 @@ pub extern "C" fn zug_cause(
     below: bool,
 ) -> u32
     ensures same { hive.new.held.value ≡ hive.old.held.value }
-    ensures told { ((result ≡ NOT_ENOUGH_MEMORY) × (text.now ++ bytes.now ≢ []))
+    ensures told { ((text.now ++ bytes.now ≢ []) × IsLack hive.old.held.value session result)
         ⊎ IsCause hive.old.held.value session moment (change_of change handle text.now number bytes.now below) result }
 {
     match made(alloc, change, handle, text, number, bytes, below) {
         Ok(made) => cause(alloc, hive, session, moment, made),
-        Err(_) => NOT_ENOUGH_MEMORY,
+        Err(_) => lack(alloc, hive, session),
     }
 }
