@@ -7,6 +7,7 @@ out/, where `rt` finds it later.
 """
 import fcntl
 import os
+import re
 import shutil
 import subprocess
 import sys
@@ -23,8 +24,10 @@ SOURCES = ("src", "specs", "proofs")
 MEMORY = 3_000_000_000
 # The fewest and the most jobs of one check. With one alone processors are idle while others wait for the library.
 FEWEST, JOBS = 2, 4
-# The niceness of the check that most stands behind, and of the others.
-FIRST, OTHERS = 0, 10
+# The seconds of a crate that docs/COSTS.md has none of.
+UNKNOWN = 60
+# The niceness of the checks with the longest chains behind them, those of at least this part of the longest one, and that of the others.
+LONG, FIRST, OTHERS = 0.8, 0, 10
 
 
 class Failed(Exception):
@@ -52,17 +55,17 @@ def checks_at_once():
     return max(1, min(len(os.sched_getaffinity(0)), int(0.85 * free_memory() / taken(FEWEST))))
 
 
-def size_of(crate):
-    """The bytes of a crate's sources."""
-    walked = [(at, name) for part in SOURCES for at, _, names in os.walk(f"{folder_of(crate)}/{part}") for name in names]
-    return sum(os.path.getsize(f"{at}/{name}") for at, name in walked)
+def seconds():
+    """The processor time of the proofs of each crate, in seconds, by the rows of docs/COSTS.md: all that it costs but its edits."""
+    with open(f"{TOP}/docs/COSTS.md", encoding="utf-8") as page:
+        return {name: int(all) - int(edits) for name, all, edits in re.findall(r"^\| (\w+) \| (\d+) \| (\d+) \|$", page.read(), re.M)}
 
 
-def chains(uses):
-    """How much is proved one after another, from each crate on to the top. `uses` goes from the lowest on."""
+def chains(uses, took):
+    """The seconds that are proved one after another from each crate on to the top. `uses` goes from the lowest on."""
     behind = {it: 0 for it in uses}
     for it in reversed(list(uses)):
-        behind[it] += size_of(it)
+        behind[it] += took.get(it, UNKNOWN)
         for library in uses[it]:
             behind[library] = max(behind[library], behind[it])
     return behind
@@ -203,7 +206,7 @@ class Build:
         every = repository.crates()
         self.uses = {it: every[it] for it in repository.below([program])}
         self.count, self.done, self.begun = len(self.uses) + 1, [], time.monotonic()
-        self.behind = chains(self.uses)
+        self.behind = chains(self.uses, seconds())
         self.left = sorted(self.uses, key=lambda it: -self.behind[it])
         self.running = {}
 
@@ -218,7 +221,7 @@ class Build:
             if idle < 1:
                 return
             jobs = max(FEWEST, min(JOBS, idle // (len(ready) - at)))
-            if self.has_longest_chain(crate) and self.has_memory(JOBS):
+            if self.has_long_chain(crate) and self.has_memory(JOBS):
                 jobs = JOBS
             if self.running and not self.has_memory(jobs):
                 return
@@ -231,14 +234,14 @@ class Build:
     def has_memory(self, jobs):
         return sum(taken(it) for _, it in self.running.values()) + taken(jobs) <= self.memory
 
-    def has_longest_chain(self, crate):
-        """Whether no library that is being built has a longer chain behind it."""
-        return all(self.behind[it] <= self.behind[crate] for it in self.running)
+    def has_long_chain(self, crate):
+        """Whether the chain behind a library is about as long as that behind each library that is being built."""
+        return all(LONG * self.behind[it] <= self.behind[crate] for it in self.running)
 
     def weigh(self):
-        """Lets the others yield the processors to the library with the longest chain behind it."""
+        """Lets the others yield the processors to the libraries with the longest chains behind them."""
         for crate, (room, _) in self.running.items():
-            yields(room.command, FIRST if self.has_longest_chain(crate) else OTHERS)
+            yields(room.command, FIRST if self.has_long_chain(crate) else OTHERS)
 
     def end(self):
         """Takes what has been built. Raises `Failed` at a library that wasn't."""
