@@ -58,7 +58,7 @@ def checks_at_once():
 def seconds():
     """The processor time of the proofs of each crate, in seconds, by the rows of docs/COSTS.md: all that it costs but its edits."""
     with open(f"{TOP}/docs/COSTS.md", encoding="utf-8") as page:
-        return {name: int(all) - int(edits) for name, all, edits in re.findall(r"^\| (\w+) \| (\d+) \| (\d+) \|$", page.read(), re.M)}
+        return {name: int(whole) - int(edits) for name, whole, edits in re.findall(r"^\| (\w+) \| (\d+) \| (\d+) \|$", page.read(), re.M)}
 
 
 def chains(uses, took):
