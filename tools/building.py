@@ -221,18 +221,13 @@ class Build:
             if idle < 1:
                 return
             jobs = max(FEWEST, min(JOBS, idle // (len(ready) - at)))
-            if self.has_long_chain(crate) and self.has_memory(JOBS):
-                jobs = JOBS
-            if self.running and not self.has_memory(jobs):
+            if self.running and sum(taken(it) for _, it in self.running.values()) + taken(jobs) > self.memory:
                 return
             room = Room(self.rooms, crate)
             self.left.remove(crate)
             self.running[crate] = room, jobs
             room.fill()
             room.start(jobs)
-
-    def has_memory(self, jobs):
-        return sum(taken(it) for _, it in self.running.values()) + taken(jobs) <= self.memory
 
     def has_long_chain(self, crate):
         """Whether the chain behind a library is about as long as that behind each library that is being built."""
