@@ -7,7 +7,6 @@ out/, where `rt` finds it later.
 """
 import fcntl
 import os
-import re
 import shutil
 import subprocess
 import sys
@@ -24,10 +23,6 @@ SOURCES = ("src", "specs", "proofs")
 MEMORY = 3_000_000_000
 # The fewest and the most jobs of one check. With one alone processors are idle while others wait for the library.
 FEWEST, JOBS = 2, 4
-# The seconds of a crate that docs/COSTS.md has none of.
-UNKNOWN = 60
-# The niceness of the checks with the longest chains behind them, those of at least this part of the longest one, and that of the others.
-LONG, FIRST, OTHERS = 0.8, 0, 10
 
 
 class Failed(Exception):
@@ -55,17 +50,17 @@ def checks_at_once():
     return max(1, min(len(os.sched_getaffinity(0)), int(0.85 * free_memory() / taken(FEWEST))))
 
 
-def seconds():
-    """The processor time of the proofs of each crate, in seconds, by the rows of docs/COSTS.md: all that it costs but its edits."""
-    with open(f"{TOP}/docs/COSTS.md", encoding="utf-8") as page:
-        return {name: int(whole) - int(edits) for name, whole, edits in re.findall(r"^\| (\w+) \| (\d+) \| (\d+) \|$", page.read(), re.M)}
+def size_of(crate):
+    """The bytes of a crate's sources."""
+    walked = [(at, name) for part in SOURCES for at, _, names in os.walk(f"{folder_of(crate)}/{part}") for name in names]
+    return sum(os.path.getsize(f"{at}/{name}") for at, name in walked)
 
 
-def chains(uses, took):
-    """The seconds that are proved one after another from each crate on to the top. `uses` goes from the lowest on."""
+def chains(uses):
+    """How much is proved one after another, from each crate on to the top. `uses` goes from the lowest on."""
     behind = {it: 0 for it in uses}
     for it in reversed(list(uses)):
-        behind[it] += took.get(it, UNKNOWN)
+        behind[it] += size_of(it)
         for library in uses[it]:
             behind[library] = max(behind[library], behind[it])
     return behind
@@ -149,17 +144,6 @@ def started(folder, log, *words):
         return subprocess.Popen(["rt", *words], cwd=folder, stdin=subprocess.DEVNULL, stdout=out, stderr=out, start_new_session=True)
 
 
-def yields(command, niceness):
-    """Sets how much the session of a command yields to others, where Linux shares processors by session."""
-    try:
-        with open(f"/proc/{command.pid}/autogroup", "r+", encoding="utf-8") as group:
-            if not group.read().rstrip().endswith(f" nice {niceness}"):
-                group.write(str(niceness))
-    except OSError:
-        # It has ended, or Linux counts no sessions here.
-        pass
-
-
 def stop(commands, rooms):
     """Ends commands that run, and waits at most 10 seconds until nothing that they started works in the rooms."""
     for it in commands:
@@ -206,8 +190,8 @@ class Build:
         every = repository.crates()
         self.uses = {it: every[it] for it in repository.below([program])}
         self.count, self.done, self.begun = len(self.uses) + 1, [], time.monotonic()
-        self.behind = chains(self.uses, seconds())
-        self.left = sorted(self.uses, key=lambda it: -self.behind[it])
+        behind = chains(self.uses)
+        self.left = sorted(self.uses, key=lambda it: -behind[it])
         self.running = {}
 
     def is_ready(self, crate):
@@ -228,15 +212,6 @@ class Build:
             self.running[crate] = room, jobs
             room.fill()
             room.start(jobs)
-
-    def has_long_chain(self, crate):
-        """Whether the chain behind a library is about as long as that behind each library that is being built."""
-        return all(LONG * self.behind[it] <= self.behind[crate] for it in self.running)
-
-    def weigh(self):
-        """Lets the others yield the processors to the libraries with the longest chains behind them."""
-        for crate, (room, _) in self.running.items():
-            yields(room.command, FIRST if self.has_long_chain(crate) else OTHERS)
 
     def end(self):
         """Takes what has been built. Raises `Failed` at a library that wasn't."""
@@ -259,7 +234,6 @@ class Build:
         try:
             while self.left or self.running:
                 self.begin()
-                self.weigh()
                 time.sleep(0.1)
                 self.end()
         finally:
