@@ -1,4 +1,5 @@
 pub mod AskedWords
+pub mod ChangeWords
 pub mod CommandLineRows
 pub mod CommandShapes
 pub mod PlaceLemmas

@@ -1,0 +1,5 @@
+pub mod EscapedWords
+pub mod TurnedWords
+pub mod Digits
+pub mod WideTexts
+pub mod Pieces

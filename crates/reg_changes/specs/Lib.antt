@@ -1,0 +1,2 @@
+pub mod ChangeWords
+pub mod ChangeLines
