@@ -5,7 +5,7 @@ use Rattle.reg_text.specs.Failures.{Stays}
 use Rattle.reg_model.specs.Callbacks.{Callbacks, no_callbacks}
 use Rattle.reg_calls.specs.Views.{View, IsHive}
 use Rattle.reg_calls.specs.HiveView.{view_of}
-use Rattle.reg_changes.specs.declared.change.KeyChange.{KeyChange}
+use Rattle.reg_words.specs.declared.typed.change.KeyChange.{KeyChange}
 use Rattle.reg_dotreg_reader.specs.declared.entry.Entry.{Entry}
 use Rattle.reg_dotreg_reader.specs.declared.entry.Numbered.{Numbered}
 use Rattle.reg_dotreg_import.specs.Imports.{imported, entries_of}

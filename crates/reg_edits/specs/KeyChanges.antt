@@ -12,8 +12,8 @@ use Rattle.reg_model.specs.Callbacks.{no_callbacks}
 use Rattle.reg_tree_image.specs.Loads.{MeetsFault, IsBlamed}
 use Rattle.reg_calls.specs.Views.{View, IsHive}
 use Rattle.reg_calls.specs.HiveView.{view_of}
-use Rattle.reg_changes.specs.declared.change.KeyChange.{KeyChange}
-use Rattle.reg_changes.specs.declared.change.KeyChange.TheVariants as change
+use Rattle.reg_words.specs.declared.typed.change.KeyChange.{KeyChange}
+use Rattle.reg_words.specs.declared.typed.change.KeyChange.TheVariants as change
 use Rattle.reg_dotreg_reader.specs.declared.entry.Entry.{Entry}
 use Rattle.reg_dotreg_reader.specs.declared.entry.Entry.TheVariants.{Key, GoneKey, Value, GoneValue}
 use Rattle.reg_dotreg_reader.specs.declared.entry.Numbered.{Numbered}

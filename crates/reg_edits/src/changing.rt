@@ -12,12 +12,12 @@ use crate::hindrances::{Hindrance, what_hinders};
 use crate::loading::{LoadedHive, load_seated};
 use reg_callbacks::Callback;
 use reg_calls::{Hive, SeatedHive};
-use reg_changes::KeyChange;
 use reg_dotreg_import::ImportFault;
 use reg_dotreg_reader::{Entry, Numbered};
 use reg_image::LoadFault;
 use reg_model::Bytes;
 use reg_text::Source;
+use reg_words::KeyChange;
 use std::alloc::{AllocError, Global};
 
 /// What ended a change before there was anything to save.

@@ -7,9 +7,9 @@ ghost use Rattle.reg_heap.specs.Members.{value_named};
 ghost use Rattle.reg_edits.specs.KeyChanges.{has_key as has_key_at, has_subkeys as has_subkeys_at, has_value as has_value_at, parent_of};
 ghost use Rattle.reg_edits.specs.KeyChanges.{unless, hinders_key, hinders_value, hinders_going_value, hinders_going_key, hindrance_of};
 
-use reg_changes::KeyChange;
 use reg_names::check_path;
 use reg_tree::Tree;
+use reg_words::KeyChange;
 
 /// Why a change isn't made, though the rules might allow its calls.
 #[derive(Clone, Copy, Debug, PartialEq, Eq)]

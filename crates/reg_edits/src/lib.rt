@@ -3,7 +3,7 @@
 //!
 //! Its one contract: [`edit`] answers just the hive that a script leaves of a file's, with its moment, the next sequence number and
 //! whether it is to be saved; [`import`] the same of the entries of a .reg text, and [`change`] of one change; and [`fresh_hive`] makes a hive
-//! of one root. It stands on reg_script, which runs scripts, on reg_dotreg_reader and reg_dotreg_import, on reg_changes, which has what a
+//! of one root. It stands on reg_script, which runs scripts, on reg_dotreg_reader and reg_dotreg_import, on reg_words, which has what a
 //! change asks for, and on reg_image, which loads the hive. Its types are [`Edited`], [`EditFault`], [`ImportEnd`], [`ChangeEnd`] with
 //! [`Hindrance`], and [`FreshFault`].
 //!

@@ -2,8 +2,8 @@
 use Rattle.std.proofs.Common.{◌≡◌, ◌∙◌, ℕ, Bool, true, false, List, Option, inl, inr, refl, sym, ap, subst}
 use Rattle.std.specs.Prelude.{◌&&◌, Result, Ok, Err, OnOk, IfErr}
 use Rattle.reg_words.specs.declared.request.EditRequest.{EditRequest}
-use Rattle.reg_changes.specs.ChangeLines.{told as line_of}
-use Rattle.reg_changes.specs.declared.change.KeyChange.{KeyChange}
+use Rattle.reg_words.specs.ChangeLines.{told as line_of}
+use Rattle.reg_words.specs.declared.typed.change.KeyChange.{KeyChange}
 use Rattle.reg_edits.specs.KeyChanges.{Changes}
 use Rattle.reg_edits.specs.declared.edits.Edited.{Edited}
 use Rattle.reg_files.specs.Serving.{IsCutShort, IsGiven, Tells, ChangesFile, StopsChanging}

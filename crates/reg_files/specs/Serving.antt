@@ -29,8 +29,8 @@ use Rattle.reg_queries.specs.declared.fault.QueryFault.{QueryFault}
 use Rattle.reg_queries.specs.declared.fault.FindFault.{FindFault}
 use Rattle.reg_queries.specs.declared.fault.DiffFault.{DiffFault}
 use Rattle.reg_queries.specs.declared.fault.ExportEnd.{ExportEnd}
-use Rattle.reg_changes.specs.ChangeLines.{told as line_of}
-use Rattle.reg_changes.specs.declared.change.KeyChange.{KeyChange}
+use Rattle.reg_words.specs.ChangeLines.{told as line_of}
+use Rattle.reg_words.specs.declared.typed.change.KeyChange.{KeyChange}
 use Rattle.reg_edits.specs.Edits.{Edits, EditStops}
 use Rattle.reg_edits.specs.KeyChanges.{Changes}
 use Rattle.reg_edits.specs.TextImports.{Imports, ImportEnds}

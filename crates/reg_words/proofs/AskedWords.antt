@@ -10,8 +10,8 @@ use Rattle.clap.specs.Walk.{row_text}
 use Rattle.clap.specs.declared.parser.matches.Found.{Found}
 use Rattle.clap.proofs.WalkLemmas.{first_value-rows, one_text-rows, raw_values-rows}
 use Rattle.reg_words.specs.StreamLines.{AreBothGiven, IsGiven, IsHiveCount, IsNumber}
-use Rattle.reg_changes.specs.declared.change.KeyChange.{KeyChange}
-use Rattle.reg_changes.specs.declared.change.KeyChange.TheVariants.{CreateKey, SetValue, DeleteValue, DeleteKey}
+use Rattle.reg_words.specs.declared.typed.change.KeyChange.{KeyChange}
+use Rattle.reg_words.specs.declared.typed.change.KeyChange.TheVariants.{CreateKey, SetValue, DeleteValue, DeleteKey}
 use Rattle.reg_words.specs.CommandLines.{IsMoment, IsSet, Asks, AsksToBegin, AsksToEdit, AsksToChange, AsksForForm, AsksForPlaces, places_asked}
 use Rattle.reg_words.specs.Internal.Commands.{IsFound, IsOther}
 use Rattle.reg_words.proofs.StreamWords.{apart, stream_word, stream_named, stream_apart, other_stream, no_running, no_stream_of_both, no_working}

@@ -3,8 +3,8 @@ use Rattle.std.proofs.Common.{◌≡◌, List, ℕ, codes, refl, subst, map}
 use Rattle.std.specs.Prelude.{Option, Some, None}
 use Rattle.clap.specs.Words.{Row, Text}
 use Rattle.reg_words.specs.StreamLines.{AsksOfStream}
-use Rattle.reg_changes.specs.declared.change.KeyChange.{KeyChange}
-use Rattle.reg_changes.specs.declared.change.KeyChange.TheVariants.{CreateKey, SetValue, DeleteValue, DeleteKey}
+use Rattle.reg_words.specs.declared.typed.change.KeyChange.{KeyChange}
+use Rattle.reg_words.specs.declared.typed.change.KeyChange.TheVariants.{CreateKey, SetValue, DeleteValue, DeleteKey}
 use Rattle.reg_words.specs.CommandLines.{found_in, AsksToChange, Asks, AsksIn, AsksNoStream, HasBothOptions, IsCommandLine}
 use Rattle.reg_words.specs.Internal.Commands.{stream_of}
 use Rattle.reg_words.specs.declared.request.StreamRequest.{StreamRequest}

@@ -5,9 +5,9 @@ use Rattle.clap.specs.Words.{App, Kinds, Row, Rule, Text, all_of, fault_of, firs
 use Rattle.clap.specs.Lexer.{usize_max}
 use Rattle.clap.specs.declared.builder.action.ArgAction.TheVariants as action
 use Rattle.clap.specs.declared.builder.value_parser.ValueParser.TheVariants as parser
-use Rattle.reg_changes.specs.ChangeWords.{path_in, name_in, value_in}
-use Rattle.reg_changes.specs.declared.change.KeyChange.{KeyChange}
-use Rattle.reg_changes.specs.declared.change.KeyChange.TheVariants.{CreateKey, SetValue, DeleteValue, DeleteKey}
+use Rattle.reg_words.specs.ChangeWords.{path_in, name_in, value_in}
+use Rattle.reg_words.specs.declared.typed.change.KeyChange.{KeyChange}
+use Rattle.reg_words.specs.declared.typed.change.KeyChange.TheVariants.{CreateKey, SetValue, DeleteValue, DeleteKey}
 use Rattle.reg_words.specs.PlaceLists.{places_in}
 use Rattle.reg_words.specs.StreamLines.{AsksOfStream, GivesBoth}
 use Rattle.reg_words.specs.declared.request.EditRequest.{EditRequest}

@@ -7,8 +7,8 @@ ghost use Rattle.reg_words.specs.Internal.Commands.{IsFound, IsOther};
 
 use crate::Request;
 use crate::asked::{edit_request, is_set};
+use crate::typed::{Contents, KeyChange, read_name, read_path, read_value};
 use clap::ArgMatches;
-use reg_changes::{Contents, KeyChange, read_name, read_path, read_value};
 use std::alloc::{AllocError, Global};
 
 /// The path of the key that is changed; `None` where there is none, which `clap` doesn't take.

@@ -2,8 +2,12 @@
 //!
 //! Its contract: [`read_words`] tells of words exactly what they ask for, as `specs/CommandLines.antt` says it by `clap`'s own
 //! words, or that they ask for nothing, with the cause ([`WordsFault`]); [`read_stream_words`] does so for what is asked of the standard
-//! streams alone. It stands on `clap`, and on reg_changes, which reads the words of a change. Its types are [`Request`] and what that holds: [`StreamRequest`] with [`HiveCount`],
-//! [`EditRequest`] with [`Begin`], [`Places`] and [`Form`].
+//! streams alone; [`told`] is just the line that tells a change, as `specs/ChangeLines.antt` has it. It stands on `clap`, and on reg_text,
+//! which writes names and data. Its types are [`Request`] and what that holds: [`StreamRequest`] with [`HiveCount`], [`EditRequest`] with
+//! [`Begin`], [`KeyChange`] with [`Contents`], [`Places`] and [`Form`].
+//!
+//! `command` is the command as `clap` reads it; `asked` and `changes` say what its matches ask for, `places` reads where a pattern is searched
+//! for, `typed` a change, and `reasons` says which word isn't understood.
 #![tactic(auto)]
 
 mod asked;
@@ -13,6 +17,7 @@ mod fault;
 mod places;
 mod reasons;
 mod request;
+mod typed;
 
 ghost use Rattle.std.specs.Prelude.{◌≡◌, IfOk, IfErr};
 ghost use Rattle.clap.specs.Words.{app_of};
@@ -29,6 +34,7 @@ use clap::{ArgMatches, Command, Error};
 pub use fault::WordsFault;
 pub use request::{Begin, EditRequest, Form, HiveCount, Places, Request, StreamRequest};
 use std::alloc::Global;
+pub use typed::{Contents, KeyChange, told};
 
 /// The error of words that `clap` takes though they ask for nothing that is served, told in its own manner.
 fn refusal(command: &mut Command<'_>, text: &str) -> Error {

@@ -1,8 +1,8 @@
 //! Which of the words isn't understood, where `clap` takes them though they ask for nothing.
 
 use crate::asked::begin_asked;
+use crate::typed::value_fault;
 use clap::ArgMatches;
-use reg_changes::value_fault;
 use std::alloc::{AllocError, Global};
 
 /// Of `set`: what is wrong with the type and the data.

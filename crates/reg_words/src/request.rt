@@ -2,7 +2,7 @@
 
 ghost use Rattle.std.specs.Prelude.{◌≤◌};
 
-use reg_changes::KeyChange;
+use crate::typed::KeyChange;
 
 /// A number of hives.
 #[derive(Clone, Copy, Debug, PartialEq, Eq)]

@@ -2,7 +2,7 @@ use Rattle.std.proofs.Common.{◌∙◌, ap, codes}
 use Rattle.std.specs.Prelude.{option_map}
 use Rattle.clap.specs.Words.{found_of, rows_of}
 use Rattle.reg_words.proofs.AskedWords.{first_is}
-use Rattle.reg_words.proofs.ChangeWords.{no_type}
+use Rattle.reg_words.proofs.AskedChanges.{no_type}
 use Rattle.reg_words.proofs.changes.contents_asked.Goals as goal
 
 pub contents_of-requires : goal.contents_of-requires

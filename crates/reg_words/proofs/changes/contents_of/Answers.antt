@@ -3,7 +3,7 @@ use Rattle.std.specs.Prelude.{option_map, unwrap_or}
 use Rattle.std.proofs.lemmas.Result.{IfOk-weaker}
 use Rattle.clap.specs.Words.{found_of, rows_of}
 use Rattle.reg_words.proofs.AskedWords.{all_is}
-use Rattle.reg_words.proofs.ChangeWords.{contents_found}
+use Rattle.reg_words.proofs.AskedChanges.{contents_found}
 use Rattle.reg_words.proofs.changes.contents_of.Goals as goal
 
 pub returns-in-Some : goal.returns-in-Some

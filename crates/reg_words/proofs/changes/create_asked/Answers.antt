@@ -1,7 +1,7 @@
 use Rattle.std.proofs.Common.{refl}
 use Rattle.clap.specs.Words.{found_of, rows_of}
 use Rattle.reg_words.specs.CommandLines.{AsksForKey}
-use Rattle.reg_words.proofs.ChangeWords.{is_given, not_given, no_key, no_create}
+use Rattle.reg_words.proofs.AskedChanges.{is_given, not_given, no_key, no_create}
 use Rattle.reg_words.proofs.changes.create_asked.Goals as goal
 
 pub returns-in-Some : goal.returns-in-Some

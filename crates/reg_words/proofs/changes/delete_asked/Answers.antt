@@ -1,6 +1,6 @@
 use Rattle.clap.specs.Words.{found_of, rows_of}
 use Rattle.reg_words.specs.CommandLines.{AsksForKey}
-use Rattle.reg_words.proofs.ChangeWords.{is_given, not_given, no_key, no_delete}
+use Rattle.reg_words.proofs.AskedChanges.{is_given, not_given, no_key, no_delete}
 use Rattle.reg_words.proofs.changes.delete_asked.Goals as goal
 
 pub delete_of-requires-clause-path : goal.delete_of-requires-clause-path

@@ -1,7 +1,7 @@
 use Rattle.std.proofs.Common.{refl}
 use Rattle.clap.specs.Words.{found_of, rows_of}
 use Rattle.reg_words.specs.CommandLines.{AsksForName}
-use Rattle.reg_words.proofs.ChangeWords.{is_given, not_given, no_delete_of_both}
+use Rattle.reg_words.proofs.AskedChanges.{is_given, not_given, no_delete_of_both}
 use Rattle.reg_words.proofs.changes.delete_of.Goals as goal
 
 pub returns-in-None : goal.returns-in-None

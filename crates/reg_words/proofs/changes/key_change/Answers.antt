@@ -1,7 +1,7 @@
 use Rattle.std.proofs.Common.{codes, rules}
 use Rattle.std.proofs.lemmas.Result.{IfOk-weaker}
 use Rattle.clap.specs.Words.{found_of, rows_of}
-use Rattle.reg_words.proofs.ChangeWords.{change_so, no_change}
+use Rattle.reg_words.proofs.AskedChanges.{change_so, no_change}
 use Rattle.reg_words.proofs.changes.key_change.Goals as goal
 
 pub returns-then-eq : goal.returns-then-eq

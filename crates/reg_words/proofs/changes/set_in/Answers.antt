@@ -1,6 +1,6 @@
 use Rattle.clap.specs.Words.{found_of, rows_of}
 use Rattle.reg_words.specs.CommandLines.{AsksForName}
-use Rattle.reg_words.proofs.ChangeWords.{is_given, not_given, no_name, no_set}
+use Rattle.reg_words.proofs.AskedChanges.{is_given, not_given, no_name, no_set}
 use Rattle.reg_words.proofs.changes.set_in.Goals as goal
 
 pub set_of-requires-clause-name : goal.set_of-requires-clause-name

@@ -1,7 +1,7 @@
 use Rattle.std.proofs.Common.{refl}
 use Rattle.clap.specs.Words.{found_of, rows_of}
 use Rattle.reg_words.proofs.AskedWords.{found_there, never_found}
-use Rattle.reg_words.proofs.ChangeWords.{no_set}
+use Rattle.reg_words.proofs.AskedChanges.{no_set}
 use Rattle.reg_words.proofs.changes.set_of.Goals as goal
 
 pub returns-in-Some : goal.returns-in-Some

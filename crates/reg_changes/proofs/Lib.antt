@@ -1,5 +1,0 @@
-pub mod EscapedWords
-pub mod TurnedWords
-pub mod Digits
-pub mod WideTexts
-pub mod Pieces

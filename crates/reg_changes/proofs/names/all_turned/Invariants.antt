@@ -1,6 +1,0 @@
-use Rattle.std.proofs.Common.{◌≡◌, ◌++◌, drop, map}
-use Rattle.reg_changes.specs.ChangeWords.{turned}
-use Rattle.reg_changes.proofs.names.all_turned.Given as goal
-
-abbrev pub invariant-loop-byte : goal.invariant-loop-byte
-invariant-loop-byte l = l.bytes.items ++ map turned (drop l.byte-index l.word) ≡ map turned l.word

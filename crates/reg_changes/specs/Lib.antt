@@ -1,2 +1,0 @@
-pub mod ChangeWords
-pub mod ChangeLines
