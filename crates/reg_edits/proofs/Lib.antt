@@ -5,4 +5,6 @@ pub mod KeptByCalls
 pub mod LoadSteps
 pub mod EditSteps
 pub mod ImportSteps
+pub mod ParentPaths
+pub mod ChangeSteps
 pub mod InputReads

@@ -1,2 +1,3 @@
 pub mod Edits
+pub mod KeyChanges
 pub mod TextImports

@@ -1,4 +1,5 @@
 mod CheckedFiles
+mod ChangedFiles
 mod EditedFiles
 mod Outcomes
 mod Statuses

@@ -13,7 +13,7 @@ use Rattle.reg_words.specs.declared.request.Begin.TheVariants.{Now, At}
 use Rattle.reg_words.specs.declared.request.StreamRequest.{StreamRequest}
 use Rattle.reg_words.specs.declared.request.StreamRequest.TheVariants as stream
 use Rattle.reg_words.specs.declared.request.Request.{Request}
-use Rattle.reg_words.specs.declared.request.Request.TheVariants.{Stream, Dump, Check, Listing, Get, Find, Diff, Export, New, Edit, Import}
+use Rattle.reg_words.specs.declared.request.Request.TheVariants.{Stream, Dump, Check, Listing, Get, Find, Diff, Export, New, Edit, Import, Change}
 use Rattle.reg_text.specs.Failures.{IsUntouched}
 use Rattle.reg_command.specs.Failures.{Does, Stops, EndsEarly, IsSaid, IsStopSaid}
 use Rattle.reg_command.specs.declared.failure.Stop.{Stop}
@@ -29,7 +29,10 @@ use Rattle.reg_queries.specs.declared.fault.QueryFault.{QueryFault}
 use Rattle.reg_queries.specs.declared.fault.FindFault.{FindFault}
 use Rattle.reg_queries.specs.declared.fault.DiffFault.{DiffFault}
 use Rattle.reg_queries.specs.declared.fault.ExportEnd.{ExportEnd}
+use Rattle.reg_words.specs.ChangeLines.{told as line_of}
+use Rattle.reg_words.specs.declared.typed.change.KeyChange.{KeyChange}
 use Rattle.reg_edits.specs.Edits.{Edits, EditStops}
+use Rattle.reg_edits.specs.KeyChanges.{Changes}
 use Rattle.reg_edits.specs.TextImports.{Imports, ImportEnds}
 use Rattle.reg_edits.specs.declared.edits.Edited.{Edited}
 use Rattle.reg_edits.specs.declared.edits.EditFault.{EditFault}
@@ -168,6 +171,17 @@ abbrev pub Enters : EditRequest → (unread left : Option (List ℕ)) → Type 0
 Enters edit unread left =
     OfFile (λ file file_left. (begin : ℕ) × (edited : Edited) × IsGiven edit.begin begin × Imports begin edited file file_left unread left)
 
+-- a line was written, or isn't to be, and nothing was
+abbrev pub Tells : (is_told : Bool) → (line : List ℕ) → (before after : Option (List ℕ)) → Type 0
+Tells true line before after = Appends before after line
+Tells false line before after = after ≡ before
+
+-- a change was made in the hive in some file; of a dry run its line was written, where it would have been saved
+abbrev pub ChangesFile : EditRequest → KeyChange → (before after : Option (List ℕ)) → Type 0
+ChangesFile edit change before after =
+    OfFile (λ file file_left. (begin : ℕ) × (edited : Edited) × IsGiven edit.begin begin × Changes begin change edited file file_left
+    × Tells (edit.dry_run && edited.is_changed) (line_of change) before after)
+
 -- why a key wasn't listed, or not to the end: the file wasn't opened, and nothing was written; or what ended it. Here and below `cut` says
 -- whether that was a failed write of the output
 abbrev pub StopsListing : (cut is_look : Bool) → (path : List ℕ) → (is_tree : Bool) → (before after : Option (List ℕ)) → Type 0
@@ -240,6 +254,12 @@ StopsImporting edit unread left =
     × ImportEnds fault begin file file_left unread left))
     ⊎ Enters edit unread left
 
+-- why a change didn't end well: it wasn't begun, or not made, or saving it was refused, and nothing was written; or its line wasn't, or not to
+-- the end
+abbrev pub StopsChanging : KeyChange → (cut : Bool) → (before after : Option (List ℕ)) → Type 0
+StopsChanging change cut before after =
+    ((cut ≡ false) × (after ≡ before)) ⊎ ((cut ≡ true) × IsCutShort (line_of change) before after)
+
 -- what a request did with the input and the output, where the status is 0: one of the standard streams was answered; an edit ran the script
 -- on the hive in some file, and no line failed; a key or a value of some file's tree was written, or each of some files counted; and all but
 -- the first two and an import read nothing
@@ -262,6 +282,7 @@ Serves (Export file path form) unread left before after told told_after =
 Serves (New file name) unread left before after told told_after = IsUntouched unread left before after
 Serves (Edit edit keeps_going) unread left before after told told_after = EditsFile edit keeps_going IsNone unread left before after
 Serves (Import edit) unread left before after told told_after = Enters edit unread left × (after ≡ before)
+Serves (Change edit change) unread left before after told told_after = (left ≡ unread) × ChangesFile edit change before after
 
 -- what it did where the status is 1: one of the standard streams ended early; `diff` wrote that the trees of some files differ; or something
 -- was refused or faulty, and that reported. What was read and written by then is what ended it left. `closed` says whether a write failed
@@ -282,6 +303,8 @@ Fails (Edit edit keeps_going) closed unread left before after told told_after fa
     (cut : Bool) × StopsEditing edit keeps_going cut unread left before after × IsReported (closed && cut) told told_after failed now_failed
 Fails (Import edit) closed unread left before after told told_after failed now_failed =
     StopsImporting edit unread left × (after ≡ before) × IsReported false told told_after failed now_failed
+Fails (Change edit change) closed unread left before after told told_after failed now_failed =
+    (left ≡ unread) × ((cut : Bool) × StopsChanging change cut before after × IsReported (closed && cut) told told_after failed now_failed)
 Fails (Listing file path is_tree is_whole) closed unread left before after told told_after failed now_failed =
     (left ≡ unread) × ((cut : Bool) × StopsListing cut (is_look (is_tree || is_whole) path.now) path.now is_tree before after
     × IsReported (closed && cut) told told_after failed now_failed)

@@ -4,7 +4,7 @@ ghost use Rattle.std.specs.Prelude.{ℕ, Bool, List, Option};
 ghost use Rattle.reg_words.specs.declared.request.Request.{Request};
 ghost use Rattle.reg_files.specs.Internal.Outcomes.{Outcome};
 
-use crate::commands::{edit_file, import_text, new_file};
+use crate::commands::{change_file, edit_file, import_text, new_file};
 use crate::device::Output;
 use crate::locks::Lockable;
 use crate::queries::{diff_files, export_key, find_in, get_value, list_key};
@@ -12,7 +12,7 @@ use crate::reports::{settle, settle_diff, settle_save};
 use crate::streams::{check_files, dump_file};
 use reg_command::serve_stream;
 use reg_text::Sink;
-use reg_words::{EditRequest, Form, Places, Request, StreamRequest};
+use reg_words::{EditRequest, Form, KeyChange, Places, Request, StreamRequest};
 use std::alloc::Global;
 use std::io::Read;
 use std::rt::{Clock, Files};
@@ -209,6 +209,25 @@ where
     settle_save(alloc, errors, &edit, false, done)
 }
 
+/// `set`, `create` and `delete`.
+fn change_asked<H: Files + Clock, W: Output, E: Sink>(
+    alloc: Global,
+    host: &H,
+    edit: EditRequest<'_>,
+    change: KeyChange,
+    output: &mut W,
+    errors: &mut E,
+) -> u8
+where
+    H::File: Lockable,
+    ensures { (unread : Option (List ℕ)) → Outcome (Request.Change edit.entry change) result (W.closed output.new) unread unread
+        (W.contents output.old) (W.contents output.new)
+        (E.contents errors.old) (E.contents errors.new) (E.failures errors.old) (E.failures errors.new) }
+{
+    let done = change_file(alloc, host, edit, change, output);
+    settle_save(alloc, errors, &edit, output.is_closed(), done)
+}
+
 /// Does what was asked for, and answers the status.
 pub fn answer<Rt: Threads + Wait + Sync, H: Files + Clock, R: Read, W: Output, E: Sink>(
     rt: &Rt,
@@ -258,5 +277,8 @@ where
             edit_asked(alloc, host, edit, keeps_going, input, output, errors)
         }
         Request::Import(edit) => import_asked(alloc, host, edit, input, errors),
+        Request::Change { edit, change } => {
+            change_asked(alloc, host, edit, change, output, errors)
+        }
     }
 }

@@ -1,10 +1,12 @@
 //! The commands that save files.
 
-ghost use Rattle.std.specs.Prelude.{◌≡◌, true, OnOk, OnErr, IfOk, IfErr};
+ghost use Rattle.std.specs.Prelude.{◌≡◌, ◌&&◌, true, string_bytes, OnOk, OnErr, IfOk, IfErr};
 ghost use Rattle.reg_calls.specs.HiveView.{view_of};
 ghost use Rattle.reg_tree_image.specs.FreeBytes.{are_sparse};
 ghost use Rattle.reg_files.specs.Saves.{is_saved, IsToSave, IsToMake, IsNotRebuilt};
+ghost use Rattle.reg_words.specs.ChangeLines.{told as told_of};
 ghost use Rattle.reg_files.specs.Serving.{IsGiven, IsNone, EditsFile, StopsEditing, Enters, StopsImporting};
+ghost use Rattle.reg_files.specs.Serving.{IsCutShort, Tells, ChangesFile, StopsChanging};
 ghost use Rattle.reg_files.specs.Internal.Cuts.{is_save_end_cut};
 
 use crate::device::Device;
@@ -13,10 +15,11 @@ use crate::locks::{Lockable, open_locked, real_path};
 use crate::moments::moment_at;
 use crate::saved::{Saved, SavedTree, tree_to_save};
 use crate::saving::{create, replace};
+use crate::streams::write_text;
 use reg_callbacks::NoCallback;
 use reg_calls::Hive;
-use reg_edits::{Edited, edit, fresh_hive, import};
-use reg_words::{Begin, EditRequest};
+use reg_edits::{Edited, change, edit, fresh_hive, import};
+use reg_words::{Begin, EditRequest, KeyChange, told};
 use std::alloc::Global;
 use std::io::{Read, Write};
 use std::rt::{Clock, Files};
@@ -163,6 +166,59 @@ where
     };
     save(alloc, host, request, opened.path.as_str(), &imported)?;
     Ok(())
+}
+
+/// The line of a change.
+fn line_of(alloc: Global, asked: &KeyChange) -> Result<String, Fault>
+    ensures { IfOk result (λ line. string_bytes line ≡ told_of asked.now) }
+{
+    Ok(told(alloc, asked)?)
+}
+
+/// Tells a change in its line, where it would be saved if this weren't a dry run.
+fn tell_change<W: Write>(
+    is_dry: bool,
+    is_changed: bool,
+    line: &str,
+    output: &mut W,
+) -> Result<(), SaveEnd>
+    ensures ok { OnOk result (Tells (is_dry && is_changed) line.now (W.contents output.old) (W.contents output.new)) }
+    ensures err { IfErr result (λ end. (is_save_end_cut end ≡ true) × IsCutShort line.now (W.contents output.old) (W.contents output.new)) }
+{
+    if !is_dry || !is_changed {
+        return Ok(());
+    }
+    match write_text(line.as_bytes(), output) {
+        Ok(()) => Ok(()),
+        Err(fault) => Err(SaveEnd::Hive(fault)),
+    }
+}
+
+/// Makes one change in the hive of a file and saves it, as an edit does; or, of a dry run, tells what would have been saved.
+pub fn change_file<H: Files + Clock, W: Write>(
+    alloc: Global,
+    host: &H,
+    request: EditRequest<'_>,
+    asked: KeyChange,
+    output: &mut W,
+) -> Result<(), SaveEnd>
+where
+    H::File: Lockable,
+    ensures ok { OnOk result (ChangesFile request.entry asked (W.contents output.old) (W.contents output.new)) }
+    ensures err { IfErr result (λ end. StopsChanging asked (is_save_end_cut end) (W.contents output.old) (W.contents output.new)) }
+{
+    let line = line_of(alloc, &asked)?;
+    let begin = begin_at(host, request.begin)?;
+    let mut opened = open_for(alloc, host, request)?;
+    let changed = match change(alloc, &mut opened.file, begin, asked) {
+        Ok(changed) => changed,
+        Err(fault) => {
+            let fault = Fault::from(fault).of_file(&mut opened.file);
+            return Err(SaveEnd::Hive(fault));
+        }
+    };
+    save(alloc, host, request, opened.path.as_str(), &changed)?;
+    tell_change(request.dry_run, changed.is_changed, line.as_str(), output)
 }
 
 /// Makes a file with a fresh hive.

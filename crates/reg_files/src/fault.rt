@@ -11,7 +11,7 @@ use crate::device::Device;
 use reg_dotreg_import::ImportFault;
 use reg_dotreg_reader::ReadFault;
 use reg_dotreg_writer::ExportFault;
-use reg_edits::{EditFault, FreshFault, ImportEnd};
+use reg_edits::{ChangeEnd, EditFault, FreshFault, Hindrance, ImportEnd};
 use reg_find::PatternFault;
 use reg_queries::{DiffFault, ExportEnd, FindFault, QueryFault};
 use reg_script::{FailedLine, ScriptFault};
@@ -115,6 +115,18 @@ pub enum Fault {
     /// The key has no such value.
     #[error("there is no such value")]
     NoValue,
+    /// The key above the one that is to be made isn't there.
+    #[error("the key above it isn't there; --parents makes it")]
+    NoParent,
+    /// The key that is to go has keys below it.
+    #[error("the key has others below it; --tree takes them along")]
+    HasSubkeys,
+    /// The root is to go.
+    #[error("the root stays")]
+    IsRoot,
+    /// A change was refused, with this status.
+    #[error("refused with status {status}")]
+    NoChange { status: u32 },
     /// A name can't be written: of the key to which these names lead, or of one of its values.
     #[error("a name has a line break")]
     LineBreak(Vec<u8>),
@@ -222,6 +234,33 @@ impl From<ImportEnd> for Fault {
                 Fault::Refused { line, status }
             }
             ImportEnd::Entry(ImportFault::Memory) | ImportEnd::Memory => Fault::Memory,
+        }
+    }
+}
+
+impl From<Hindrance> for Fault {
+    ghost from_gives = { λ _ made. is_cut made ≡ false };
+
+    fn from(why: Hindrance) -> Fault {
+        match why {
+            Hindrance::NoKey => Fault::NoKey,
+            Hindrance::NoParent => Fault::NoParent,
+            Hindrance::NoValue => Fault::NoValue,
+            Hindrance::HasSubkeys => Fault::HasSubkeys,
+            Hindrance::IsRoot => Fault::IsRoot,
+        }
+    }
+}
+
+impl From<ChangeEnd> for Fault {
+    ghost from_gives = { λ _ made. is_cut made ≡ false };
+
+    fn from(fault: ChangeEnd) -> Fault {
+        match fault {
+            ChangeEnd::Load(fault) => Fault::Load(fault),
+            ChangeEnd::Hindered(why) => Fault::from(why),
+            ChangeEnd::Call(ImportFault::Refused { status, .. }) => Fault::NoChange { status },
+            ChangeEnd::Call(ImportFault::Memory) | ChangeEnd::Memory => Fault::Memory,
         }
     }
 }

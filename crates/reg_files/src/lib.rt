@@ -1,4 +1,4 @@
-//! Hive files by path: dumped, counted, queried, compared, made, edited, exported and imported.
+//! Hive files by path: dumped, counted, queried, compared, made, edited, changed, exported and imported.
 //!
 //! Its one contract is that of [`file_tool`]: the status is 0 only where the words are a command line and what it asks for was done; 1 where
 //! something was refused or faulty, which is reported, or where `diff` wrote a difference; 2 for any other words, and then nothing is
@@ -47,7 +47,8 @@ use std::thread::Threads;
 /// FILE` makes a file with a fresh hive, never over one that is there. `edit FILE` runs a script from `input` on the hive of a file, writes
 /// the replies to `output`, and saves the hive where a call that was accepted may have changed a key, while it holds the file's lock. A
 /// line that fails ends it, and then nothing is saved; with `--keep-going` it is passed over. `import FILE` does so with the entries of a
-/// .reg text from `input`.
+/// .reg text from `input`, and `set FILE PATH NAME TYPE DATA..`, `create FILE PATH` and `delete FILE PATH [NAME]` with one change, of which
+/// `--dry-run` tells a line.
 ///
 /// The status is 0 where that was done, 1 where something was refused or faulty, with a line on `errors` that says what and where (save
 /// that a write to `output` failed since nobody reads it any more), or where `diff` wrote a difference, and 2 for words that aren't

@@ -94,7 +94,14 @@ fn fault_text(alloc: Global, file: &str, fault: &Fault) -> Result<String, AllocE
         }
         Fault::Line(line) => failed_line_text(alloc, line),
         Fault::Failed(count) => format!(in alloc; "lines of standard input that failed: {count}"),
-        Fault::NoKey | Fault::NoValue => format!(in alloc; "missing {file}: {fault}"),
+        Fault::NoKey | Fault::NoValue | Fault::NoParent => {
+            format!(in alloc; "missing {file}: {fault}")
+        }
+        Fault::HasSubkeys | Fault::IsRoot => format!(in alloc; "change {file}: {fault}"),
+        Fault::NoChange { status } => {
+            let name = status_name(*status);
+            format!(in alloc; "change {file}: refused with status {status}{name}")
+        }
         Fault::LineBreak(key) => line_break_text(alloc, file, key.as_slice()),
         Fault::Input(error) => format!(in alloc; "read standard input: {error}"),
         Fault::Text(ReadFault::Line(line)) => {
@@ -172,6 +179,7 @@ pub fn settle_save<E: Sink>(
     match done {
         Ok(()) => 0,
         Err(SaveEnd::Hive(Fault::Script(ScriptFault::Write { .. }))) if is_closed => 1,
+        Err(SaveEnd::Hive(Fault::Cut(_))) if is_closed => 1,
         Err(SaveEnd::Hive(fault)) | Err(SaveEnd::Files(fault)) => {
             report(alloc, errors, blamed(edit, &fault), &fault);
             1

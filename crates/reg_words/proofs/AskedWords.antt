@@ -10,11 +10,13 @@ use Rattle.clap.specs.Walk.{row_text}
 use Rattle.clap.specs.declared.parser.matches.Found.{Found}
 use Rattle.clap.proofs.WalkLemmas.{first_value-rows, one_text-rows, raw_values-rows}
 use Rattle.reg_words.specs.StreamLines.{AreBothGiven, IsGiven, IsHiveCount, IsNumber}
-use Rattle.reg_words.specs.CommandLines.{IsMoment, IsSet, Asks, AsksToBegin, AsksToEdit, AsksForForm, AsksForPlaces, places_asked}
-use Rattle.reg_words.specs.Internal.Commands.{IsFound}
+use Rattle.reg_words.specs.declared.typed.change.KeyChange.{KeyChange}
+use Rattle.reg_words.specs.declared.typed.change.KeyChange.TheVariants.{CreateKey, SetValue, DeleteValue, DeleteKey}
+use Rattle.reg_words.specs.CommandLines.{IsMoment, IsSet, Asks, AsksToBegin, AsksToEdit, AsksToChange, AsksForForm, AsksForPlaces, places_asked}
+use Rattle.reg_words.specs.Internal.Commands.{IsFound, IsOther}
 use Rattle.reg_words.proofs.StreamWords.{apart, stream_word, stream_named, stream_apart, other_stream, no_running, no_stream_of_both, no_working}
 use Rattle.reg_words.specs.declared.request.Request.{Request}
-use Rattle.reg_words.specs.declared.request.Request.TheVariants.{Stream, Dump, Check, Listing, Get, Find, Diff, Export, New, Edit, Import}
+use Rattle.reg_words.specs.declared.request.Request.TheVariants.{Stream, Dump, Check, Listing, Get, Find, Diff, Export, New, Edit, Import, Change}
 use Rattle.reg_words.specs.declared.request.EditRequest.{EditRequest}
 use Rattle.reg_words.specs.declared.request.Form.{Form}
 use Rattle.reg_words.specs.declared.request.Form.TheVariants.{Reg, Json, Csv}
@@ -101,6 +103,19 @@ no_moment rows text some never (At moment) h =
 
 -- ---- nothing asked for
 
+-- the word of the subcommand that asks for a change
+abbrev pub change_word : KeyChange → List ℕ
+change_word (CreateKey path makes_parents) = codes "create"
+change_word (SetValue path makes_parents name contents) = codes "set"
+change_word (DeleteValue path name) = codes "delete"
+change_word (DeleteKey path is_tree) = codes "delete"
+
+change_named : (found : Text × List Row) (change : KeyChange) → AsksToChange found change → found.0 ≡ change_word change
+change_named found (CreateKey path makes_parents) h = h.0
+change_named found (SetValue path makes_parents name contents) h = h.0
+change_named found (DeleteValue path name) h = h.0
+change_named found (DeleteKey path is_tree) h = h.0
+
 -- the word of the subcommand that asks for something
 abbrev pub word_of : Request → List ℕ
 word_of (Stream request) = stream_word request
@@ -114,6 +129,7 @@ word_of (Export file path form) = codes "export"
 word_of (New file name) = codes "new"
 word_of (Edit edit keeps_going) = codes "edit"
 word_of (Import edit) = codes "import"
+word_of (Change edit change) = change_word change
 
 pub named : (found : Text × List Row) (request : Request) → Asks found request → found.0 ≡ word_of request
 named found (Stream request) h = stream_named found request h
@@ -127,11 +143,25 @@ named found (Export file path form) h = h.0
 named found (New file name) h = h.0
 named found (Edit edit keeps_going) h = h.0
 named found (Import edit) h = h.0
+named found (Change edit change) h = change_named found change h.1
 
 -- another subcommand was named
 module _ (word : Text) (rows : List Row) (request : Request) (same : bytes_eq word word ≡ true) where
   pub other : bytes_eq word (word_of request) ≡ false → Asks (word, rows) request → ⊥
   other differ h = apart word (word_of request) differ same (named (word, rows) request h)
+
+-- another one than those that ask for a change
+other_change : (word : Text) (rows : List Row) (edit : EditRequest) (change : KeyChange) → bytes_eq word word ≡ true →
+    bytes_eq word (codes "create") ≡ false → bytes_eq word (codes "set") ≡ false → bytes_eq word (codes "delete") ≡ false →
+    Asks (word, rows) (Change edit change) → ⊥
+other_change word rows edit (CreateKey path makes_parents) same create set delete h =
+    other word rows (Change edit (CreateKey path makes_parents)) same create h
+other_change word rows edit (SetValue path makes_parents name contents) same create set delete h =
+    other word rows (Change edit (SetValue path makes_parents name contents)) same set h
+other_change word rows edit (DeleteValue path name) same create set delete h =
+    other word rows (Change edit (DeleteValue path name)) same delete h
+other_change word rows edit (DeleteKey path is_tree) same create set delete h =
+    other word rows (Change edit (DeleteKey path is_tree)) same delete h
 
 -- a subcommand, as it is named
 pub named_so : (name word : Text) (rows : List Row) (result : Option Request) → name ≡ word → IsFound (Asks (word, rows)) result →
@@ -141,33 +171,22 @@ named_so name word rows result e h = subst (λ (w : Text). IsFound (Asks (w, row
 pub asked_so : (name word : Text) (rows : List Row) (request : Request) → name ≡ word → Asks (word, rows) request → Asks (name, rows) request
 asked_so name word rows request e h = subst (λ (w : Text). Asks (w, rows) request) (sym e) h
 
--- a subcommand of another name than all that ask for something
-pub record IsNone (name : Text) : Type 0 where
-  pub no_run_word : name ≡ codes "run" → ⊥
-  pub no_dump_word : name ≡ codes "dump" → ⊥
-  pub no_check_word : name ≡ codes "check" → ⊥
-  pub no_ls_word : name ≡ codes "ls" → ⊥
-  pub no_get_word : name ≡ codes "get" → ⊥
-  pub no_find_word : name ≡ codes "find" → ⊥
-  pub no_diff_word : name ≡ codes "diff" → ⊥
-  pub no_export_word : name ≡ codes "export" → ⊥
-  pub no_new_word : name ≡ codes "new" → ⊥
-  pub no_edit_word : name ≡ codes "edit" → ⊥
-  pub no_import_word : name ≡ codes "import" → ⊥
-
-pub none_asked : (name : Text) (rows : List Row) → IsNone name → (request : Request) → Asks (name, rows) request → ⊥
-none_asked name rows none (Stream request) h =
+-- a subcommand of another name than all that ask for something but a change, which asks for none
+pub none_asked : (name : Text) (rows : List Row) → IsOther name →
+    ((edit : EditRequest) (change : KeyChange) → Asks (name, rows) (Change edit change) → ⊥) → (request : Request) → Asks (name, rows) request → ⊥
+none_asked name rows none never (Stream request) h =
     stream_apart (name, rows) request none.no_run_word none.no_dump_word none.no_check_word h
-none_asked name rows none (Dump file) h = none.no_dump_word (named (name, rows) (Dump file) h)
-none_asked name rows none (Check files) h = none.no_check_word (named (name, rows) (Check files) h)
-none_asked name rows none (Listing file path is_tree is_whole) h = none.no_ls_word (named (name, rows) (Listing file path is_tree is_whole) h)
-none_asked name rows none (Get file path value is_raw is_whole) h = none.no_get_word (named (name, rows) (Get file path value is_raw is_whole) h)
-none_asked name rows none (Find file pattern places) h = none.no_find_word (named (name, rows) (Find file pattern places) h)
-none_asked name rows none (Diff old new) h = none.no_diff_word (named (name, rows) (Diff old new) h)
-none_asked name rows none (Export file path form) h = none.no_export_word (named (name, rows) (Export file path form) h)
-none_asked name rows none (New file value) h = none.no_new_word (named (name, rows) (New file value) h)
-none_asked name rows none (Edit edit keeps_going) h = none.no_edit_word (named (name, rows) (Edit edit keeps_going) h)
-none_asked name rows none (Import edit) h = none.no_import_word (named (name, rows) (Import edit) h)
+none_asked name rows none never (Dump file) h = none.no_dump_word (named (name, rows) (Dump file) h)
+none_asked name rows none never (Check files) h = none.no_check_word (named (name, rows) (Check files) h)
+none_asked name rows none never (Listing file path is_tree is_whole) h = none.no_ls_word (named (name, rows) (Listing file path is_tree is_whole) h)
+none_asked name rows none never (Get file path value is_raw is_whole) h = none.no_get_word (named (name, rows) (Get file path value is_raw is_whole) h)
+none_asked name rows none never (Find file pattern places) h = none.no_find_word (named (name, rows) (Find file pattern places) h)
+none_asked name rows none never (Diff old new) h = none.no_diff_word (named (name, rows) (Diff old new) h)
+none_asked name rows none never (Export file path form) h = none.no_export_word (named (name, rows) (Export file path form) h)
+none_asked name rows none never (New file value) h = none.no_new_word (named (name, rows) (New file value) h)
+none_asked name rows none never (Edit edit keeps_going) h = none.no_edit_word (named (name, rows) (Edit edit keeps_going) h)
+none_asked name rows none never (Import edit) h = none.no_import_word (named (name, rows) (Import edit) h)
+none_asked name rows none never (Change edit change) h = never edit change h
 
 -- what is there is none
 pub none_there : {X : Type 0} (o : Option X) (x : X) → o ≡ None → o ≡ Some x → ⊥
@@ -178,22 +197,26 @@ module _ (rows : List Row) where
   pub no_run : (text : Text) → one_of (codes "image") rows ≡ Some text → ((number : ℕ) → IsNumber text number → ⊥) → (request : Request) →
       Asks (codes "run", rows) request → ⊥
   no_run text some never (Stream request) h = no_running rows text some never request h
+  no_run text some never (Change edit change) h = other_change (codes "run") rows edit change refl refl refl refl h
   no_run text some never request h = other (codes "run") rows request refl refl h
 
   -- `run` with a number of hives that is none
   pub no_workers : (text : Text) → one_of (codes "workers") rows ≡ Some text → ((number : ℕ) → IsHiveCount text number → ⊥) → (request : Request) →
       Asks (codes "run", rows) request → ⊥
   no_workers text some never (Stream request) h = no_working rows text some never request h
+  no_workers text some never (Change edit change) h = other_change (codes "run") rows edit change refl refl refl refl h
   no_workers text some never request h = other (codes "run") rows request refl refl h
 
   pub no_new : first_of (codes "file") rows ≡ None → (request : Request) → Asks (codes "new", rows) request → ⊥
   no_new e (New file name) h = none_there _ file.now e h.1
   no_new e (Stream request) h = other_stream (codes "new", rows) (codes "new") request refl refl refl refl refl h
+  no_new e (Change edit change) h = other_change (codes "new") rows edit change refl refl refl refl h
   no_new e request h = other (codes "new") rows request refl refl h
 
   pub no_list : first_of (codes "file") rows ≡ None → (request : Request) → Asks (codes "ls", rows) request → ⊥
   no_list e (Listing file path is_tree is_whole) h = none_there _ file.now e h.1
   no_list e (Stream request) h = other_stream (codes "ls", rows) (codes "ls") request refl refl refl refl refl h
+  no_list e (Change edit change) h = other_change (codes "ls") rows edit change refl refl refl refl h
   no_list e request h = other (codes "ls") rows request refl refl h
 
   pub no_get : ((first_of (codes "file") rows ≡ None) ⊎ (first_of (codes "path") rows ≡ None)) → (request : Request) →
@@ -201,6 +224,7 @@ module _ (rows : List Row) where
   no_get (inl e) (Get file path value is_raw is_whole) h = none_there _ file.now e h.1
   no_get (inr e) (Get file path value is_raw is_whole) h = none_there _ path.now e h.2
   no_get e (Stream request) h = other_stream (codes "get", rows) (codes "get") request refl refl refl refl refl h
+  no_get e (Change edit change) h = other_change (codes "get") rows edit change refl refl refl refl h
   no_get e request h = other (codes "get") rows request refl refl h
 
   pub no_find : ((first_of (codes "file") rows ≡ None) ⊎ ((first_of (codes "pattern") rows ≡ None)
@@ -209,6 +233,7 @@ module _ (rows : List Row) where
   no_find (inr (inl e)) (Find file pattern places) h = none_there _ pattern.now e h.2
   no_find (inr (inr never)) (Find file pattern places) h = never places h.3
   no_find e (Stream request) h = other_stream (codes "find", rows) (codes "find") request refl refl refl refl refl h
+  no_find e (Change edit change) h = other_change (codes "find") rows edit change refl refl refl refl h
   no_find e request h = other (codes "find") rows request refl refl h
 
   pub no_diff : ((first_of (codes "old") rows ≡ None) ⊎ (first_of (codes "new") rows ≡ None)) → (request : Request) →
@@ -216,6 +241,7 @@ module _ (rows : List Row) where
   no_diff (inl e) (Diff old new) h = none_there _ old.now e h.1
   no_diff (inr e) (Diff old new) h = none_there _ new.now e h.2
   no_diff e (Stream request) h = other_stream (codes "diff", rows) (codes "diff") request refl refl refl refl refl h
+  no_diff e (Change edit change) h = other_change (codes "diff") rows edit change refl refl refl refl h
   no_diff e request h = other (codes "diff") rows request refl refl h
 
   pub no_export : ((first_of (codes "file") rows ≡ None) ⊎ ((form : Form) → AsksForForm rows form → ⊥)) → (request : Request) →
@@ -223,16 +249,19 @@ module _ (rows : List Row) where
   no_export (inl e) (Export file path form) h = none_there _ file.now e h.1
   no_export (inr never) (Export file path form) h = never form h.3
   no_export e (Stream request) h = other_stream (codes "export", rows) (codes "export") request refl refl refl refl refl h
+  no_export e (Change edit change) h = other_change (codes "export") rows edit change refl refl refl refl h
   no_export e request h = other (codes "export") rows request refl refl h
 
   pub no_edit : ((edit : EditRequest) → AsksToEdit rows edit → ⊥) → (request : Request) → Asks (codes "edit", rows) request → ⊥
   no_edit never (Edit edit keeps_going) h = never edit h.1
   no_edit never (Stream request) h = other_stream (codes "edit", rows) (codes "edit") request refl refl refl refl refl h
+  no_edit never (Change edit change) h = other_change (codes "edit") rows edit change refl refl refl refl h
   no_edit never request h = other (codes "edit") rows request refl refl h
 
   pub no_import : ((edit : EditRequest) → AsksToEdit rows edit → ⊥) → (request : Request) → Asks (codes "import", rows) request → ⊥
   no_import never (Import edit) h = never edit h.1
   no_import never (Stream request) h = other_stream (codes "import", rows) (codes "import") request refl refl refl refl refl h
+  no_import never (Change edit change) h = other_change (codes "import") rows edit change refl refl refl refl h
   no_import never request h = other (codes "import") rows request refl refl h
 
 -- `run` with both its options
@@ -240,8 +269,16 @@ not_run : (found : Text × List Row) (request : Request) → bytes_eq (codes "ru
     Asks found request → ⊥
 not_run found request differ both h = apart (codes "run") (word_of request) differ refl (sym both.0 ∙ named found request h)
 
+not_run_change : (found : Text × List Row) (edit : EditRequest) (change : KeyChange) → AreBothGiven found → Asks found (Change edit change) → ⊥
+not_run_change found edit (CreateKey path makes_parents) both h = not_run found (Change edit (CreateKey path makes_parents)) refl both h
+not_run_change found edit (SetValue path makes_parents name contents) both h =
+    not_run found (Change edit (SetValue path makes_parents name contents)) refl both h
+not_run_change found edit (DeleteValue path name) both h = not_run found (Change edit (DeleteValue path name)) refl both h
+not_run_change found edit (DeleteKey path is_tree) both h = not_run found (Change edit (DeleteKey path is_tree)) refl both h
+
 pub none_of_both : (found : Text × List Row) → AreBothGiven found → (request : Request) → Asks found request → ⊥
 none_of_both found both (Stream request) h = no_stream_of_both found both request h
+none_of_both found both (Change edit change) h = not_run_change found edit change both h
 none_of_both found both request h = not_run found request refl both h
 
 -- no file is saved

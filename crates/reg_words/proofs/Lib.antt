@@ -1,7 +1,13 @@
+pub mod AskedChanges
 pub mod AskedWords
 pub mod CommandLineRows
 pub mod CommandShapes
+pub mod Digits
+pub mod EscapedWords
+pub mod Pieces
 pub mod PlaceLemmas
 pub mod StreamRequests
 pub mod StreamWords
 pub mod ToldOptions
+pub mod TurnedWords
+pub mod WideTexts

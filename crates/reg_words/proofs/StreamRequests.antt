@@ -3,13 +3,23 @@ use Rattle.std.proofs.Common.{◌≡◌, List, ℕ, codes, refl, subst, map}
 use Rattle.std.specs.Prelude.{Option, Some, None}
 use Rattle.clap.specs.Words.{Row, Text}
 use Rattle.reg_words.specs.StreamLines.{AsksOfStream}
-use Rattle.reg_words.specs.CommandLines.{found_in, Asks, AsksIn, AsksNoStream, HasBothOptions, IsCommandLine}
+use Rattle.reg_words.specs.declared.typed.change.KeyChange.{KeyChange}
+use Rattle.reg_words.specs.declared.typed.change.KeyChange.TheVariants.{CreateKey, SetValue, DeleteValue, DeleteKey}
+use Rattle.reg_words.specs.CommandLines.{found_in, AsksToChange, Asks, AsksIn, AsksNoStream, HasBothOptions, IsCommandLine}
 use Rattle.reg_words.specs.Internal.Commands.{stream_of}
 use Rattle.reg_words.specs.declared.request.StreamRequest.{StreamRequest}
 use Rattle.reg_words.specs.declared.request.Request.{Request}
-use Rattle.reg_words.specs.declared.request.Request.TheVariants.{Stream, Dump, Check, Listing, Get, Find, Diff, Export, New, Edit, Import}
+use Rattle.reg_words.specs.declared.request.Request.TheVariants.{Stream, Dump, Check, Listing, Get, Find, Diff, Export, New, Edit, Import, Change}
 use Rattle.reg_words.proofs.CommandShapes.{nothing_of_both}
 use Rattle.reg_words.proofs.StreamWords.{other_stream, dump_of_file, check_of_files}
+
+change_of_file : (found : Text × List Row) (change : KeyChange) (stream : StreamRequest) → AsksToChange found change →
+    AsksOfStream found stream → ⊥
+change_of_file found (CreateKey path makes_parents) stream h asks = other_stream found (codes "create") stream h.0 refl refl refl refl asks
+change_of_file found (SetValue path makes_parents name contents) stream h asks =
+    other_stream found (codes "set") stream h.0 refl refl refl refl asks
+change_of_file found (DeleteValue path name) stream h asks = other_stream found (codes "delete") stream h.0 refl refl refl refl asks
+change_of_file found (DeleteKey path is_tree) stream h asks = other_stream found (codes "delete") stream h.0 refl refl refl refl asks
 
 pub of_files : (found : Text × List Row) (request : Request) (stream : StreamRequest) → stream_of request ≡ None → Asks found request →
     AsksOfStream found stream → ⊥
@@ -24,6 +34,7 @@ of_files found (Export file path form) stream e h asks = other_stream found (cod
 of_files found (New file name) stream e h asks = other_stream found (codes "new") stream h.0 refl refl refl refl asks
 of_files found (Edit edit keeps_going) stream e h asks = other_stream found (codes "edit") stream h.0 refl refl refl refl asks
 of_files found (Import edit) stream e h asks = other_stream found (codes "import") stream h.0 refl refl refl refl asks
+of_files found (Change edit change) stream e h asks = change_of_file found change stream h.1 asks
 
 found_of_files : (found : Option (Text × List Row)) (request : Request) (stream : StreamRequest) → stream_of request ≡ None →
     AsksIn found request → AsksIn found (Stream stream) → ⊥
@@ -53,6 +64,7 @@ stream_is (Export file path form) stream e = cc
 stream_is (New file name) stream e = cc
 stream_is (Edit edit keeps_going) stream e = cc
 stream_is (Import edit) stream e = cc
+stream_is (Change edit change) stream e = cc
 
 pub some_stream : (words : List (List ℕ)) (request : Request) (result : Option StreamRequest) (stream : StreamRequest) →
     result ≡ stream_of request → result ≡ Some stream → IsCommandLine words request → IsCommandLine words (Stream stream)

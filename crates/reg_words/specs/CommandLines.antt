@@ -5,6 +5,9 @@ use Rattle.clap.specs.Words.{App, Kinds, Row, Rule, Text, all_of, fault_of, firs
 use Rattle.clap.specs.Lexer.{usize_max}
 use Rattle.clap.specs.declared.builder.action.ArgAction.TheVariants as action
 use Rattle.clap.specs.declared.builder.value_parser.ValueParser.TheVariants as parser
+use Rattle.reg_words.specs.ChangeWords.{path_in, name_in, value_in}
+use Rattle.reg_words.specs.declared.typed.change.KeyChange.{KeyChange}
+use Rattle.reg_words.specs.declared.typed.change.KeyChange.TheVariants.{CreateKey, SetValue, DeleteValue, DeleteKey}
 use Rattle.reg_words.specs.PlaceLists.{places_in}
 use Rattle.reg_words.specs.StreamLines.{AsksOfStream, GivesBoth}
 use Rattle.reg_words.specs.declared.request.EditRequest.{EditRequest}
@@ -15,7 +18,7 @@ use Rattle.reg_words.specs.declared.request.Begin.{Begin}
 use Rattle.reg_words.specs.declared.request.Begin.TheVariants.{Now, At}
 use Rattle.reg_words.specs.declared.request.StreamRequest.{StreamRequest}
 use Rattle.reg_words.specs.declared.request.Request.{Request}
-use Rattle.reg_words.specs.declared.request.Request.TheVariants.{Stream, Dump, Check, Listing, Get, Find, Diff, Export, New, Edit, Import}
+use Rattle.reg_words.specs.declared.request.Request.TheVariants.{Stream, Dump, Check, Listing, Get, Find, Diff, Export, New, Edit, Import, Change}
 
 -- the words of a command line, as text
 abbrev pub texts : {A : Type 0} → List (String A) → List (List ℕ)
@@ -48,6 +51,14 @@ file_rule is_required = place_rule (codes "file") is_required
 -- files by their places: one or more where any is given
 abbrev pub files_rule : Rule
 files_rule = record (new_rule (codes "files")) {
+  value_names = 1;
+  action = Some action.Append;
+  range = Some (record { start_inclusive = 1; end_inclusive = usize_max });
+}
+
+-- the data of a value by their places: one or more where any is given
+abbrev pub data_rule : Rule
+data_rule = record (new_rule (codes "data")) {
   value_names = 1;
   action = Some action.Append;
   range = Some (record { start_inclusive = 1; end_inclusive = usize_max });
@@ -125,6 +136,27 @@ saving_command name =
 abbrev pub edit_command : App
 edit_command = with_rule (saving_command (codes "edit")) (flag_rule (codes "keep-going"))
 
+-- a command of that name that changes a key of a file that it saves, and whether slashes part the names of its path
+abbrev pub changing_command : Text → App
+changing_command name = with_rule (with_rule (saving_command name) (place_rule (codes "path") true)) (flag_rule (codes "slash"))
+
+-- `set`, of a value's name, its type and its data, and whether missing keys are made
+abbrev pub set_command : App
+set_command =
+    with_rule
+    (with_rule
+    (with_rule (with_rule (changing_command (codes "set")) (place_rule (codes "value") true)) (place_rule (codes "type") true))
+    data_rule)
+    (flag_rule (codes "parents"))
+
+-- `create`, and whether missing keys above the key are made
+abbrev pub create_command : App
+create_command = with_rule (changing_command (codes "create")) (flag_rule (codes "parents"))
+
+-- `delete`, with a value's name that may be left out, and whether all keys below the key go too
+abbrev pub delete_command : App
+delete_command = with_rule (with_rule (changing_command (codes "delete")) (place_rule (codes "value") false)) (flag_rule (codes "tree"))
+
 -- the tool's command with the subcommands that work on the standard streams
 abbrev pub stream_commands : App
 stream_commands =
@@ -141,18 +173,27 @@ query_commands =
     diff_command.top)
     export_command.top
 
+-- the tool's command with `new`, `edit` and `import` too
+abbrev pub saving_commands : App
+saving_commands =
+    with_subcommand
+    (with_subcommand (with_subcommand query_commands new_command.top) edit_command.top)
+    (saving_command (codes "import")).top
+
 -- `clap`'s command `regtool`, one of whose subcommands must be there: `run` with the options `--image` of a number of 32 bits and
 -- `--workers` of one from 1 to 16, which may be left out; `dump`, which may have a file, and `check`, which may have files; `ls` with a
 -- file, a path that may be left out, and the flags `--tree` and `--whole`; `get` with a file, a path, a value's name that may be left out, and the flags
 -- `--raw` and `--whole`; `find` with a file, a pattern and the option `--in`; `diff` with two files; `export` with a file, a path that may
 -- be left out, the option `--as`, which must be given, and the flag `--utf8`; `new` with a file and the option `--name`; and `edit` and
 -- `import`, each with a file, the options `--output` and `--at`, which is a number of 64 bits, and the flags `--now` and `--dry-run`, and
--- `edit` with the flag `--keep-going`
+-- `edit` with the flag `--keep-going`; and, as `import`, `set` with a path, a name, a type and data that may be left out, `create` with a
+-- path, and `delete` with a path and a name that may be left out, all with the flag `--slash`, the first two with `--parents`, and the last
+-- with `--tree`
 unfoldable pub regtool : App
 regtool =
     with_subcommand
-    (with_subcommand (with_subcommand query_commands new_command.top) edit_command.top)
-    (saving_command (codes "import")).top
+    (with_subcommand (with_subcommand saving_commands set_command.top) create_command.top)
+    delete_command.top
 
 -- the kinds of fault that `clap` finds in the words of a command line, the program's name first: none where it takes them
 unfoldable pub faults_in : List (List ℕ) → Kinds
@@ -200,6 +241,35 @@ AsksForForm rows (Reg is_utf8) = (first_of (codes "as") rows ≡ Some (codes "re
 AsksForForm rows Json = first_of (codes "as") rows ≡ Some (codes "json")
 AsksForForm rows Csv = first_of (codes "as") rows ≡ Some (codes "csv")
 
+-- the key's path that the matches of a command that changes it name
+abbrev pub AsksForKey : List Row → (path : List ℕ) → Type 0
+AsksForKey rows path =
+    (word : Text) × (first_of (codes "path") rows ≡ Some word)
+    × ((is_slash : Bool) × ((is_slash ≡ true) ↔ IsSet (codes "slash") rows) × (path ≡ path_in is_slash word))
+
+-- the value's name that they name
+abbrev pub AsksForName : List Row → (name : List ℕ) → Type 0
+AsksForName rows name = (word : Text) × (first_of (codes "value") rows ≡ Some word) × (name ≡ name_in word)
+
+-- the type and the data that they tell
+abbrev pub AsksForContents : List Row → (kind : ℕ) → (bytes : List ℕ) → Type 0
+AsksForContents rows kind bytes =
+    (word : Text) × (first_of (codes "type") rows ≡ Some word)
+    × (value_in word (unwrap_or (all_of (codes "data") rows) []) ≡ Some (kind, bytes))
+
+-- the change that a subcommand with its matches asks for
+abbrev pub AsksToChange : Text × List Row → KeyChange → Type 0
+AsksToChange found (CreateKey path makes_parents) =
+    (found.0 ≡ codes "create") × AsksForKey found.1 path.items × ((makes_parents ≡ true) ↔ IsSet (codes "parents") found.1)
+AsksToChange found (SetValue path makes_parents name contents) =
+    (found.0 ≡ codes "set") × AsksForKey found.1 path.items × AsksForName found.1 name.items
+    × AsksForContents found.1 contents.kind contents.bytes.items × ((makes_parents ≡ true) ↔ IsSet (codes "parents") found.1)
+AsksToChange found (DeleteValue path name) =
+    (found.0 ≡ codes "delete") × AsksForKey found.1 path.items × AsksForName found.1 name.items × (IsSet (codes "tree") found.1 → ⊥)
+AsksToChange found (DeleteKey path is_tree) =
+    (found.0 ≡ codes "delete") × AsksForKey found.1 path.items × (first_of (codes "value") found.1 ≡ None)
+    × ((is_tree ≡ true) ↔ IsSet (codes "tree") found.1)
+
 -- what a subcommand with its matches asks for
 abbrev pub Asks : Text × List Row → Request → Type 0
 Asks found (Stream request) = AsksOfStream found request
@@ -226,6 +296,7 @@ Asks found (New file name) =
 Asks found (Edit edit keeps_going) =
     (found.0 ≡ codes "edit") × AsksToEdit found.1 edit × ((keeps_going ≡ true) ↔ IsSet (codes "keep-going") found.1)
 Asks found (Import edit) = (found.0 ≡ codes "import") × AsksToEdit found.1 edit
+Asks found (Change edit change) = AsksToEdit found.1 edit × AsksToChange found change
 
 -- what a subcommand asks for, if there is one
 abbrev pub AsksIn : Option (Text × List Row) → Request → Type 0

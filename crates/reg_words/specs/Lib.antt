@@ -1,3 +1,5 @@
+pub mod ChangeLines
+pub mod ChangeWords
 pub mod StreamLines
 pub mod CommandLines
 pub mod WordsFaults

@@ -6,6 +6,7 @@ ghost use Rattle.reg_words.specs.StreamLines.{IsGiven, AreBothGiven, GivesBoth};
 ghost use Rattle.reg_words.specs.CommandLines.{IsSet, AsksToBegin, AsksToEdit, AsksForForm, AsksForPlaces, Asks, AsksIn};
 ghost use Rattle.reg_words.specs.Internal.Commands.{IsFound};
 
+use crate::changes::change_asked;
 use crate::places::read_places;
 use crate::{Begin, EditRequest, Form, HiveCount, Places, Request, StreamRequest};
 use clap::ArgMatches;
@@ -110,7 +111,7 @@ fn check_asked<'a>(alloc: Global, matches: &ArgMatches<'a>) -> Result<Request<'a
 }
 
 /// Whether a flag was given.
-fn is_set(matches: &ArgMatches<'_>, name: &str) -> bool
+pub fn is_set(matches: &ArgMatches<'_>, name: &str) -> bool
     ensures { (result ≡ true) ↔ IsSet name.now (rows_of (found_of matches.now)) }
 {
     match matches.get_str(name) {
@@ -120,7 +121,7 @@ fn is_set(matches: &ArgMatches<'_>, name: &str) -> bool
 }
 
 /// The moment to begin at, that of the clock where none is given; `None` where two are.
-fn begin_asked(matches: &ArgMatches<'_>) -> Option<Begin>
+pub fn begin_asked(matches: &ArgMatches<'_>) -> Option<Begin>
     ensures { IsFound (AsksToBegin (rows_of (found_of matches.now))) result }
 {
     let is_now = is_set(matches, "now");
@@ -148,7 +149,7 @@ fn edit_of<'a>(file: &'a str, matches: &ArgMatches<'a>) -> Option<EditRequest<'a
 }
 
 /// What is asked of the file that is to be saved; `None`, too, where there is none.
-fn edit_request<'a>(matches: &ArgMatches<'a>) -> Option<EditRequest<'a>>
+pub fn edit_request<'a>(matches: &ArgMatches<'a>) -> Option<EditRequest<'a>>
     ensures { IsFound (AsksToEdit (rows_of (found_of matches.now))) result }
 {
     match matches.get_str("file") {
@@ -393,7 +394,7 @@ fn command_asked<'a>(
     if name == "import" {
         return Ok(import_asked(matches));
     }
-    Ok(None)
+    change_asked(alloc, name, matches)
 }
 
 /// What the whole command line is asked for.

@@ -3,12 +3,14 @@
 ghost use Rattle.std.specs.Prelude.{◌≡◌, IfOk, Ok, codes, true, false};
 ghost use Rattle.clap.specs.Words.{AddsSubcommand, new_app, with_rule};
 ghost use Rattle.clap.specs.declared.builder.command.Command.{Command as AnyCommand};
-ghost use Rattle.reg_words.specs.CommandLines.{option_rule, required_rule, flag_rule, place_rule, file_rule, files_rule, at_rule, image_rule, workers_rule};
+ghost use Rattle.reg_words.specs.CommandLines.{option_rule, required_rule, flag_rule, place_rule, file_rule, files_rule, data_rule, at_rule, image_rule, workers_rule};
 ghost use Rattle.reg_words.specs.CommandLines.{run_command as run_shape, edit_command as edit_shape};
 ghost use Rattle.reg_words.specs.CommandLines.{dump_command as dump_shape, check_command as check_shape, list_command as list_shape};
 ghost use Rattle.reg_words.specs.CommandLines.{get_command as get_shape, find_command as find_shape, diff_command as diff_shape};
 ghost use Rattle.reg_words.specs.CommandLines.{export_command as export_shape, new_command as new_shape, saving_command as saving_shape};
-ghost use Rattle.reg_words.specs.CommandLines.{stream_commands as stream_shape, query_commands as query_shape, regtool as regtool_shape};
+ghost use Rattle.reg_words.specs.CommandLines.{changing_command as changing_shape, set_command as set_shape, create_command as create_shape};
+ghost use Rattle.reg_words.specs.CommandLines.{delete_command as delete_shape, stream_commands as stream_shape, query_commands as query_shape};
+ghost use Rattle.reg_words.specs.CommandLines.{saving_commands as saved_shape, regtool as regtool_shape};
 ghost use Rattle.reg_words.specs.Internal.Commands.{IsRule, IsCommand};
 
 use clap::{Arg, ArgAction, Command};
@@ -86,6 +88,17 @@ fn files_arg<'a>(alloc: Global) -> Arg<'a>
         .action(ArgAction::Append)
         .num_args(1..)
         .help("The hives, in place of standard input")
+}
+
+/// The data of a value, by their places.
+fn data_arg<'a>(alloc: Global) -> Arg<'a>
+    ensures { IsRule data_rule result }
+{
+    Arg::new(alloc, "data")
+        .value_name("DATA")
+        .action(ArgAction::Append)
+        .num_args(1..)
+        .help("Its data: a text, texts, a number, or bytes as digits")
 }
 
 fn image_arg<'a>(alloc: Global) -> Arg<'a>
@@ -359,6 +372,90 @@ fn export_command<'a>(alloc: Global) -> Result<Command<'a>, AllocError>
         .arg(flag_arg(alloc, "utf8", "Write a .reg text in UTF-8"))
 }
 
+/// A command that changes a key, with its file and its path.
+fn key_command<'a>(alloc: Global, name: &'a str, about: &'a str) -> Result<Command<'a>, AllocError>
+    ensures { IfOk result (λ command. IsCommand (with_rule (saving_shape name.now) (place_rule (codes "path") true)) command) }
+{
+    saving_command(alloc, name, about)?.arg(place_arg(
+        alloc,
+        "path",
+        true,
+        "PATH",
+        "The key, as it is typed: %HH stands for that byte",
+    ))
+}
+
+/// A command that changes a key, with all that these have in common.
+fn changing_command<'a>(
+    alloc: Global,
+    name: &'a str,
+    about: &'a str,
+) -> Result<Command<'a>, AllocError>
+    ensures { IfOk result (λ command. IsCommand (changing_shape name.now) command) }
+{
+    key_command(alloc, name, about)?.arg(flag_arg(alloc, "slash", "Read / in PATH as a backslash"))
+}
+
+/// `set` with its file, its path, and the value's name and type.
+fn typed_command<'a>(alloc: Global) -> Result<Command<'a>, AllocError>
+    ensures { IfOk result (λ command. IsCommand
+        (with_rule (with_rule (changing_shape (codes "set")) (place_rule (codes "value") true)) (place_rule (codes "type") true)) command) }
+{
+    changing_command(alloc, "set", "Sets a value of a key, and saves the hive")?
+        .arg(place_arg(
+            alloc,
+            "value",
+            true,
+            "NAME",
+            "The value, @ for the default one",
+        ))?
+        .arg(place_arg(
+            alloc,
+            "type",
+            true,
+            "TYPE",
+            "sz, expand, multi, dword, qword, binary, none or a number",
+        ))
+}
+
+fn set_command<'a>(alloc: Global) -> Result<Command<'a>, AllocError>
+    ensures { IfOk result (λ command. IsCommand set_shape command) }
+{
+    typed_command(alloc)?.arg(data_arg(alloc))?.arg(flag_arg(
+        alloc,
+        "parents",
+        "Make the key and those above it where they are missing",
+    ))
+}
+
+fn create_command<'a>(alloc: Global) -> Result<Command<'a>, AllocError>
+    ensures { IfOk result (λ command. IsCommand create_shape command) }
+{
+    changing_command(alloc, "create", "Makes a key, and saves the hive")?.arg(flag_arg(
+        alloc,
+        "parents",
+        "Make the keys above it where they are missing",
+    ))
+}
+
+fn delete_command<'a>(alloc: Global) -> Result<Command<'a>, AllocError>
+    ensures { IfOk result (λ command. IsCommand delete_shape command) }
+{
+    changing_command(
+        alloc,
+        "delete",
+        "Takes a value or a key away, and saves the hive",
+    )?
+    .arg(place_arg(
+        alloc,
+        "value",
+        false,
+        "NAME",
+        "The value, @ for the default one; the key where none is given",
+    ))?
+    .arg(flag_arg(alloc, "tree", "Take all keys below it away, too"))
+}
+
 /// The commands that work on the standard streams.
 fn stream_commands<'a>(alloc: Global) -> Result<Command<'a>, AllocError>
     ensures { IfOk result (λ command. IsCommand stream_shape command) }
@@ -380,11 +477,20 @@ fn query_commands<'a>(alloc: Global) -> Result<Command<'a>, AllocError>
     with_made(comparing, export_command(alloc))
 }
 
-/// The whole command.
-pub fn whole_command<'a>(alloc: Global) -> Result<Command<'a>, AllocError>
-    ensures { IfOk result (λ command. IsCommand regtool_shape command) }
+/// These with those that make a file or save one, whatever is changed.
+fn saving_commands<'a>(alloc: Global) -> Result<Command<'a>, AllocError>
+    ensures { IfOk result (λ command. IsCommand saved_shape command) }
 {
     let making = with_made(query_commands(alloc)?, new_command(alloc))?;
     let editing = with_made(making, edit_command(alloc))?;
     with_made(editing, import_command(alloc))
+}
+
+/// The whole command.
+pub fn whole_command<'a>(alloc: Global) -> Result<Command<'a>, AllocError>
+    ensures { IfOk result (λ command. IsCommand regtool_shape command) }
+{
+    let setting = with_made(saving_commands(alloc)?, set_command(alloc))?;
+    let creating = with_made(setting, create_command(alloc))?;
+    with_made(creating, delete_command(alloc))
 }

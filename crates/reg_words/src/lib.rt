@@ -2,15 +2,22 @@
 //!
 //! Its contract: [`read_words`] tells of words exactly what they ask for, as `specs/CommandLines.antt` says it by `clap`'s own
 //! words, or that they ask for nothing, with the cause ([`WordsFault`]); [`read_stream_words`] does so for what is asked of the standard
-//! streams alone. It stands on `clap`. Its types are [`Request`] and what that holds: [`StreamRequest`] with [`HiveCount`],
-//! [`EditRequest`] with [`Begin`], [`Places`] and [`Form`].
+//! streams alone; [`told`] is just the line that tells a change, as `specs/ChangeLines.antt` has it. It stands on `clap`, and on reg_text,
+//! which writes names and data. Its types are [`Request`] and what that holds: [`StreamRequest`] with [`HiveCount`], [`EditRequest`] with
+//! [`Begin`], [`KeyChange`] with [`Contents`], [`Places`] and [`Form`].
+//!
+//! `command` is the command as `clap` reads it; `asked` and `changes` say what its matches ask for, `places` reads where a pattern is searched
+//! for, `typed` a change, and `reasons` says which word isn't understood.
 #![tactic(auto)]
 
 mod asked;
+mod changes;
 mod command;
 mod fault;
 mod places;
+mod reasons;
 mod request;
+mod typed;
 
 ghost use Rattle.std.specs.Prelude.{◌≡◌, IfOk, IfErr};
 ghost use Rattle.clap.specs.Words.{app_of};
@@ -21,16 +28,26 @@ ghost use Rattle.reg_words.specs.Internal.Commands.{stream_of as stream_asked};
 
 use crate::asked::{asked, has_both_options};
 use crate::command::whole_command;
+use crate::reasons::reason;
 use clap::error::ErrorKind;
-use clap::{Command, Error};
+use clap::{ArgMatches, Command, Error};
 pub use fault::WordsFault;
 pub use request::{Begin, EditRequest, Form, HiveCount, Places, Request, StreamRequest};
 use std::alloc::Global;
+pub use typed::{Contents, KeyChange, told};
 
 /// The error of words that `clap` takes though they ask for nothing that is served, told in its own manner.
 fn refusal(command: &mut Command<'_>, text: &str) -> Error {
     match command.error(ErrorKind::ArgumentConflict, text) {
         Ok(error) => error,
+        Err(error) => Error::from(error),
+    }
+}
+
+/// The error of words that `clap` takes though they ask for nothing: it says what isn't understood.
+fn nothing_asked(alloc: Global, command: &mut Command<'_>, matches: &ArgMatches<'_>) -> Error {
+    match reason(alloc, matches) {
+        Ok(text) => refusal(command, text.as_str()),
         Err(error) => Error::from(error),
     }
 }
@@ -52,10 +69,7 @@ fn read_by<'a>(
     }
     match asked(alloc, &matches)? {
         Some(request) => Ok(request),
-        None => Err(WordsFault::Unread(refusal(
-            command,
-            "the words ask for two moments, or a form or place that there is none of",
-        ))),
+        None => Err(WordsFault::Unread(nothing_asked(alloc, command, &matches))),
     }
 }
 

@@ -2,6 +2,8 @@
 
 ghost use Rattle.std.specs.Prelude.{◌≤◌};
 
+use crate::typed::KeyChange;
+
 /// A number of hives.
 #[derive(Clone, Copy, Debug, PartialEq, Eq)]
 pub struct HiveCount {
@@ -57,7 +59,7 @@ pub enum Form {
     Csv,
 }
 
-/// What `edit` or `import` is asked for.
+/// What a command that saves a file is asked for of it.
 #[derive(Clone, Copy, Debug, PartialEq, Eq)]
 pub struct EditRequest<'a> {
     pub file: &'a str,
@@ -132,4 +134,9 @@ pub enum Request<'a> {
     },
     /// The entries of a .reg text made in the hive of a file.
     Import(EditRequest<'a>),
+    /// One change made in the hive of a file.
+    Change {
+        edit: EditRequest<'a>,
+        change: KeyChange,
+    },
 }

@@ -1,5 +1,5 @@
 -- `clap`'s commands as they are put together, and what is read of their matches (this project's own).
-use Rattle.std.specs.Prelude.{◌≡◌, false, Option, Some, None}
+use Rattle.std.specs.Prelude.{◌≡◌, ℕ, List, codes, false, Option, Some, None}
 use Rattle.clap.specs.Words.{App, Rule, app_of, rule_of}
 use Rattle.clap.specs.declared.builder.command.Command.TheViews.{out-Command}
 use Rattle.clap.specs.declared.builder.arg.Arg.{Arg}
@@ -27,3 +27,17 @@ IsFound {A} P None = (a : A) → P a → ⊥
 abbrev pub stream_of : Request → Option StreamRequest
 stream_of (Stream stream) = Some stream
 stream_of request = None
+
+-- a subcommand of another name than all that ask for something but a change
+pub record IsOther (name : List ℕ) : Type 0 where
+  pub no_run_word : name ≡ codes "run" → ⊥
+  pub no_dump_word : name ≡ codes "dump" → ⊥
+  pub no_check_word : name ≡ codes "check" → ⊥
+  pub no_ls_word : name ≡ codes "ls" → ⊥
+  pub no_get_word : name ≡ codes "get" → ⊥
+  pub no_find_word : name ≡ codes "find" → ⊥
+  pub no_diff_word : name ≡ codes "diff" → ⊥
+  pub no_export_word : name ≡ codes "export" → ⊥
+  pub no_new_word : name ≡ codes "new" → ⊥
+  pub no_edit_word : name ≡ codes "edit" → ⊥
+  pub no_import_word : name ≡ codes "import" → ⊥

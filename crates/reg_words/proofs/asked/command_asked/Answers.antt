@@ -1,6 +1,6 @@
 use Rattle.std.proofs.Common.{codes, rules}
 use Rattle.clap.specs.Words.{found_of, rows_of}
-use Rattle.reg_words.proofs.AskedWords.{asked_so, named_so, none_asked}
+use Rattle.reg_words.proofs.AskedWords.{asked_so, named_so}
 use Rattle.reg_words.proofs.asked.command_asked.Goals as goal
 
 pub returns-then-eq : goal.returns-then-eq
@@ -37,8 +37,8 @@ returns-then-eq-10 c = named_so c.args.name.now (codes "edit") (rows_of (found_o
 pub returns-then-eq-11 : goal.returns-then-eq-11
 returns-then-eq-11 c = named_so c.args.name.now (codes "import") (rows_of (found_of c.args.matches.now)) c.import_asked.result (search rules) c.import_asked.ensures
 
-pub returns : goal.returns
-returns c = none_asked c.args.name.now (rows_of (found_of c.args.matches.now)) (record {
+pub change_asked-requires : goal.change_asked-requires
+change_asked-requires c = record {
   no_run_word = λ e. search (rules, e);
   no_dump_word = λ e. search (rules, e);
   no_check_word = λ e. search (rules, e);
@@ -50,4 +50,4 @@ returns c = none_asked c.args.name.now (rows_of (found_of c.args.matches.now)) (
   no_new_word = λ e. search (rules, e);
   no_edit_word = λ e. search (rules, e);
   no_import_word = λ e. search (rules, e);
-})
+}

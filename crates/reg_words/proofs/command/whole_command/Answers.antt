@@ -6,6 +6,6 @@ use Rattle.reg_words.proofs.command.whole_command.Goals as goal
 pub returns : goal.returns
 unfolding regtool
 returns c =
-    let making = with_sub _ _ _ _ _ c.in_ok-query_commands.ensures c.new_command.ensures c.in_ok-making.ensures in
-    let editing = with_sub _ _ _ _ _ making c.edit_command.ensures c.in_ok-editing.ensures in
-    IfOk-weaker c.with_made-3.result _ _ (λ r made. with_sub _ r _ _ _ editing c.import_command.ensures made) c.with_made-3.ensures
+    let setting = with_sub _ _ _ _ _ c.in_ok-saving_commands.ensures c.set_command.ensures c.in_ok-setting.ensures in
+    let creating = with_sub _ _ _ _ _ setting c.create_command.ensures c.in_ok-creating.ensures in
+    IfOk-weaker c.with_made-3.result _ _ (λ r made. with_sub _ r _ _ _ creating c.delete_command.ensures made) c.with_made-3.ensures

@@ -1,0 +1,41 @@
+-- What a change of a file left, put together.
+use Rattle.std.proofs.Common.{◌≡◌, ◌∙◌, ℕ, Bool, true, false, List, Option, inl, inr, refl, sym, ap, subst}
+use Rattle.std.specs.Prelude.{◌&&◌, Result, Ok, Err, OnOk, IfErr}
+use Rattle.reg_words.specs.declared.request.EditRequest.{EditRequest}
+use Rattle.reg_words.specs.ChangeLines.{told as line_of}
+use Rattle.reg_words.specs.declared.typed.change.KeyChange.{KeyChange}
+use Rattle.reg_edits.specs.KeyChanges.{Changes}
+use Rattle.reg_edits.specs.declared.edits.Edited.{Edited}
+use Rattle.reg_files.specs.Serving.{IsCutShort, IsGiven, Tells, ChangesFile, StopsChanging}
+use Rattle.reg_files.specs.Internal.Cuts.{is_save_end_cut}
+use Rattle.reg_files.specs.declared.fault.SaveEnd.{SaveEnd}
+
+-- it was made, and told if it was to be
+pub changed : (edit : EditRequest) (change : KeyChange) (begin : ℕ) (edited : Edited) (file file_left before after : Option (List ℕ))
+    (line : List ℕ) → IsGiven edit.begin begin → Changes begin change edited file file_left → line ≡ line_of change →
+    {A E : Type 0} (r : Result A E) → OnOk r (Tells (edit.dry_run && edited.is_changed) line before after) →
+    OnOk r (ChangesFile edit change before after)
+changed edit change begin edited file file_left before after line given changes same (Ok a) tells = (
+  file,
+  file_left,
+  (
+    begin,
+    edited,
+    given,
+    changes,
+    subst (λ (l : List ℕ). Tells (edit.dry_run && edited.is_changed) l before after) same tells,
+  ),
+)
+changed edit change begin edited file file_left before after line given changes same (Err e) tells = tells
+
+-- its line was cut short
+pub cut_short : (change : KeyChange) (line : List ℕ) (before after : Option (List ℕ)) → line ≡ line_of change →
+    {A : Type 0} (r : Result A SaveEnd) → IfErr r (λ end. (is_save_end_cut end ≡ true) × IsCutShort line before after) →
+    IfErr r (λ end. StopsChanging change (is_save_end_cut end) before after)
+cut_short change line before after same (Ok a) h = h
+cut_short change line before after same (Err end) h = inr (h.0, subst (λ (l : List ℕ). IsCutShort l before after) same h.1)
+
+-- it ended before that, and nothing was written
+pub ended : (change : KeyChange) (end : SaveEnd) (before : Option (List ℕ)) → is_save_end_cut end ≡ false →
+    StopsChanging change (is_save_end_cut end) before before
+ended change end before none = inl (none, refl)

@@ -1,0 +1,15 @@
+use Rattle.std.proofs.Common.{◌∙◌, ap, codes}
+use Rattle.std.specs.Prelude.{option_map}
+use Rattle.clap.specs.Words.{found_of, rows_of}
+use Rattle.reg_words.proofs.AskedWords.{first_is}
+use Rattle.reg_words.proofs.AskedChanges.{no_type}
+use Rattle.reg_words.proofs.changes.contents_asked.Goals as goal
+
+pub contents_of-requires : goal.contents_of-requires
+contents_of-requires c =
+    first_is (found_of c.args.matches.now) (codes "type") _ c.get_str.ensures ∙ ap (option_map (λ s. s.now)) c.in-Some.is
+
+pub returns-in-None : goal.returns-in-None
+returns-in-None c =
+    no_type (rows_of (found_of c.args.matches.now))
+    (first_is (found_of c.args.matches.now) (codes "type") _ c.get_str.ensures ∙ ap (option_map (λ s. s.now)) c.in-None.is)
