@@ -8,7 +8,7 @@ use Rattle.reg_words.specs.declared.request.Request.{Request}
 use Rattle.reg_words.specs.declared.request.StreamRequest.TheVariants as stream
 use Rattle.reg_files.specs.Serving.{Answers, AnswerStops, AreOther, AreSame, Checks, ChecksFiles, Fails, Serves, StopsDiffing, IsReported}
 use Rattle.reg_files.specs.Serving.{name_before, NameStops}
-use Rattle.reg_files.specs.Internal.Outcomes.{Outcome, Settles}
+use Rattle.reg_files.specs.Internal.Outcomes.{Outcome, Settles, status_of}
 
 -- what is reported where one knows of the output whether somebody reads it
 pub reported_as : (shut closed cut : Bool) (told told_after : Option (List ℕ)) (failed now_failed : Option ℕ) → shut ≡ closed →
@@ -84,6 +84,24 @@ module _ (request : Request) (closed : Bool) (unread before after told told_afte
   compared is_cut shut same_output (Err e) status h small same other stops serves fails =
       subst (λ (n : ℕ). Outcome request n closed unread unread before after told told_after failed now_failed) (sym h.0)
       (fails (inr (is_cut e, stops, reported_as shut closed (is_cut e) told told_after failed now_failed same_output h.1)))
+
+  -- a pattern was searched for in a file
+  pub searched : {E : Type 0} (is_cut : E → Bool) (Finds : Bool → Type 0) (Halts : (cut : Bool) → Type 0) (shut : Bool) → shut ≡ closed
+      → (r : Result Bool E) (status : ℕ)
+      → MatchResult r (λ is_found. (status ≡ status_of is_found) × (told_after ≡ told))
+      (λ e. (status ≡ 1) × IsReported (shut && is_cut e) told told_after failed now_failed)
+      → IfOk r Finds → IfErr r (λ e. Halts (is_cut e)) → (Finds true → Serves request unread unread before after told told_after)
+      → (((Finds false × (told_after ≡ told)) ⊎ ((cut : Bool) × Halts cut × IsReported (closed && cut) told told_after failed now_failed))
+      → Fails request closed unread unread before after told told_after failed now_failed)
+      → Outcome request status closed unread unread before after told told_after failed now_failed
+  searched is_cut Finds Halts shut same_output (Ok true) status h finds halts serves fails =
+      subst (λ (n : ℕ). Outcome request n closed unread unread before after told told_after failed now_failed) (sym h.0) (serves finds, h.1)
+  searched is_cut Finds Halts shut same_output (Ok false) status h finds halts serves fails =
+      subst (λ (n : ℕ). Outcome request n closed unread unread before after told told_after failed now_failed) (sym h.0)
+      (fails (inl (finds, h.1)))
+  searched is_cut Finds Halts shut same_output (Err e) status h finds halts serves fails =
+      subst (λ (n : ℕ). Outcome request n closed unread unread before after told told_after failed now_failed) (sym h.0)
+      (fails (inr (is_cut e, halts, reported_as shut closed (is_cut e) told told_after failed now_failed same_output h.1)))
 
 -- behind a file's name its count was written, or something ended that
 pub behind : (is_named : Bool) (file : List ℕ) (status : ℕ) (closed : Bool) (before named after told told_after : Option (List ℕ))

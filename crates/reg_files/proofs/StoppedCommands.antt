@@ -84,8 +84,9 @@ stops_writing form given_cut cut same_cut unread left given path before after sa
 
 -- a search wasn't made
 pub stops_finding : (fault : FindFault) (cut : Bool) → cut ≡ is_find_cut fault → (unread left before after : Option (List ℕ))
-    (pattern : List ℕ) (scope : Scope) → FindStops fault unread left pattern scope before after → StopsFinding cut pattern scope before after
-stops_finding fault cut same_cut unread left before after pattern scope h = inr (fault, same_cut, (unread, left, h))
+    (pattern : List ℕ) (ignores_case : Bool) (scope : Scope) → FindStops fault unread left pattern ignores_case scope before after →
+    StopsFinding cut pattern ignores_case scope before after
+stops_finding fault cut same_cut unread left before after pattern ignores_case scope h = inr (fault, same_cut, (unread, left, h))
 
 module _ (cut : Bool) (old old_left new new_left before after : Option (List ℕ)) where
   -- two files weren't compared, or not to the end

@@ -132,11 +132,17 @@ ChecksFiles files status closed before after told told_after failed now_failed =
 
 -- where a pattern is searched for in the places that are asked for
 abbrev pub scope_of : Places → Scope
-scope_of places = record { keys = places.keys; names = places.names; texts = places.texts }
+scope_of places =
+    record { keys = places.keys; names = places.names; texts = places.texts; paths = places.paths; bytes = places.bytes }
 
 -- the bytes of a file, those that are left, and what was done with it
 abbrev pub OfFile : (Option (List ℕ) → Option (List ℕ) → Type 0) → Type 0
 OfFile done = (unread : Option (List ℕ)) × (left : Option (List ℕ)) × done unread left
+
+-- a pattern was searched for in some file's tree, what it finds was written, and whether it finds anything
+abbrev pub FindsIn : (pattern : List ℕ) → (ignores_case : Bool) → Scope → (is_found : Bool) → (before after : Option (List ℕ)) → Type 0
+FindsIn pattern ignores_case scope is_found before after =
+    OfFile (λ unread left. Finds unread left pattern ignores_case scope is_found before after)
 
 -- the trees of two files were compared, and are the same: that was written behind what is written of no difference
 abbrev pub AreSame : (before after : Option (List ℕ)) → Type 0
@@ -198,10 +204,11 @@ StopsGetting cut is_look path name is_raw before after =
     × OfFile (λ unread left. GetEnds is_look fault unread left path name is_raw before after))
 
 -- why a search wasn't made, or not to the end
-abbrev pub StopsFinding : (cut : Bool) → (pattern : List ℕ) → Scope → (before after : Option (List ℕ)) → Type 0
-StopsFinding cut pattern scope before after =
+abbrev pub StopsFinding : (cut : Bool) → (pattern : List ℕ) → (ignores_case : Bool) → Scope → (before after : Option (List ℕ)) → Type 0
+StopsFinding cut pattern ignores_case scope before after =
     ((cut ≡ false) × (after ≡ before))
-    ⊎ ((fault : FindFault) × (cut ≡ is_find_cut fault) × OfFile (λ unread left. FindStops fault unread left pattern scope before after))
+    ⊎ ((fault : FindFault) × (cut ≡ is_find_cut fault)
+    × OfFile (λ unread left. FindStops fault unread left pattern ignores_case scope before after))
 
 -- why it wasn't written how two files differ, or that they are the same, or not to the end: one of them wasn't opened, and nothing was
 -- written; or what ended it; or a write that they are the same
@@ -261,8 +268,8 @@ StopsChanging change cut before after =
     ((cut ≡ false) × (after ≡ before)) ⊎ ((cut ≡ true) × IsCutShort (line_of change) before after)
 
 -- what a request did with the input and the output, where the status is 0: one of the standard streams was answered; an edit ran the script
--- on the hive in some file, and no line failed; a key or a value of some file's tree was written, or each of some files counted; and all but
--- the first two and an import read nothing
+-- on the hive in some file, and no line failed; a key or a value of some file's tree was written, something was found in it, or each of some
+-- files counted; and all but the first two and an import read nothing
 abbrev pub Serves : Request → (unread left before after told told_after : Option (List ℕ)) → Type 0
 Serves (Stream request) unread left before after told told_after = Does request unread left before after
 Serves (Dump file) unread left before after told told_after = (left ≡ unread) × Answers stream.Dump before after told told_after
@@ -274,8 +281,8 @@ Serves (Listing file path is_tree is_whole) unread left before after told told_a
     × OfFile (λ image image_left. Lists (is_look (is_tree || is_whole) path.now) image image_left path.now is_tree before after)
 Serves (Get file path name is_raw is_whole) unread left before after told told_after =
     (left ≡ unread) × OfFile (λ image image_left. Gets (is_look is_whole path.now) image image_left path.now name.now is_raw before after)
-Serves (Find file pattern places) unread left before after told told_after =
-    (left ≡ unread) × OfFile (λ image image_left. Finds image image_left pattern.now (scope_of places) before after)
+Serves (Find file pattern ignores_case places) unread left before after told told_after =
+    (left ≡ unread) × FindsIn pattern.now ignores_case (scope_of places) true before after
 Serves (Diff old new) unread left before after told told_after = (left ≡ unread) × AreSame before after
 Serves (Export file path form) unread left before after told told_after =
     (left ≡ unread) × OfFile (λ image image_left. WritesAs form image image_left path.now before after)
@@ -284,9 +291,9 @@ Serves (Edit edit keeps_going) unread left before after told told_after = EditsF
 Serves (Import edit) unread left before after told told_after = Enters edit unread left × (after ≡ before)
 Serves (Change edit change) unread left before after told told_after = (left ≡ unread) × ChangesFile edit change before after
 
--- what it did where the status is 1: one of the standard streams ended early; `diff` wrote that the trees of some files differ; or something
--- was refused or faulty, and that reported. What was read and written by then is what ended it left. `closed` says whether a write failed
--- since nobody reads the output any more: then that needn't be reported, but all else must
+-- what it did where the status is 1: one of the standard streams ended early; `diff` wrote that the trees of some files differ; `find` found
+-- nothing; or something was refused or faulty, and that reported. What was read and written by then is what ended it left. `closed` says
+-- whether a write failed since nobody reads the output any more: then that needn't be reported, but all else must
 abbrev pub Fails : Request → (closed : Bool) → (unread left before after told told_after : Option (List ℕ)) → (failed now_failed : Option ℕ) → Type 0
 Fails (Stream request) closed unread left before after told told_after failed now_failed =
     EndsEarly request unread left before after told told_after failed now_failed
@@ -311,9 +318,10 @@ Fails (Listing file path is_tree is_whole) closed unread left before after told 
 Fails (Get file path name is_raw is_whole) closed unread left before after told told_after failed now_failed =
     (left ≡ unread) × ((cut : Bool) × StopsGetting cut (is_look is_whole path.now) path.now name.now is_raw before after
     × IsReported (closed && cut) told told_after failed now_failed)
-Fails (Find file pattern places) closed unread left before after told told_after failed now_failed =
-    (left ≡ unread) × ((cut : Bool) × StopsFinding cut pattern.now (scope_of places) before after
-    × IsReported (closed && cut) told told_after failed now_failed)
+Fails (Find file pattern ignores_case places) closed unread left before after told told_after failed now_failed =
+    (left ≡ unread) × ((FindsIn pattern.now ignores_case (scope_of places) false before after × (told_after ≡ told))
+    ⊎ ((cut : Bool) × StopsFinding cut pattern.now ignores_case (scope_of places) before after
+    × IsReported (closed && cut) told told_after failed now_failed))
 Fails (Export file path form) closed unread left before after told told_after failed now_failed =
     (left ≡ unread) × ((cut : Bool) × StopsWriting form cut path.now before after
     × IsReported (closed && cut) told told_after failed now_failed)
@@ -325,7 +333,7 @@ pub record IsServed (words : List (List ℕ)) (unread left before after told tol
   pub serves : Serves request unread left before after told told_after
   pub silent : told_after ≡ told
 
--- what they ask for wasn't done, or `diff` wrote a difference
+-- what they ask for wasn't done, or `diff` wrote a difference, or `find` found nothing
 pub record IsFailed (words : List (List ℕ)) (closed : Bool) (unread left before after told told_after : Option (List ℕ)) (failed now_failed : Option ℕ)
     : Type 0 where
   pub request : Request

@@ -8,7 +8,7 @@ use crate::commands::{change_file, edit_file, import_text, new_file};
 use crate::device::Output;
 use crate::locks::Lockable;
 use crate::queries::{diff_files, export_key, find_in, get_value, list_key};
-use crate::reports::{settle, settle_diff, settle_save};
+use crate::reports::{settle, settle_diff, settle_find, settle_save};
 use crate::streams::{check_files, dump_file};
 use reg_command::serve_stream;
 use reg_text::Sink;
@@ -110,16 +110,17 @@ fn find_asked<H: Files, W: Output, E: Sink>(
     host: &H,
     file: &str,
     pattern: &str,
+    ignores_case: bool,
     places: Places,
     output: &mut W,
     errors: &mut E,
 ) -> u8
-    ensures { (unread : Option (List ℕ)) → Outcome (Request.Find file.entry pattern.entry places) result (W.closed output.new) unread unread
+    ensures { (unread : Option (List ℕ)) → Outcome (Request.Find file.entry pattern.entry ignores_case places) result (W.closed output.new) unread unread
         (W.contents output.old) (W.contents output.new)
         (E.contents errors.old) (E.contents errors.new) (E.failures errors.old) (E.failures errors.new) }
 {
-    let done = find_in(alloc, host, file, pattern, places, output);
-    settle(alloc, errors, file, output.is_closed(), done)
+    let done = find_in(alloc, host, file, pattern, ignores_case, places, output);
+    settle_find(alloc, errors, file, output.is_closed(), done)
 }
 
 /// `diff`.
@@ -266,8 +267,18 @@ where
         Request::Find {
             file,
             pattern,
+            ignores_case,
             places,
-        } => find_asked(alloc, host, file, pattern, places, output, errors),
+        } => find_asked(
+            alloc,
+            host,
+            file,
+            pattern,
+            ignores_case,
+            places,
+            output,
+            errors,
+        ),
         Request::Diff { old, new } => diff_asked(alloc, host, old, new, output, errors),
         Request::Export { file, path, form } => {
             export_asked(alloc, host, file, path, form, output, errors)

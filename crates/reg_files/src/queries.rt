@@ -3,8 +3,7 @@
 ghost use Rattle.std.specs.Prelude.{◌≡◌, ◌≤◌, ◌||◌, ℕ, List, Option, false, IfOk, IfErr, OnOk};
 ghost use Rattle.reg_queries.specs.KeyQueries.{Lists};
 ghost use Rattle.reg_queries.specs.Queries.{is_look, Gets};
-ghost use Rattle.reg_queries.specs.Finds.{Finds};
-ghost use Rattle.reg_files.specs.Serving.{scope_of, AreSame, AreOther, WritesAs};
+ghost use Rattle.reg_files.specs.Serving.{scope_of, FindsIn, AreSame, AreOther, WritesAs};
 ghost use Rattle.reg_files.specs.Serving.{StopsListing, StopsGetting, StopsFinding, StopsDiffing, WriteStops, StopsWriting};
 ghost use Rattle.reg_files.specs.Internal.Cuts.{is_cut, is_diff_end_cut};
 
@@ -90,27 +89,30 @@ pub fn get_value<H: Files, W: Write>(
     }
 }
 
-/// Writes what a pattern finds in a file's hive.
+/// Writes what a pattern finds in a file's hive, and answers whether it finds anything.
 pub fn find_in<H: Files, W: Write>(
     alloc: Global,
     host: &H,
     file: &str,
     pattern: &str,
+    ignores_case: bool,
     places: Places,
     output: &mut W,
-) -> Result<(), Fault>
-    ensures ok { OnOk result ((unread : Option (List ℕ)) × (left : Option (List ℕ))
-        × Finds unread left pattern.now (scope_of places) (W.contents output.old) (W.contents output.new)) }
-    ensures err { IfErr result (λ fault. StopsFinding (is_cut fault) pattern.now (scope_of places) (W.contents output.old) (W.contents output.new)) }
+) -> Result<bool, Fault>
+    ensures ok { IfOk result (λ is_found. FindsIn pattern.now ignores_case (scope_of places) is_found (W.contents output.old) (W.contents output.new)) }
+    ensures err { IfErr result (λ fault. StopsFinding (is_cut fault) pattern.now ignores_case (scope_of places)
+        (W.contents output.old) (W.contents output.new)) }
 {
     let mut image = open(host, file)?;
     let scope = Scope {
         keys: places.keys,
         names: places.names,
         texts: places.texts,
+        paths: places.paths,
+        bytes: places.bytes,
     };
-    match find(alloc, &mut image, pattern, scope, output) {
-        Ok(()) => Ok(()),
+    match find(alloc, &mut image, pattern, ignores_case, scope, output) {
+        Ok(is_found) => Ok(is_found),
         Err(fault) => Err(Fault::from(fault).of_file(&mut image)),
     }
 }

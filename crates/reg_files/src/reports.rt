@@ -4,7 +4,7 @@ ghost use Rattle.std.specs.Prelude.{◌≡◌, ◌++◌, false, ◌&&◌, IfOk, 
 ghost use Rattle.reg_text.specs.Texts.{line_feed};
 ghost use Rattle.reg_files.specs.Serving.{IsReported};
 ghost use Rattle.reg_files.specs.Internal.Cuts.{is_cut, is_diff_end_cut, is_save_end_cut};
-ghost use Rattle.reg_files.specs.Internal.Outcomes.{Settles};
+ghost use Rattle.reg_files.specs.Internal.Outcomes.{status_of, Settles};
 
 use crate::fault::{DiffEnd, Fault, SaveEnd};
 use reg_command::say;
@@ -204,5 +204,24 @@ pub fn settle_diff<E: Sink>(
         Ok(status) => status,
         Err(DiffEnd::Old(fault)) => settle(alloc, errors, old, is_closed, Err(fault)),
         Err(DiffEnd::New(fault)) => settle(alloc, errors, new, is_closed, Err(fault)),
+    }
+}
+
+/// Ends a search of a file, and answers its status, which is 1 where nothing was found. What ended it early is reported.
+pub fn settle_find<E: Sink>(
+    alloc: Global,
+    errors: &mut E,
+    file: &str,
+    is_closed: bool,
+    done: Result<bool, Fault>,
+) -> u8
+    ensures { MatchResult done (λ is_found. (result ≡ status_of is_found) × (E.contents errors.new ≡ E.contents errors.old))
+        (λ fault. (result ≡ 1) × IsReported (is_closed && is_cut fault) (E.contents errors.old) (E.contents errors.new)
+        (E.failures errors.old) (E.failures errors.new)) }
+{
+    match done {
+        Ok(true) => 0,
+        Ok(false) => 1,
+        Err(fault) => settle(alloc, errors, file, is_closed, Err(fault)),
     }
 }

@@ -1,6 +1,6 @@
 -- The keys of a tree, searched one after another.
-use Rattle.std.proofs.Common.{◌≡◌, ℕ, Bool, List, [], ◌∷◌, ◌++◌, refl, ap}
-use Rattle.std.specs.Prelude.{flat_map}
+use Rattle.std.proofs.Common.{◌≡◌, ℕ, ◌+◌, ◌∙◌, Bool, List, [], ◌∷◌, ◌++◌, length, length-append, append-nil, refl, ap, arith}
+use Rattle.std.specs.Prelude.{flat_map, nat_lt}
 use Rattle.reg_heap.specs.Trees.{IsTree}
 use Rattle.reg_tree.specs.declared.node.Node.{Node}
 use Rattle.reg_tree.specs.TreeKeys.{Keys, IsAt}
@@ -36,3 +36,12 @@ key_next begin now whole left gathered written matches same scope here rest e s 
     let behind = flat_map (found_lines matches scope) rest in
     swapped begin now whole lines (found_lines same scope here) (behind ++ left) gathered written
     (opened begin now whole lines behind left gathered written s) (ap (λ (m : List ℕ → Bool). found_lines m scope here) e)
+
+-- so many bytes were told of a whole text
+pub told_some : (begin now : WriterState) (whole gathered : List ℕ) (written : ℕ) → IsSoFar begin now whole [] gathered written →
+    nat_lt 0 (written + length gathered) ≡ nat_lt 0 (length whole)
+told_some begin now whole gathered written s =
+    let joined = ap length s.splits ∙ (length-append s.sent (gathered ++ []) ∙ ap (λ (x : List ℕ). length s.sent + length x) (append-nil gathered)) in
+    let counted = s.counts in
+    let same : written + length gathered ≡ length whole = omega (arith, joined, counted) in
+    ap (nat_lt 0) same

@@ -14,7 +14,7 @@ use Rattle.reg_tree_text.proofs.SentTexts.{opened, swapped, then_gathered}
 use Rattle.reg_tree_text.specs.Listings.{after_name, key_line}
 use Rattle.reg_tree_text.specs.ValueTexts.{value_told}
 use Rattle.reg_find.specs.declared.scope.Scope.{Scope}
-use Rattle.reg_find.specs.Findings.{is_value_found, value_line, value_found, key_found}
+use Rattle.reg_find.specs.Findings.{is_held, is_data_found, is_value_found, is_key_found, value_line, value_found, key_found}
 
 -- a first part was gathered, and the next one is to be told
 part : (begin now : WriterState) (whole first next rest left gathered more : List ℕ) (written : ℕ) →
@@ -43,35 +43,51 @@ module _ (begin now : WriterState) (whole left gathered more : List ℕ) (writte
 
 -- ---- a key by itself
 
-module _ (matches : List ℕ → Bool) (scope : Scope) (told : Told) (name : List ℕ) (found : Bool) (named : name ≡ told.key.name)
-    (asked : found ≡ (scope.keys && matches name)) where
-  key_asked : (scope.keys && matches told.key.name) ≡ found
-  key_asked = sym (asked ∙ ap (λ (n : List ℕ). scope.keys && matches n) named)
+module _ (matches : List ℕ → Bool) (scope : Scope) (told : Told) (name path : List ℕ) (found : Bool) (named : name ≡ told.key.name)
+    (read : path ≡ text_of told.names) (asked : found ≡ is_key_found matches scope name path) where
+  key_asked : is_key_found matches scope told.key.name (text_of told.names) ≡ found
+  key_asked =
+      sym (asked ∙ (ap (λ (n : List ℕ). is_key_found matches scope n path) named
+      ∙ ap (λ (t : List ℕ). is_key_found matches scope told.key.name t) read))
 
   pub key_none : found ≡ false → key_found matches scope told ≡ []
   key_none e = ap (λ (b : Bool). if b then key_line (text_of told.names) else []) (key_asked ∙ e)
 
-  pub key_some : found ≡ true → (path : List ℕ) → path ≡ text_of told.names → key_line path ≡ key_found matches scope told
-  key_some e path p =
+  pub key_some : found ≡ true → (written : List ℕ) → written ≡ text_of told.names → key_line written ≡ key_found matches scope told
+  key_some e written p =
       ap key_line p ∙ sym (ap (λ (b : Bool). if b then key_line (text_of told.names) else []) (key_asked ∙ e))
 
 -- ---- a value
 
-is_true : (b : Bool) → not b ≡ false → b ≡ true
-is_true true e = refl
-is_true false e = sym e
+neither : (texts held one other : Bool) → not (texts || held) ≡ true → (texts && one || held && other) ≡ false
+neither false false one other e = refl
+neither true held one other e = let bad : false ≡ true = e in cc
+neither false true one other e = let bad : false ≡ true = e in cc
 
--- its name isn't found, but its data are searched
-pub data_searched : {E : Type 0} (matches same : List ℕ → Bool) (scope : Scope) (member : Member) (name : List ℕ) (named : Bool) →
-    named ≡ (scope.names && matches name) → named ≡ false → name ≡ member.name → not scope.texts ≡ false → same ≡ matches → (r : Result Bool E) →
-    IfOk r (λ found. found ≡ same (value_told member.kind member.bytes)) → IfOk r (λ found. found ≡ is_value_found matches scope member)
-data_searched matches same scope member name named asked missed told texts e (Err fault) found = tt
-data_searched matches same scope member name named asked missed told texts e (Ok x) found =
-    let text = value_told member.kind member.bytes in
-    found ∙ (ap (λ (m : List ℕ → Bool). m text) e
-    ∙ sym
-    (ap (λ (b : Bool). b || scope.texts && matches text) (ap (λ (n : List ℕ). scope.names && matches n) (sym told) ∙ (sym asked ∙ missed))
-    ∙ ap (λ (b : Bool). b && matches text) (is_true scope.texts texts)))
+-- data that aren't searched aren't found
+none_searched : (matches : List ℕ → Bool) (scope : Scope) (kind : ℕ) (bytes : List ℕ) → not (scope.texts || scope.bytes) ≡ true →
+    is_data_found matches scope kind bytes ≡ false
+none_searched matches scope kind bytes e =
+    neither scope.texts scope.bytes (matches (value_told kind bytes)) (is_held matches bytes) e
+
+-- its name isn't found
+module _ (matches : List ℕ → Bool) (scope : Scope) (member : Member) (name : List ℕ) (named : Bool)
+    (asked : named ≡ (scope.names && matches name)) (missed : named ≡ false) (told : name ≡ member.name) where
+  by_data : is_value_found matches scope member ≡ is_data_found matches scope member.kind member.bytes
+  by_data =
+      ap (λ (b : Bool). b || is_data_found matches scope member.kind member.bytes)
+      (ap (λ (n : List ℕ). scope.names && matches n) (sym told) ∙ (sym asked ∙ missed))
+
+  -- but its data are searched
+  pub data_searched : {E : Type 0} (same : List ℕ → Bool) → same ≡ matches → (r : Result Bool E) →
+      IfOk r (λ found. found ≡ is_data_found same scope member.kind member.bytes) → IfOk r (λ found. found ≡ is_value_found matches scope member)
+  data_searched same e (Err fault) found = tt
+  data_searched same e (Ok x) found =
+      found ∙ (ap (λ (m : List ℕ → Bool). is_data_found m scope member.kind member.bytes) e ∙ sym by_data)
+
+  -- nor are its data searched
+  pub data_passed : not (scope.texts || scope.bytes) ≡ true → false ≡ is_value_found matches scope member
+  data_passed none = sym (by_data ∙ none_searched matches scope member.kind member.bytes none)
 
 pub tells_here : (values : List Member) (index : ℕ) (member : Member) → slice_get values index ≡ Some member → (name : List ℕ) (kind size : ℕ) →
     ((m : Member) × (slice_get values index ≡ Some m) × Tells m name kind size) → Tells member name kind size

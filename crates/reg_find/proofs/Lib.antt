@@ -1,4 +1,5 @@
 mod FoundLines
 mod FoundKeys
+mod HeldTexts
 mod PatternFaults
 mod RowsOfFindings

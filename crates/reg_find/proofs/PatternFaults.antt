@@ -1,5 +1,5 @@
 -- Why the regex crate compiles no pattern.
-use Rattle.std.proofs.Common.{◌≡◌, ℕ, List, subst}
+use Rattle.std.proofs.Common.{◌≡◌, ℕ, List, Bool, subst}
 use Rattle.regex_syntax.specs.declared.error.Error as parser
 use Rattle.regex.specs.Sources.{IsRefusal}
 use Rattle.regex.specs.Failures.{IsRightKind, HasSpanIn}
@@ -9,8 +9,9 @@ use Rattle.reg_find.specs.declared.fault.PatternFault.TheVariants.{Syntax}
 use Rattle.reg_find.specs.PatternTexts.{options, IsRefusedFor}
 
 -- an error of syntax is handed on
-pub refused-handed : (text : List ℕ) (given : Error) (error : parser.Error) → given ≡ regex.Syntax error →
-    IsRefusal options text given → IsRightKind options text given → HasSpanIn text given → IsRefusedFor text (Syntax error)
-refused-handed text given error e refused kind span =
+pub refused-handed : (text : List ℕ) (ignores_case : Bool) (given : Error) (error : parser.Error) → given ≡ regex.Syntax error →
+    IsRefusal (options ignores_case) text given → IsRightKind (options ignores_case) text given → HasSpanIn text given →
+    IsRefusedFor text ignores_case (Syntax error)
+refused-handed text ignores_case given error e refused kind span =
     let s = span error e in
-    (refused error e, subst (λ (g : Error). IsRightKind options text g) e kind, s.0, s.1, s.2)
+    (refused error e, subst (λ (g : Error). IsRightKind (options ignores_case) text g) e kind, s.0, s.1, s.2)

@@ -1,6 +1,6 @@
 -- What is found, computed of a tree that was worked out by hand.
 use Rattle.std.proofs.Common.{◌≡◌, ℕ, zero, suc, ◌+◌, Bool, true, List, [], ◌∷◌, ◌++◌, map, Option, refl, ap, ◌∙◌}
-use Rattle.std.specs.Prelude.{codes, filter, flat_map, false, bytes_eq}
+use Rattle.std.specs.Prelude.{codes, filter, flat_map, false, bytes_eq, length, nat_lt}
 use Rattle.std.specs.FinMap.{from_sorted, entries-from_sorted, get-from_sorted, get}
 use Rattle.std.specs.FinMap.Entries.{find}
 use Rattle.std.specs.Char.Utf16.{utf16_chars}
@@ -13,7 +13,7 @@ use Rattle.reg_tree_text.specs.DumpTexts.{Told, name_of, told_here, told_from, k
 use Rattle.reg_tree_text.specs.Listings.{after_name, key_line}
 use Rattle.reg_tree_text.specs.ValueTexts.{form_text}
 use Rattle.reg_find.specs.declared.scope.Scope.{Scope}
-use Rattle.reg_find.specs.Findings.{value_line, found_lines, found_text}
+use Rattle.reg_find.specs.Findings.{value_line, found_lines, found_text, is_found_in, wide_text}
 
 -- ---- the definitions, over functions that compute
 
@@ -80,7 +80,13 @@ below-same p =
     ap (λ (es : List (Path × Rec)). filter (is_child p) (map (λ (e : Path × Rec). e.0) es)) (entries-from_sorted path_cmp entries tt)
 
 abbrev scope : (keys names texts : Bool) → Scope
-scope keys names texts = record { keys = keys; names = names; texts = texts }
+scope keys names texts = record { keys = keys; names = names; texts = texts; paths = false; bytes = false }
+
+abbrev paths : Scope
+paths = record { keys = false; names = false; texts = false; paths = true; bytes = false }
+
+abbrev bytes : Scope
+bytes = record { keys = false; names = false; texts = false; paths = false; bytes = true }
 
 -- ---- found
 
@@ -142,3 +148,37 @@ name-not-asked = found-same tree at below at-same below-same (bytes_eq (codes "w
 empty-once : found_text (bytes_eq []) (scope true true true) tree ≡ codes "value =a = type 1 size 0\n"
 unfolding found_by told_by value_line after_name key_line digits byte_text form_text utf16_chars lib.Utf8.encode hex_on_literals
 empty-once = found-same tree at below at-same below-same (bytes_eq []) (scope true true true) ∙ refl
+
+-- paths, with a backslash between two names, that of the root empty, and not escaped
+path-found : found_text (bytes_eq (codes "a\\c\\d e")) paths tree ≡ codes "key =a\\c\\d%20e\n"
+unfolding found_by told_by value_line after_name key_line digits byte_text
+path-found = found-same tree at below at-same below-same (bytes_eq (codes "a\\c\\d e")) paths ∙ refl
+
+root-path : found_text (bytes_eq []) paths tree ≡ codes "key =\n"
+unfolding found_by told_by value_line after_name key_line digits byte_text
+root-path = found-same tree at below at-same below-same (bytes_eq []) paths ∙ refl
+
+-- a text that bytes are from the first or from the second: 01 00 00 00 are a control character and a line end, or a line end
+first-held : found_text (bytes_eq (1 ∷ 10 ∷ [])) bytes tree ≡ codes "value =a =v type 4 size 4\n"
+unfolding found_by told_by value_line after_name key_line digits byte_text utf16_chars lib.Utf8.encode
+first-held = found-same tree at below at-same below-same (bytes_eq (1 ∷ 10 ∷ [])) bytes ∙ refl
+
+second-held : found_text (bytes_eq (10 ∷ [])) bytes tree ≡ codes "value =a =v type 4 size 4\n"
+unfolding found_by told_by value_line after_name key_line digits byte_text utf16_chars lib.Utf8.encode
+second-held = found-same tree at below at-same below-same (bytes_eq (10 ∷ [])) bytes ∙ refl
+
+-- texts by hand: a last byte alone is passed over, and a surrogate alone is U+FFFD
+text-of-bytes : wide_text (0x5A ∷ 0 ∷ 0xE9 ∷ 0 ∷ 0 ∷ 0 ∷ 0x3D ∷ 0xD8 ∷ 0x12 ∷ []) ≡ 0x5A ∷ 0xC3 ∷ 0xA9 ∷ 10 ∷ 0xEF ∷ 0xBF ∷ 0xBD ∷ []
+unfolding utf16_chars lib.Utf8.encode
+text-of-bytes = refl
+
+-- whether anything is found
+found-none : is_found_in (bytes_eq (codes "zz")) (scope true true false) tree ≡ false
+unfolding found_by told_by value_line after_name key_line digits byte_text
+found-none =
+    ap (λ (text : List ℕ). nat_lt 0 (length text)) (found-same tree at below at-same below-same (bytes_eq (codes "zz")) (scope true true false)) ∙ refl
+
+found-some : is_found_in (bytes_eq (codes "w")) (scope true true false) tree ≡ true
+unfolding found_by told_by value_line after_name key_line digits byte_text
+found-some =
+    ap (λ (text : List ℕ). nat_lt 0 (length text)) (found-same tree at below at-same below-same (bytes_eq (codes "w")) (scope true true false)) ∙ refl

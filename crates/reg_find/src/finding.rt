@@ -1,5 +1,5 @@
 //! All keys and values of a tree that a pattern finds.
-ghost use Rattle.std.specs.Prelude.{◌≡◌, ◌<◌, flat_map, length, slice_get, Some, OnOk, IfErr, MatchResult};
+ghost use Rattle.std.specs.Prelude.{◌≡◌, ◌<◌, ◌+◌, nat_lt, flat_map, length, slice_get, string_bytes, Some, OnOk, IfOk, IfErr, MatchResult};
 ghost use Rattle.std.specs.FinMap.{get};
 ghost use Rattle.std.specs.Io.KnownBytes.{Appends};
 ghost use Rattle.reg_names.specs.Names.{text_of};
@@ -10,17 +10,17 @@ ghost use Rattle.reg_tree.specs.TreeKeys.{IsAt, IsThere};
 ghost use Rattle.reg_tree_text.specs.DumpTexts.{Told};
 ghost use Rattle.reg_tree_text.specs.DumpFronts.{IsStopped, IsBlamed};
 ghost use Rattle.reg_tree_text.specs.Internal.Gathered.{Puts};
-ghost use Rattle.reg_find.specs.Findings.{key_found, value_found, found_lines, found_text};
+ghost use Rattle.reg_find.specs.Findings.{key_found, value_found, found_lines, found_text, is_found_in};
 
 use crate::line::{put_key_line, put_value_line};
-use crate::search::{is_match_in, is_value_match};
+use crate::search::{is_key_match, is_value_match};
 use crate::{Pattern, Scope};
 use reg_text::{Output, Sink};
 use reg_tree::Tree;
 use reg_tree_text::{DumpFault, Walk, finish};
 use std::alloc::Global;
 
-/// Tells the line of the key at which a walk stands, where its name is found.
+/// Tells the line of the key at which a walk stands, where it is found.
 fn put_name<P: Pattern, W: Sink>(
     output: &mut Output<String>,
     writer: &mut W,
@@ -35,7 +35,7 @@ fn put_name<P: Pattern, W: Sink>(
         (key_found (P.matches pattern.old) scope told) result }
     ensures same { P.matches pattern.new ≡ P.matches pattern.old }
 {
-    if !is_match_in(pattern, scope.keys, tree.name(walk.node)) {
+    if !is_key_match(pattern, scope, tree.name(walk.node), &walk.path) {
         return Ok(());
     }
     put_key_line(output, writer, &walk.path)
@@ -132,9 +132,17 @@ fn put_tree<P: Pattern, W: Sink>(
     Err(DumpFault::Memory)
 }
 
-/// Finds a pattern in a tree, in the order of a dump: of each key a line with its path where its own name is searched and matches, and
-/// behind it one for each of its values of which the name, or the data told as a line, are searched and match, once, whichever did. The
-/// text goes to the writer while the keys are gone over, some 64 KB at a time, and at the end the writer is flushed.
+/// Whether anything was told.
+fn has_told(output: &Output<String>) -> bool
+    ensures { result ≡ nat_lt 0 (output.now.written + length (string_bytes output.now.gathered)) }
+{
+    output.written > 0 || !output.gathered.is_empty()
+}
+
+/// Finds a pattern in a tree, in the order of a dump: of each key a line with its path where its own name or that path is searched and
+/// matches, and behind it one for each of its values of which the name, the data told as a line, or a text that the data hold, are searched
+/// and match, once, whichever did. The text goes to the writer while the keys are gone over, some 64 KB at a time, and at the end the writer
+/// is flushed. Answers whether anything was found.
 ///
 /// `Write` only where a write or the flush failed, after so many bytes of the text, and nothing more is asked of the writer then;
 /// `Memory` only where none failed, after some front of the text, also where 64 bits can't count the keys, though no tree has so many.
@@ -144,8 +152,9 @@ pub fn find<P: Pattern, S: Sink>(
     pattern: &mut P,
     scope: Scope,
     writer: &mut S,
-) -> Result<(), DumpFault>
+) -> Result<bool, DumpFault>
     ensures ok { OnOk result (Appends (S.contents writer.old) (S.contents writer.new) (found_text (P.matches pattern.old) scope tree.now.tree)) }
+    ensures found { IfOk result (λ is_found. is_found ≡ is_found_in (P.matches pattern.old) scope tree.now.tree) }
     ensures err { IfErr result (λ fault. IsStopped (S.contents writer.old) (S.contents writer.new) (found_text (P.matches pattern.old) scope tree.now.tree) fault) }
     ensures flushed { OnOk result (S.is_flushed writer.new) }
     ensures failures { MatchResult result (λ _. Stays (S.failures writer.old) (S.failures writer.new))
@@ -153,5 +162,9 @@ pub fn find<P: Pattern, S: Sink>(
 {
     let mut output = Output::new(alloc);
     put_tree(&mut output, writer, alloc, tree, pattern, scope)?;
-    finish(&mut output, writer)
+    let is_found = has_told(&output);
+    match finish(&mut output, writer) {
+        Ok(()) => Ok(is_found),
+        Err(fault) => Err(fault),
+    }
 }

@@ -13,6 +13,7 @@ mod line;
 mod pattern;
 mod scope;
 mod search;
+mod wide;
 
 pub use fault::PatternFault;
 pub use finding::find;

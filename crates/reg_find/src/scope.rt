@@ -9,4 +9,8 @@ pub struct Scope {
     pub names: bool,
     /// The values' data, each told as a line ([`reg_tree_text::value_text`]).
     pub texts: bool,
+    /// The keys' paths, as their lines have them, but not escaped; the root's is empty.
+    pub paths: bool,
+    /// The values' data as bytes, for a text in UTF-16 that they hold.
+    pub bytes: bool,
 }

@@ -123,7 +123,7 @@ word_of (Dump file) = codes "dump"
 word_of (Check files) = codes "check"
 word_of (Listing file path is_tree is_whole) = codes "ls"
 word_of (Get file path name is_raw is_whole) = codes "get"
-word_of (Find file pattern places) = codes "find"
+word_of (Find file pattern ignores_case places) = codes "find"
 word_of (Diff old new) = codes "diff"
 word_of (Export file path form) = codes "export"
 word_of (New file name) = codes "new"
@@ -137,7 +137,7 @@ named found (Dump file) h = h.0
 named found (Check files) h = h.0
 named found (Listing file path is_tree is_whole) h = h.0
 named found (Get file path name is_raw is_whole) h = h.0
-named found (Find file pattern places) h = h.0
+named found (Find file pattern ignores_case places) h = h.0
 named found (Diff old new) h = h.0
 named found (Export file path form) h = h.0
 named found (New file name) h = h.0
@@ -180,7 +180,7 @@ none_asked name rows none never (Dump file) h = none.no_dump_word (named (name, 
 none_asked name rows none never (Check files) h = none.no_check_word (named (name, rows) (Check files) h)
 none_asked name rows none never (Listing file path is_tree is_whole) h = none.no_ls_word (named (name, rows) (Listing file path is_tree is_whole) h)
 none_asked name rows none never (Get file path value is_raw is_whole) h = none.no_get_word (named (name, rows) (Get file path value is_raw is_whole) h)
-none_asked name rows none never (Find file pattern places) h = none.no_find_word (named (name, rows) (Find file pattern places) h)
+none_asked name rows none never (Find file pattern ignores_case places) h = none.no_find_word (named (name, rows) (Find file pattern ignores_case places) h)
 none_asked name rows none never (Diff old new) h = none.no_diff_word (named (name, rows) (Diff old new) h)
 none_asked name rows none never (Export file path form) h = none.no_export_word (named (name, rows) (Export file path form) h)
 none_asked name rows none never (New file value) h = none.no_new_word (named (name, rows) (New file value) h)
@@ -229,9 +229,9 @@ module _ (rows : List Row) where
 
   pub no_find : ((first_of (codes "file") rows ≡ None) ⊎ ((first_of (codes "pattern") rows ≡ None)
       ⊎ ((places : Places) → AsksForPlaces rows places → ⊥))) → (request : Request) → Asks (codes "find", rows) request → ⊥
-  no_find (inl e) (Find file pattern places) h = none_there _ file.now e h.1
-  no_find (inr (inl e)) (Find file pattern places) h = none_there _ pattern.now e h.2
-  no_find (inr (inr never)) (Find file pattern places) h = never places h.3
+  no_find (inl e) (Find file pattern ignores_case places) h = none_there _ file.now e h.1
+  no_find (inr (inl e)) (Find file pattern ignores_case places) h = none_there _ pattern.now e h.2
+  no_find (inr (inr never)) (Find file pattern ignores_case places) h = never places h.3
   no_find e (Stream request) h = other_stream (codes "find", rows) (codes "find") request refl refl refl refl refl h
   no_find e (Change edit change) h = other_change (codes "find") rows edit change refl refl refl refl h
   no_find e request h = other (codes "find") rows request refl refl h

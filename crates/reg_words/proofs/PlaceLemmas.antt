@@ -1,10 +1,10 @@
 -- Places read part by part.
 use Rattle.std.proofs.Common.{◌≡◌, ℕ, ◌+◌, ◌<◌, ◌≤◌, ◌==◌, Bool, true, false, List, [], ◌∷◌, length, take, drop, refl, sym, ap, subst, ◌∙◌, cond, not, arith, suc}
-use Rattle.std.specs.Prelude.{Option, Some, None, MatchOption, if◌then◌else◌, nat_lt}
+use Rattle.std.specs.Prelude.{Option, Some, None, MatchOption, if◌then◌else◌, nat_lt, ◌||◌}
 use Rattle.std.proofs.lemmas.Bool.Decides.{nat_tests}
 use Rattle.std.specs.List.{position, position_or_len}
-use Rattle.std.specs.Option.{option_map}
-use Rattle.reg_words.specs.PlaceLists.{with_letter, parts_of, both}
+use Rattle.std.specs.Option.{option_map, option_and_then}
+use Rattle.reg_words.specs.PlaceLists.{with_letter, parts_of, both, place_of, places_of, places_in}
 use Rattle.reg_words.specs.declared.request.Places.{Places}
 
 abbrev pub is_comma : ℕ → Bool
@@ -65,3 +65,32 @@ cut_where text at e =
 -- those so far, with those of the rest
 abbrev pub joined : Places → Option Places → Option Places
 joined places rest = option_map (both places) rest
+
+or_more : (a b c : Bool) → (a || (b || c)) ≡ ((a || b) || c)
+or_more true b c = refl
+or_more false b c = refl
+
+both_more : (a b c : Places) → both a (both b c) ≡ both (both a b) c
+both_more a b c =
+    rw (
+      or_more a.keys b.keys c.keys,
+      or_more a.names b.names c.names,
+      or_more a.texts b.texts c.texts,
+      or_more a.paths b.paths c.paths,
+      or_more a.bytes b.bytes c.bytes,
+    ) refl
+
+joined_more : (places place : Places) (rest : Option Places) → joined places (joined place rest) ≡ joined (both places place) rest
+joined_more places place None = refl
+joined_more places place (Some others) = ap (λ (p : Places). Some p) (both_more places place others)
+
+-- a word more was read
+pub gathered : (text rest word behind cut : List ℕ) (places place new : Places) (got : Option Places) → places_in text ≡ joined places (places_in rest) →
+    parts_of rest ≡ word ∷ parts_of behind → got ≡ place_of word → got ≡ Some place → new ≡ both places place → cut ≡ behind →
+    places_in text ≡ joined new (places_in cut)
+gathered text rest word behind cut places place new got so_far parts read is n e =
+    so_far
+    ∙ (ap (λ (words : List (List ℕ)). joined places (places_of words)) parts
+    ∙ (ap (λ (o : Option Places). joined places (option_and_then (λ p. joined p (places_in behind)) o)) (sym read ∙ is)
+    ∙ (joined_more places place (places_in behind)
+    ∙ (ap (λ (p : Places). joined p (places_in behind)) (sym n) ∙ ap (λ (x : List ℕ). joined new (places_in x)) (sym e)))))

@@ -64,6 +64,10 @@ data_rule = record (new_rule (codes "data")) {
   range = Some (record { start_inclusive = 1; end_inclusive = usize_max });
 }
 
+-- the flag `--ignore-case`, or `-i`
+abbrev pub case_rule : Rule
+case_rule = record (flag_rule (codes "ignore-case")) { short = Some 105 }
+
 -- the option `--at`: a moment, a number of 64 bits
 abbrev pub at_rule : Rule
 at_rule = record (option_rule (codes "at")) { parser = Some (parser.Unsigned 0 18446744073709551615) }
@@ -108,7 +112,9 @@ get_command =
 -- `find`, of a file and a pattern, and where it is looked for
 abbrev pub find_command : App
 find_command =
-    with_rule (with_rule (with_rule (new_app (codes "find")) (file_rule true)) (place_rule (codes "pattern") true)) (option_rule (codes "in"))
+    with_rule
+    (with_rule (with_rule (with_rule (new_app (codes "find")) (file_rule true)) (place_rule (codes "pattern") true)) (option_rule (codes "in")))
+    case_rule
 
 -- `diff`, of an old file and a new one
 abbrev pub diff_command : App
@@ -183,7 +189,7 @@ saving_commands =
 -- `clap`'s command `regtool`, one of whose subcommands must be there: `run` with the options `--image` of a number of 32 bits and
 -- `--workers` of one from 1 to 16, which may be left out; `dump`, which may have a file, and `check`, which may have files; `ls` with a
 -- file, a path that may be left out, and the flags `--tree` and `--whole`; `get` with a file, a path, a value's name that may be left out, and the flags
--- `--raw` and `--whole`; `find` with a file, a pattern and the option `--in`; `diff` with two files; `export` with a file, a path that may
+-- `--raw` and `--whole`; `find` with a file, a pattern, the option `--in` and the flag `--ignore-case` or `-i`; `diff` with two files; `export` with a file, a path that may
 -- be left out, the option `--as`, which must be given, and the flag `--utf8`; `new` with a file and the option `--name`; and `edit` and
 -- `import`, each with a file, the options `--output` and `--at`, which is a number of 64 bits, and the flags `--now` and `--dry-run`, and
 -- `edit` with the flag `--keep-going`; and, as `import`, `set` with a path, a name, a type and data that may be left out, `create` with a
@@ -226,9 +232,9 @@ pub record AsksToEdit (rows : List Row) (edit : EditRequest) : Type 0 where
   pub begin : AsksToBegin rows edit.begin
   pub dry_run : (edit.dry_run ≡ true) ↔ IsSet (codes "dry-run") rows
 
--- the places that a text after `--in` names, if it names some, and all where nothing is said
+-- the places that a text after `--in` names, if it names some, and the first three where nothing is said
 abbrev pub places_asked : Option Text → Option Places
-places_asked None = Some (record { keys = true; names = true; texts = true })
+places_asked None = Some (record { keys = true; names = true; texts = true; paths = false; bytes = false })
 places_asked (Some text) = places_in text
 
 -- the places that the matches of `find` ask for
@@ -282,9 +288,10 @@ Asks found (Get file path name is_raw is_whole) =
     (found.0 ≡ codes "get") × (first_of (codes "file") found.1 ≡ Some file.now) × (first_of (codes "path") found.1 ≡ Some path.now)
     × (name.now ≡ unwrap_or (first_of (codes "value") found.1) []) × ((is_raw ≡ true) ↔ IsSet (codes "raw") found.1)
     × ((is_whole ≡ true) ↔ IsSet (codes "whole") found.1)
-Asks found (Find file pattern places) =
+Asks found (Find file pattern ignores_case places) =
     (found.0 ≡ codes "find") × (first_of (codes "file") found.1 ≡ Some file.now)
     × (first_of (codes "pattern") found.1 ≡ Some pattern.now) × AsksForPlaces found.1 places
+    × ((ignores_case ≡ true) ↔ IsSet (codes "ignore-case") found.1)
 Asks found (Diff old new) =
     (found.0 ≡ codes "diff") × (first_of (codes "old") found.1 ≡ Some old.now) × (first_of (codes "new") found.1 ≡ Some new.now)
 Asks found (Export file path form) =

@@ -13,21 +13,33 @@ abbrev pub parts_of : List ℕ → List (List ℕ)
 parts_of [] = [] ∷ []
 parts_of (letter ∷ letters) = if letter == 44 then [] ∷ parts_of letters else with_letter letter (parts_of letters)
 
+-- no place
+abbrev pub nowhere : Places
+nowhere = record { keys = false; names = false; texts = false; paths = false; bytes = false }
+
 -- a place by its word
 abbrev pub place_of : List ℕ → Option Places
 place_of word =
-    if bytes_eq word (codes "keys") then Some (record { keys = true; names = false; texts = false })
-    else if bytes_eq word (codes "names") then Some (record { keys = false; names = true; texts = false })
-    else if bytes_eq word (codes "data") then Some (record { keys = false; names = false; texts = true })
+    if bytes_eq word (codes "keys") then Some (record nowhere { keys = true })
+    else if bytes_eq word (codes "names") then Some (record nowhere { names = true })
+    else if bytes_eq word (codes "data") then Some (record nowhere { texts = true })
+    else if bytes_eq word (codes "paths") then Some (record nowhere { paths = true })
+    else if bytes_eq word (codes "bytes") then Some (record nowhere { bytes = true })
     else None
 
 -- the places of two
 abbrev pub both : Places → Places → Places
-both one other = record { keys = one.keys || other.keys; names = one.names || other.names; texts = one.texts || other.texts }
+both one other = record {
+  keys = one.keys || other.keys;
+  names = one.names || other.names;
+  texts = one.texts || other.texts;
+  paths = one.paths || other.paths;
+  bytes = one.bytes || other.bytes;
+}
 
 -- the places of some words together, where each is one; of none no place
 abbrev pub places_of : List (List ℕ) → Option Places
-places_of [] = Some (record { keys = false; names = false; texts = false })
+places_of [] = Some nowhere
 places_of (word ∷ words) = option_and_then (λ place. option_map (both place) (places_of words)) (place_of word)
 
 -- the places that a text names

@@ -179,7 +179,7 @@ fn import_asked<'a>(matches: &ArgMatches<'a>) -> Option<Request<'a>>
     }
 }
 
-/// Where `find` is asked to search: everywhere, where nothing is said; `None` where what is said names no places.
+/// Where `find` is asked to search: in all names and data, where nothing is said; `None` where what is said names no places.
 fn places_asked(matches: &ArgMatches<'_>) -> Option<Places>
     ensures { IsFound (AsksForPlaces (rows_of (found_of matches.now))) result }
 {
@@ -189,6 +189,8 @@ fn places_asked(matches: &ArgMatches<'_>) -> Option<Places>
             keys: true,
             names: true,
             texts: true,
+            paths: false,
+            bytes: false,
         }),
     }
 }
@@ -203,6 +205,7 @@ fn find_of<'a>(file: &'a str, pattern: &'a str, matches: &ArgMatches<'a>) -> Opt
         Some(places) => Some(Request::Find {
             file,
             pattern,
+            ignores_case: is_set(matches, "ignore-case"),
             places,
         }),
         None => None,

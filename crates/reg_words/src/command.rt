@@ -3,7 +3,7 @@
 ghost use Rattle.std.specs.Prelude.{◌≡◌, IfOk, Ok, codes, true, false};
 ghost use Rattle.clap.specs.Words.{AddsSubcommand, new_app, with_rule};
 ghost use Rattle.clap.specs.declared.builder.command.Command.{Command as AnyCommand};
-ghost use Rattle.reg_words.specs.CommandLines.{option_rule, required_rule, flag_rule, place_rule, file_rule, files_rule, data_rule, at_rule, image_rule, workers_rule};
+ghost use Rattle.reg_words.specs.CommandLines.{option_rule, required_rule, flag_rule, place_rule, file_rule, files_rule, data_rule, at_rule, image_rule, workers_rule, case_rule};
 ghost use Rattle.reg_words.specs.CommandLines.{run_command as run_shape, edit_command as edit_shape};
 ghost use Rattle.reg_words.specs.CommandLines.{dump_command as dump_shape, check_command as check_shape, list_command as list_shape};
 ghost use Rattle.reg_words.specs.CommandLines.{get_command as get_shape, find_command as find_shape, diff_command as diff_shape};
@@ -135,6 +135,12 @@ fn at_arg<'a>(alloc: Global) -> Arg<'a>
         "Begin at this moment, in units of 100 ns since 1601",
     )
     .value_parser(clap::value_parser!(u64))
+}
+
+fn case_arg<'a>(alloc: Global) -> Arg<'a>
+    ensures { IsRule case_rule result }
+{
+    flag_arg(alloc, "ignore-case", "Pass over upper and lower case").short('i')
 }
 
 /// A command without arguments.
@@ -322,19 +328,14 @@ fn find_command<'a>(alloc: Global) -> Result<Command<'a>, AllocError>
         "Tells the keys and values that a pattern matches",
         "The hive",
     )?
-    .arg(place_arg(
-        alloc,
-        "pattern",
-        true,
-        "PATTERN",
-        "A regular expression; (?i) before it passes over case",
-    ))?
+    .arg(place_arg(alloc, "pattern", true, "PATTERN", "A regular expression"))?
     .arg(option_arg(
         alloc,
         "in",
         "PLACES",
-        "Search in these, parted by commas: keys, names, data",
-    ))
+        "Search in these, parted by commas: keys, names, data, paths, bytes",
+    ))?
+    .arg(case_arg(alloc))
 }
 
 fn diff_command<'a>(alloc: Global) -> Result<Command<'a>, AllocError>

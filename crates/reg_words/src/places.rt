@@ -10,6 +10,8 @@ const NOWHERE: Places = Places {
     keys: false,
     names: false,
     texts: false,
+    paths: false,
+    bytes: false,
 };
 
 /// A place by its word; `None` where that is none's.
@@ -34,6 +36,18 @@ fn place_of(word: &[u8]) -> Option<Places>
             ..NOWHERE
         });
     }
+    if word == b"paths".as_slice() {
+        return Some(Places {
+            paths: true,
+            ..NOWHERE
+        });
+    }
+    if word == b"bytes".as_slice() {
+        return Some(Places {
+            bytes: true,
+            ..NOWHERE
+        });
+    }
     None
 }
 
@@ -45,6 +59,8 @@ fn both(one: Places, other: Places) -> Places
         keys: one.keys || other.keys,
         names: one.names || other.names,
         texts: one.texts || other.texts,
+        paths: one.paths || other.paths,
+        bytes: one.bytes || other.bytes,
     }
 }
 
@@ -74,4 +90,14 @@ pub fn read_places(text: &[u8]) -> Option<Places>
         rest = &rest[at + 1..];
     }
     Some(both(places, place_of(rest)?))
+}
+
+/// The first word of a text, parted by commas, that is no place's.
+pub fn wrong_word(text: &str) -> &str {
+    for word in text.split(',') {
+        if place_of(word.as_bytes()).is_none() {
+            return word;
+        }
+    }
+    text
 }

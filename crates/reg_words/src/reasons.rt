@@ -1,6 +1,7 @@
 //! Which of the words isn't understood, where `clap` takes them though they ask for nothing.
 
 use crate::asked::begin_asked;
+use crate::places::wrong_word;
 use crate::typed::value_fault;
 use clap::ArgMatches;
 use std::alloc::{AllocError, Global};
@@ -36,8 +37,8 @@ fn command_reason(
     matches: &ArgMatches<'_>,
 ) -> Result<String, AllocError> {
     if name == "find" {
-        let places = matches.get_str("in").unwrap_or("");
-        return format!(in alloc; "'{places}' isn't some of keys, names and data, parted by commas");
+        let word = wrong_word(matches.get_str("in").unwrap_or(""));
+        return format!(in alloc; "'{word}' is not one of keys, names, data, paths, bytes");
     }
     if name == "export" {
         let form = matches.get_str("as").unwrap_or("");

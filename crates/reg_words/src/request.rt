@@ -44,8 +44,12 @@ pub struct Places {
     pub keys: bool,
     /// In the names of values.
     pub names: bool,
-    /// In the data of values.
+    /// In the data of values, as they are told.
     pub texts: bool,
+    /// In the paths of keys.
+    pub paths: bool,
+    /// In the bytes of values' data.
+    pub bytes: bool,
 }
 
 /// A form of text in which keys and values are written.
@@ -106,6 +110,8 @@ pub enum Request<'a> {
         file: &'a str,
         /// A regular expression.
         pattern: &'a str,
+        /// Whether upper and lower case are the same.
+        ignores_case: bool,
         places: Places,
     },
     /// What differs between the trees of two files.

@@ -6,7 +6,12 @@ pub returns-in-Err-clause-err : goal.returns-in-Err-clause-err
 returns-in-Err-clause-err g c = (c.in-Err.ensures.err, refl)
 
 pub returns-in-Ok-find-clause-ok : goal.returns-in-Ok-find-clause-ok
-returns-in-Ok-find-clause-ok g c = record { tree = c.in-Ok.tree.tree; reads = c.in-Ok.ensures.ok; written = c.in-Ok-find.ensures.ok }
+returns-in-Ok-find-clause-ok g c = record {
+  tree = c.in-Ok.tree.tree;
+  reads = c.in-Ok.ensures.ok;
+  written = c.in-Ok-find.ensures.ok;
+  found = c.in-Ok-find.ensures.found;
+}
 
 pub returns-clause-err : goal.returns-clause-err
 returns-clause-err g c = (c.in-Ok.tree.tree, c.in-Ok.ensures.ok, c.in-Err-find.ensures.err)
