@@ -12,9 +12,9 @@ use Rattle.reg_dotreg_writer.specs.Entries.{heading, key_line, key_block, value_
 use Rattle.reg_dotreg_reader.specs.declared.entry.Entry.{Entry}
 use Rattle.reg_dotreg_reader.specs.declared.entry.Entry.TheVariants.{Key, Value}
 use Rattle.reg_dotreg_reader.specs.declared.entry.Numbered.{Numbered}
-use Rattle.reg_dotreg_reader.specs.EntryWords.{before_blanks}
+use Rattle.reg_dotreg_reader.specs.EntryWords.{before_blanks, before_mark}
 use Rattle.reg_dotreg_reader.specs.EntryLines.{lines_of, whole_lines}
-use Rattle.reg_dotreg_reader.specs.EntryMeanings.{with_entries, entries_from, title, untitled, titled, entries_in}
+use Rattle.reg_dotreg_reader.specs.EntryMeanings.{with_entries, entries_from, title, untitled, titled, long_form, entries_in}
 use Rattle.reg_dotreg_reader.proofs.TextLines.{lines_empty}
 use Rattle.reg_dotreg_import.specs.Imports.{entries_of}
 use Rattle.reg_dotreg_law.specs.EntriesDue.{entries_of_key}
@@ -22,6 +22,7 @@ use Rattle.reg_dotreg_law.specs.ReadBack.{IsKept, reading, Goes, Says}
 use Rattle.reg_dotreg_law.proofs.LineEnds.{line-back}
 use Rattle.reg_dotreg_law.proofs.ReadingOn.{says-none, says-both, says-empty_line}
 use Rattle.reg_dotreg_law.proofs.EntriesBack.{value-says}
+use Rattle.reg_dotreg_law.proofs.RootsBack.{long-same}
 use Rattle.reg_dotreg_law.proofs.KeysBack.{key-says}
 
 -- ---- a key
@@ -43,7 +44,7 @@ pub record IsKeptBelow (root : List ℕ) (told : Told) : Type 0 where
   pub lines : list_all is_line_name (root ∷ names) ≡ true
   pub values : AllByRecursion IsKept told.key.values
 
-block-says : (name root : List ℕ) (is_open : Bool) (told : Told) → folded name ≡ folded root → IsKeptBelow root told →
+block-says : (name root : List ℕ) (is_open : Bool) (told : Told) → folded name ≡ folded (long_form root) → IsKeptBelow root told →
     Says name is_open (key_block told) (entries_of_key told) true
 block-says name root is_open told f k =
     let values : List Member = told.key.values in
@@ -63,7 +64,7 @@ abbrev after : Bool → List Told → Bool
 after is_open [] = is_open
 after is_open (t ∷ told) = after true told
 
-blocks-say : (name root : List ℕ) (is_open : Bool) (told : List Told) → folded name ≡ folded root → AllByRecursion (IsKeptBelow root) told →
+blocks-say : (name root : List ℕ) (is_open : Bool) (told : List Told) → folded name ≡ folded (long_form root) → AllByRecursion (IsKeptBelow root) told →
     Says name is_open (flat_map key_block told) (flat_map entries_of_key told) (after is_open told)
 blocks-say name root is_open [] f a = says-none name is_open
 blocks-say name root is_open (t ∷ told) f a =
@@ -74,17 +75,13 @@ blocks-say name root is_open (t ∷ told) f a =
 
 nothing-left : (root : List ℕ) (is_open : Bool) (number : ℕ) → reading root is_open number [] ≡ Ok []
 unfolding entries_from whole_lines
-nothing-left root is_open number = ap (λ (w : List (List ℕ)). entries_from root is_open (whole_lines 0 number w)) (lines_empty [] refl)
+nothing-left root is_open number = ap (λ (w : List (List ℕ)). entries_from root false is_open (whole_lines 0 number w)) (lines_empty [] refl)
 
-title-plain : before_blanks title ≡ title
-unfolding before_blanks
-title-plain = refl
-
-titled-lines : (lines : List (List ℕ)) → untitled (title ∷ lines) ≡ Some lines
-unfolding before_blanks
+titled-lines : (lines : List (List ℕ)) → untitled ((title ++ 13 ∷ []) ∷ lines) ≡ Some (false, lines)
+unfolding before_blanks before_mark
 titled-lines lines = refl
 
-headed : (blocks : List ℕ) → untitled (lines_of (heading ++ blocks)) ≡ Some (lines_of (13 ∷ 10 ∷ blocks))
+headed : (blocks : List ℕ) → untitled (lines_of (heading ++ blocks)) ≡ Some (false, lines_of (13 ∷ 10 ∷ blocks))
 unfolding heading
 headed blocks = ap untitled (line-back title (13 ∷ 10 ∷ blocks) refl) ∙ titled-lines (lines_of (13 ∷ 10 ∷ blocks))
 
@@ -94,12 +91,13 @@ pub blocks-back : (name root : List ℕ) (told : List Told) → folded name ≡ 
     × (entries_of entries ≡ flat_map entries_of_key told)
 unfolding entries_in
 blocks-back name root told f a =
+    let long : List ℕ = long_form name in
     let blocks : List ℕ = flat_map key_block told in
     let due : List Entry = flat_map entries_of_key told in
-    let g : Goes name false 2 ((13 ∷ 10 ∷ blocks) ++ []) due (after false told) [] =
-    says-both name false false (after false told) (13 ∷ 10 ∷ []) blocks [] due (says-empty_line name false)
-    (blocks-say name root false told f a) 2 [] in
-    let all : reading name false 2 (13 ∷ 10 ∷ blocks) ≡ Ok (g.read ++ []) =
-    ap (reading name false 2) (sym (append-nil (13 ∷ 10 ∷ blocks)))
-    ∙ (g.is ∙ ap (with_entries g.read) (nothing-left name (after false told) g.later)) in
-    (g.read, ap (titled name) (headed blocks) ∙ (all ∙ ap (λ (w : List Numbered). Ok w) (append-nil g.read)), g.same)
+    let g : Goes long false 2 ((13 ∷ 10 ∷ blocks) ++ []) due (after false told) [] =
+    says-both long false false (after false told) (13 ∷ 10 ∷ []) blocks [] due (says-empty_line long false)
+    (blocks-say long root false told (long-same name root f) a) 2 [] in
+    let all : reading long false 2 (13 ∷ 10 ∷ blocks) ≡ Ok (g.read ++ []) =
+    ap (reading long false 2) (sym (append-nil (13 ∷ 10 ∷ blocks)))
+    ∙ (g.is ∙ ap (with_entries g.read) (nothing-left long (after false told) g.later)) in
+    (g.read, ap (titled long) (headed blocks) ∙ (all ∙ ap (λ (w : List Numbered). Ok w) (append-nil g.read)), g.same)

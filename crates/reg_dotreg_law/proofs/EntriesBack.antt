@@ -23,6 +23,7 @@ use Rattle.reg_dotreg_law.specs.ReadBack.{IsKept, Says}
 use Rattle.reg_dotreg_law.proofs.LineEnds.{is_inline, are_inline, inline-append, Ends, ends-one, ends-behind}
 use Rattle.reg_dotreg_law.proofs.DigitsBack.{is_within, two, number-back, kind-within}
 use Rattle.reg_dotreg_law.proofs.ListsBack.{AreBytes, list_from, list-ends, within-inline}
+use Rattle.reg_dotreg_law.proofs.PlacesBack.{are_bare, bare-append, bare-passes, two-bare, kind-bare, quoted-passes}
 use Rattle.reg_dotreg_law.proofs.RowsBack.{two-inline}
 use Rattle.reg_dotreg_law.proofs.DataBack.{text-back, dword-back, binary-back, kinded-back}
 use Rattle.reg_dotreg_law.proofs.ValuesBack.{line-inline, text-inline, between-inline, says-alone, says-hex}
@@ -59,6 +60,7 @@ four-told x y z v = refl
 -- digits of 4 bytes
 pub record AreDigits (ds : List ℕ) : Type 0 where
   pub inline : are_inline ds ≡ true
+  pub bare : are_bare ds ≡ true
   pub ends : Ends ds
 
 four-digits : (x y z v : ℕ) → AreBytes (x ∷ y ∷ z ∷ v ∷ []) → AreDigits (digits_text (reverse (x ∷ y ∷ z ∷ v ∷ [])))
@@ -68,6 +70,9 @@ four-digits x y z v a =
           inline-append (two v) (two z ++ (two y ++ two x)) (two-inline v a.1.1.1.0)
           (inline-append (two z) (two y ++ two x) (two-inline z a.1.1.0)
           (inline-append (two y) (two x) (two-inline y a.1.0) (two-inline x a.0)));
+      bare =
+          bare-append (two v) (two z ++ (two y ++ two x)) (two-bare v a.1.1.1.0)
+          (bare-append (two z) (two y ++ two x) (two-bare z a.1.1.0) (bare-append (two y) (two x) (two-bare y a.1.0) (two-bare x a.0)));
       ends = ends-behind (two v) (two z ++ (two y ++ two x)) (ends-behind (two z) (two y ++ two x)
           (ends-behind (two y) (two x) (list-ends 0 x [] (a.0, tt))));
     })
@@ -98,19 +103,21 @@ module _ (root name : List ℕ) (named : is_value_name name ≡ true) (inline : 
       let fine = string-inline bytes text e in
       let back = units-back bytes (text ++ 0 ∷ []) a (string-units bytes text e) in
       says-alone root name 1 bytes named inline (flat_map quoted_unit text ++ 34 ∷ []) 34 (between-inline text fine)
-      (ends-behind (34 ∷ flat_map quoted_unit text) (34 ∷ []) (ends-one 34 refl)) refl refl (text-back text bytes fine back)
+      (quoted-passes text)
+      (ends-behind (34 ∷ flat_map quoted_unit text) (34 ∷ []) (ends-one 34 refl)) refl refl (text-back text bytes back)
 
   number-says : (bytes : List ℕ) → AreBytes bytes → length bytes ≡ 4 → SaysData 4 bytes (codes "dword:" ++ digits_text (reverse bytes))
   number-says bytes a l =
       let d = number-digits bytes a l in
       says-alone root name 4 bytes named inline (codes "word:" ++ digits_text (reverse bytes)) 100
       (inline-append (codes "dword:") (digits_text (reverse bytes)) refl d.inline)
+      (bare-passes (codes "dword:" ++ digits_text (reverse bytes)) (bare-append (codes "dword:") (digits_text (reverse bytes)) refl d.bare))
       (ends-behind (codes "dword:") (digits_text (reverse bytes)) d.ends) refl refl
       (dword-back (digits_text (reverse bytes)) (4, bytes) (number-back bytes a l))
 
   binary-says : (bytes : List ℕ) → AreBytes bytes → SaysData 3 bytes (codes "hex:" ++ hex_rows bytes)
   binary-says bytes a =
-      says-hex root name 3 bytes named inline (codes "hex:") (codes "ex:" ++ list_from 24 bytes) 104 refl
+      says-hex root name 3 bytes named inline (codes "hex:") (codes "ex:" ++ list_from 24 bytes) 104 refl refl
       (ends-behind (codes "hex") (58 ∷ []) (ends-one 58 refl)) a refl refl refl (binary-back bytes a)
 
   kinded-says : (kind : ℕ) (bytes : List ℕ) → kind < 4294967296 → AreBytes bytes →
@@ -119,8 +126,10 @@ module _ (root name : List ℕ) (named : is_value_name name ≡ true) (inline : 
       let ds : List ℕ = digits 16 false kind in
       let fine : are_inline (codes "hex(" ++ (ds ++ codes "):")) ≡ true =
       inline-append (codes "hex(") (ds ++ codes "):") refl (inline-append ds (codes "):") (within-all ds (kind-within kind)) refl) in
+      let bare : are_bare (codes "hex(" ++ (ds ++ codes "):")) ≡ true =
+      bare-append (codes "hex(") (ds ++ codes "):") refl (bare-append ds (codes "):") (kind-bare kind) refl) in
       let list : List ℕ = list_from 24 bytes in
-      says-hex root name kind bytes named inline (codes "hex(" ++ (ds ++ codes "):")) (codes "ex(" ++ (ds ++ (codes "):" ++ list))) 104 fine
+      says-hex root name kind bytes named inline (codes "hex(" ++ (ds ++ codes "):")) (codes "ex(" ++ (ds ++ (codes "):" ++ list))) 104 fine bare
       (ends-behind (codes "hex(") (ds ++ codes "):") (ends-behind ds (codes "):") (ends-behind (41 ∷ []) (58 ∷ []) (ends-one 58 refl)))) a
       (ap (λ (w : List ℕ). codes "hex(" ++ w) (append_assoc ds (codes "):") list)) refl refl (kinded-back kind bytes l a)
 

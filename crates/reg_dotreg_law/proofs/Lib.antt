@@ -12,12 +12,14 @@ mod RowsOfEntriesDue
 pub mod LineEnds
 pub mod QuotesBack
 pub mod DigitsBack
+pub mod PlacesBack
 pub mod ListsBack
 pub mod RowsBack
 pub mod DataBack
 pub mod ReadingOn
 pub mod ValuesBack
 pub mod EntriesBack
+pub mod RootsBack
 pub mod KeysBack
 pub mod BlocksBack
 pub mod ToldBack

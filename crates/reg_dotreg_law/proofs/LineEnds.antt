@@ -1,16 +1,15 @@
 -- Texts that end in a unit that is neither a blank nor a backslash, and lines that end with CR and LF.
-use Rattle.std.proofs.Common.{◌≡◌, ℕ, ◌+◌, ◌-◌, ◌==◌, ◌&&◌, not, Bool, true, false, List, [], ◌∷◌, ◌++◌, length, map, get_or}
-use Rattle.std.proofs.Common.{Option, None, refl, sym, ap, ◌∙◌, arith, append_assoc, length-append}
+use Rattle.std.proofs.Common.{◌≡◌, ℕ, ◌+◌, ◌-◌, ◌==◌, ◌&&◌, not, Bool, true, false, List, [], ◌∷◌, ◌++◌, length, get_or}
+use Rattle.std.proofs.Common.{None, refl, sym, ap, ◌∙◌, arith, append_assoc, length-append}
 use Rattle.std.specs.List.{All, list_all, slice_split}
-use Rattle.std.specs.Option.{unwrap_or}
 use Rattle.std.proofs.lemmas.Bool.{and_parts, and_from, not-true}
 use Rattle.std.proofs.lemmas.List.{take_all}
 use Rattle.std.proofs.lemmas.List.Folds.{list_all-append}
 use Rattle.std.proofs.lemmas.List.Elements.{All-nil, All-cons}
 use Rattle.std.proofs.lemmas.List.Splits.{slice_split_at}
 use Rattle.reg_dotreg_reader.specs.EntryWords.{is_blank, before_blanks, before_mark}
-use Rattle.reg_dotreg_reader.specs.EntryLines.{is_feed, ended, without_return, lines_of, goes_on}
-use Rattle.reg_dotreg_reader.proofs.WordEnds.{before_is, mark_is, mark_not}
+use Rattle.reg_dotreg_reader.specs.EntryLines.{is_feed, ended, lines_of, goes_on}
+use Rattle.reg_dotreg_reader.proofs.WordEnds.{before_is, mark_not}
 use Rattle.reg_dotreg_reader.proofs.DigitLists.{split_some}
 
 -- ---- ends
@@ -93,14 +92,11 @@ ended-more part [] some = absurd (some refl)
 ended-more part (next ∷ parts) some = refl
 
 -- a line that ends with CR and LF is the first of a text's lines
-pub line-back : (line rest : List ℕ) → are_inline line ≡ true → lines_of (line ++ 13 ∷ 10 ∷ rest) ≡ line ∷ lines_of rest
+pub line-back : (line rest : List ℕ) → are_inline line ≡ true → lines_of (line ++ 13 ∷ 10 ∷ rest) ≡ (line ++ 13 ∷ []) ∷ lines_of rest
 unfolding lines_of
 line-back line rest e =
     let marked : List ℕ = line ++ 13 ∷ [] in
     let parts : slice_split is_feed (line ++ 13 ∷ 10 ∷ rest) ≡ marked ∷ slice_split is_feed rest =
     ap (slice_split is_feed) (sym (append_assoc line (13 ∷ []) (10 ∷ rest)))
     ∙ slice_split_at is_feed marked 10 rest (unparted marked (inline-append line (13 ∷ []) e refl)) refl in
-    let bare : without_return marked ≡ line = ap (λ (o : Option (List ℕ)). unwrap_or o marked) (mark_is 13 13 marked line refl refl) in
-    ap (λ (w : List (List ℕ)). map without_return (ended w)) parts
-    ∙ (ap (map without_return) (ended-more marked (slice_split is_feed rest) (split_some is_feed rest))
-    ∙ ap (λ (w : List ℕ). w ∷ map without_return (ended (slice_split is_feed rest))) bare)
+    ap ended parts ∙ ended-more marked (slice_split is_feed rest) (split_some is_feed rest)

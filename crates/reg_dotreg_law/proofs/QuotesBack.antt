@@ -13,23 +13,21 @@ quote-closes : (rest : List ℕ) → quoted (34 ∷ rest) ≡ Some ([], rest)
 unfolding quoted quoted_from
 quote-closes rest = refl
 
-unit-back : (u : ℕ) (rest : List ℕ) (b : Bool) → (u == 92 || u == 34) ≡ b → is_inline u ≡ true →
+unit-back : (u : ℕ) (rest : List ℕ) (b : Bool) → (u == 92 || u == 34) ≡ b →
     quoted ((if b then 92 ∷ u ∷ [] else u ∷ []) ++ rest) ≡ with_unit u (quoted rest)
-unit-back u rest true e i =
+unit-back u rest true e =
     (next_escape (92 ∷ u ∷ rest) (u ∷ rest) rest 92 u refl refl refl (escaped e)).0
   where
     escaped : (u == 92 || u == 34) ≡ true → is_escaped u ≡ true
     escaped e = grind (arith, nat_tests)
-unit-back u rest false e i =
-    (next_plain (u ∷ rest) rest u refl (grind (arith, nat_tests, e)) (grind (arith, nat_tests, i)) (grind (arith, nat_tests, e))).0
+unit-back u rest false e =
+    (next_plain (u ∷ rest) rest u refl (grind (arith, nat_tests, e)) (grind (arith, nat_tests, e))).0
 
-pub quotes-back : (text rest : List ℕ) → are_inline text ≡ true → quoted (flat_map quoted_unit text ++ 34 ∷ rest) ≡ Some (text, rest)
-quotes-back [] rest e = quote-closes rest
-quotes-back (u ∷ text) rest e =
-    let both = and_parts (is_inline u) (are_inline text) e in
+pub quotes-back : (text rest : List ℕ) → quoted (flat_map quoted_unit text ++ 34 ∷ rest) ≡ Some (text, rest)
+quotes-back [] rest = quote-closes rest
+quotes-back (u ∷ text) rest =
     ap quoted (append_assoc (quoted_unit u) (flat_map quoted_unit text) (34 ∷ rest))
-    ∙ (unit-back u (flat_map quoted_unit text ++ 34 ∷ rest) (u == 92 || u == 34) refl both.0
-    ∙ ap (with_unit u) (quotes-back text rest both.1))
+    ∙ (unit-back u (flat_map quoted_unit text ++ 34 ∷ rest) (u == 92 || u == 34) refl ∙ ap (with_unit u) (quotes-back text rest))
 
 unit-inline : (u : ℕ) (b : Bool) → is_inline u ≡ true → are_inline (if b then 92 ∷ u ∷ [] else u ∷ []) ≡ true
 unit-inline u true e = and_from (is_inline u) true e refl

@@ -1,11 +1,11 @@
 -- What is read of a text's front, and then of what comes after it.
-use Rattle.std.proofs.Common.{◌≡◌, ℕ, ◌+◌, ◌||◌, Bool, true, cond, List, [], ◌∷◌, ◌++◌, length}
+use Rattle.std.proofs.Common.{◌≡◌, ℕ, ◌+◌, ◌||◌, Bool, true, false, cond, List, [], ◌∷◌, ◌++◌, length}
 use Rattle.std.proofs.Common.{drop, Option, Some, None, refl, sym, ap, ◌∙◌, append_assoc}
 use Rattle.std.specs.Prelude.{Ok, Err}
 use Rattle.std.proofs.lemmas.List.{map-append}
 use Rattle.reg_dotreg_reader.specs.declared.entry.Entry.{Entry}
 use Rattle.reg_dotreg_reader.specs.declared.entry.Numbered.{Numbered}
-use Rattle.reg_dotreg_reader.specs.EntryWords.{behind_blanks, before_blanks}
+use Rattle.reg_dotreg_reader.specs.EntryWords.{behind_blanks, before_blanks, before_mark}
 use Rattle.reg_dotreg_reader.specs.EntryLines.{Line, lines_of, whole_of, whole_lines}
 use Rattle.reg_dotreg_reader.specs.EntryMeanings.{Reading, with_entries, one_read, is_key, takes_values, said, entries_from}
 use Rattle.reg_dotreg_reader.proofs.TextLines.{skipped}
@@ -58,11 +58,11 @@ whole-first number line units more others e =
     ∙ ap (λ (w : List (List ℕ)). whole_lines 0 (number + 1 + length more) w) (behind-more more others))
 
 read-first : (root : List ℕ) (is_open : Bool) (line : Line) (lines : List Line) (found : Option (Option Entry)) →
-    said root line.units ≡ found →
-    entries_from root is_open (line ∷ lines) ≡ one_read line.number is_open found (λ open_then. entries_from root open_then lines)
+    said root false line.units ≡ found →
+    entries_from root false is_open (line ∷ lines) ≡ one_read line.number is_open found (λ open_then. entries_from root false open_then lines)
 unfolding entries_from
 read-first root is_open line lines found e =
-    ap (λ (o : Option (Option Entry)). one_read line.number is_open o (λ open_then. entries_from root open_then lines)) e
+    ap (λ (o : Option (Option Entry)). one_read line.number is_open o (λ open_then. entries_from root false open_then lines)) e
 
 allowed : (number : ℕ) (is_open : Bool) (entry : Entry) (others : Bool → Reading) → (is_key entry || is_open) ≡ true →
     one_read number is_open (Some (Some entry)) others ≡
@@ -72,7 +72,7 @@ allowed number is_open entry others e =
 
 pub goes-lines : (root : List ℕ) (is_open : Bool) (number : ℕ) (text line units : List ℕ) (more : List (List ℕ)) (entry : Entry) (rest : List ℕ) →
     lines_of text ≡ line ∷ (more ++ lines_of rest) → whole_of line (more ++ lines_of rest) ≡ (units, length more) →
-    said root units ≡ Some (Some entry) → (is_key entry || is_open) ≡ true →
+    said root false units ≡ Some (Some entry) → (is_key entry || is_open) ≡ true →
     Goes root is_open number text (entry ∷ []) (takes_values is_open entry) rest
 goes-lines root is_open number text line units more entry rest l w s k =
     let later : ℕ = number + 1 + length more in
@@ -82,15 +82,15 @@ goes-lines root is_open number text line units more entry rest l w s k =
       read = record { line = number; entry = entry } ∷ [];
       same = refl;
       is =
-          ap (λ (ls : List (List ℕ)). entries_from root is_open (whole_lines 0 number ls)) l
-          ∙ (ap (entries_from root is_open) (whole-first number line units more (lines_of rest) w)
+          ap (λ (ls : List (List ℕ)). entries_from root false is_open (whole_lines 0 number ls)) l
+          ∙ (ap (entries_from root false is_open) (whole-first number line units more (lines_of rest) w)
           ∙ (read-first root is_open whole (whole_lines 0 later (lines_of rest)) (Some (Some entry)) s
-          ∙ allowed number is_open entry (λ open_then. entries_from root open_then (whole_lines 0 later (lines_of rest))) k));
+          ∙ allowed number is_open entry (λ open_then. entries_from root false open_then (whole_lines 0 later (lines_of rest))) k));
     }
 
 -- a line that says nothing
-goes-empty-line : (root : List ℕ) (is_open : Bool) (number : ℕ) (text rest : List ℕ) → lines_of text ≡ [] ∷ lines_of rest →
-    whole_of [] (lines_of rest) ≡ ([], 0) → said root [] ≡ Some None → Goes root is_open number text [] is_open rest
+goes-empty-line : (root : List ℕ) (is_open : Bool) (number : ℕ) (text rest : List ℕ) → lines_of text ≡ (13 ∷ []) ∷ lines_of rest →
+    whole_of (13 ∷ []) (lines_of rest) ≡ ([], 0) → said root false [] ≡ Some None → Goes root is_open number text [] is_open rest
 goes-empty-line root is_open number text rest l w s =
     let later : ℕ = number + 1 + length {A = List ℕ} [] in
     let whole : Line = record { number = number; units = [] } in
@@ -99,18 +99,18 @@ goes-empty-line root is_open number text rest l w s =
       read = [];
       same = refl;
       is =
-          ap (λ (ls : List (List ℕ)). entries_from root is_open (whole_lines 0 number ls)) l
-          ∙ (ap (entries_from root is_open) (whole-first number [] [] [] (lines_of rest) w)
+          ap (λ (ls : List (List ℕ)). entries_from root false is_open (whole_lines 0 number ls)) l
+          ∙ (ap (entries_from root false is_open) (whole-first number (13 ∷ []) [] [] (lines_of rest) w)
           ∙ (read-first root is_open whole (whole_lines 0 later (lines_of rest)) (Some None) s
           ∙ with-none (reading root is_open later rest)));
     }
 
-empty-said : (root : List ℕ) → said root [] ≡ Some None
+empty-said : (root : List ℕ) → said root false [] ≡ Some None
 unfolding said behind_blanks before_blanks
 empty-said root = refl
 
-empty-whole : (next : List (List ℕ)) → whole_of [] next ≡ ([], 0)
-unfolding whole_of behind_blanks
+empty-whole : (next : List (List ℕ)) → whole_of (13 ∷ []) next ≡ ([], 0)
+unfolding whole_of behind_blanks before_mark
 empty-whole next = refl
 
 pub says-empty_line : (root : List ℕ) (is_open : Bool) → Says root is_open (13 ∷ 10 ∷ []) [] is_open

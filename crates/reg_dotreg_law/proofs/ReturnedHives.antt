@@ -1,6 +1,6 @@
 -- What was exported of a tree in an image, made again in a hive.
 use Rattle.std.proofs.Common.{◌≡◌, ℕ, ◌&&◌, Bool, List, [], ◌++◌, is_some, Option, Some, IsSome, sym, ap, ◌∙◌, subst}
-use Rattle.std.specs.Prelude.{Ok, Err}
+use Rattle.std.specs.Prelude.{None, Ok, Err}
 use Rattle.std.specs.FinMap.{get}
 use Rattle.std.proofs.lemmas.Bool.{and_parts}
 use Rattle.std.proofs.lemmas.List.{append_cancel_left}
@@ -56,7 +56,7 @@ module _ (unread left : Option (List ℕ)) (path file held : List ℕ) (is_utf8 
   pub is-read : (entries : List Numbered) × IsText (root_name old) file entries
   is-read = (made.1.1, record { units = made.1.0; units_are = ap units_of file-is ∙ made.1.2; read = made.1.3 })
 
-  module _ (last : View) (applied : Applies moment file old last) where
+  module _ (last : View) (applied : Applies None moment file old last) where
     same-units : made.1.0 ≡ applied.is_text.units
     same-units = same_Some _ _ (sym made.1.2 ∙ (ap units_of (sym file-is) ∙ applied.is_text.units_are))
 
@@ -74,7 +74,7 @@ module _ (unread left : Option (List ℕ)) (path file held : List ℕ) (is_utf8 
         (subst (λ (t : Tree). HasSameBelow t tree at) same-tree made.2)
 
 pub tree-returns : (unread left : Option (List ℕ)) (file held : List ℕ) (is_utf8 : Bool) (moment : ℕ) (old last : View)
-    (export : Exports unread left [] is_utf8 (Some held) (Some (held ++ file))) → Applies moment file old last → IsBare old.keys.tree →
+    (export : Exports unread left [] is_utf8 (Some held) (Some (held ++ file))) → Applies None moment file old last → IsBare old.keys.tree →
     folded (root_name old) ≡ folded (name_of (get export.tree [])) → HasSame last.keys.tree export.tree
 tree-returns unread left file held is_utf8 moment old last export applied bare named =
     whole-root last.keys.tree export.tree (branch-returns unread left [] file held is_utf8 moment old export bare named last applied)

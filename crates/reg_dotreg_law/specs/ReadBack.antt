@@ -1,5 +1,5 @@
 -- What is written of a tree, read: the same units, and the same keys and values (this project's own).
-use Rattle.std.specs.Prelude.{◌≡◌, ℕ, ◌<◌, List, ◌++◌, Bool, true, Ok}
+use Rattle.std.specs.Prelude.{◌≡◌, ℕ, ◌<◌, List, ◌++◌, Bool, true, false, Ok}
 use Rattle.std.specs.List.{AllByRecursion}
 use Rattle.reg_names.specs.Names.{is_value_name}
 use Rattle.reg_heap.specs.Paths.{Path, Tree, Member}
@@ -13,9 +13,10 @@ use Rattle.reg_dotreg_law.specs.EntriesDue.{entries_below}
 
 -- ---- pieces of a text
 
--- what is read of a text whose first line has this number, where values may stand or not
+-- what is read of a text that isn't narrow and whose first line has this number, of keys below a root in its long form, where values may
+-- stand or not
 abbrev pub reading : (root : List ℕ) (is_open : Bool) (number : ℕ) (text : List ℕ) → Reading
-reading root is_open number text = entries_from root is_open (whole_lines 0 number (lines_of text))
+reading root is_open number text = entries_from root false is_open (whole_lines 0 number (lines_of text))
 
 -- some entries are read of it, and then what is read of a rest
 pub record Goes (root : List ℕ) (is_open : Bool) (number : ℕ) (text : List ℕ) (entries : List Entry) (then : Bool) (rest : List ℕ) : Type 0 where

@@ -7,7 +7,7 @@
 //! hives, in the words of the calls that export and import.
 #![tactic(auto)]
 
-ghost use Rattle.std.specs.Prelude.{◌≡◌, ℕ, [], IsSome, Bool, List, ◌∷◌, Option, Some, true, ◌++◌};
+ghost use Rattle.std.specs.Prelude.{◌≡◌, ℕ, [], IsSome, Bool, List, ◌∷◌, Option, Some, None, true, ◌++◌};
 ghost use Rattle.std.specs.FinMap.{get};
 ghost use Rattle.reg_heap.specs.Paths.{Path, Tree, Member};
 ghost use Rattle.reg_heap.specs.Trees.{IsTree, IsWithinLimits};
@@ -100,9 +100,9 @@ pub fn what_an_export_wrote_an_import_makes()
         (export : Exports unread left path is_utf8 (Some held) (Some (held ++ file))) → IsBare old.keys.tree →
         folded (root_name old) ≡ folded (name_of (get export.tree [])) → (entries : List Numbered) × IsText (root_name old) file entries }
     ensures branch { (unread left : Option (List ℕ)) → (path file held : List ℕ) → (is_utf8 : Bool) → (moment : ℕ) → (old last : View) →
-        (export : Exports unread left path is_utf8 (Some held) (Some (held ++ file))) → Applies moment file old last → IsBare old.keys.tree →
+        (export : Exports unread left path is_utf8 (Some held) (Some (held ++ file))) → Applies None moment file old last → IsBare old.keys.tree →
         folded (root_name old) ≡ folded (name_of (get export.tree [])) → HasSameBelow last.keys.tree export.tree (folded_path path) }
     ensures whole { (unread left : Option (List ℕ)) → (file held : List ℕ) → (is_utf8 : Bool) → (moment : ℕ) → (old last : View) →
-        (export : Exports unread left [] is_utf8 (Some held) (Some (held ++ file))) → Applies moment file old last → IsBare old.keys.tree →
+        (export : Exports unread left [] is_utf8 (Some held) (Some (held ++ file))) → Applies None moment file old last → IsBare old.keys.tree →
         folded (root_name old) ≡ folded (name_of (get export.tree [])) → HasSame last.keys.tree export.tree }
 {}

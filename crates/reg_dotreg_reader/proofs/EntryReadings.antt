@@ -2,22 +2,22 @@
 use Rattle.std.proofs.Common.{◌≡◌, ◌≢◌, ℕ, ◌+◌, ◌-◌, ◌<◌, ◌==◌, ◌&&◌, Bool, true, false, cond, List, [], ◌∷◌, ◌++◌, length, take, drop}
 use Rattle.std.proofs.Common.{Option, Some, None, refl, sym, ap, ◌∙◌, arith}
 use Rattle.std.specs.Prelude.{option_map, option_and_then, codes, nat_lt}
-use Rattle.std.specs.Option.{option_or}
+use Rattle.std.specs.Option.{option_or, unwrap_or}
 use Rattle.std.specs.List.{list_all, position, position_or_len, before_first, after_first}
 use Rattle.std.specs.Int.{to_le_bytes, w32}
 use Rattle.std.proofs.lemmas.Bool.Decides.{nat_tests}
 use Rattle.std.proofs.lemmas.List.{drop_all}
-use Rattle.reg_names.specs.Names.{is_value_name, is_value_name_byte, is_path}
+use Rattle.reg_names.specs.Names.{is_value_name_byte, is_path}
 use Rattle.reg_text.proofs.AppendedBytes.{rest_is}
 use Rattle.reg_dotreg_reader.specs.declared.entry.Entry.TheVariants.{Key, GoneKey}
 use Rattle.reg_dotreg_reader.specs.EntryWords.{before_mark, behind_word, number_of, quoted, unit_bytes}
-use Rattle.reg_dotreg_reader.specs.EntryMeanings.{path_behind, behind_name, path_below, gone_below, bracketed, key_said}
-use Rattle.reg_dotreg_reader.specs.EntryMeanings.{name_read, text_data, number_data, typed_bytes, is_close, kind_data, bytes_data, data_of}
+use Rattle.reg_dotreg_reader.specs.EntryMeanings.{way_behind, path_behind, behind_name, lengthened, way_below, path_below, gone_below, bracketed, key_said}
+use Rattle.reg_dotreg_reader.specs.EntryMeanings.{is_line_name, name_read, text_data, number_data, typed_bytes, is_close, kind_data, bytes_data, data_of}
 use Rattle.reg_dotreg_reader.proofs.DigitLists.{index_is, no_index}
 
 -- ---- paths
 
-pub path_none : (units : List ℕ) → length units ≡ 0 → path_behind units ≡ Some []
+pub path_none : (units : List ℕ) → length units ≡ 0 → way_behind units ≡ Some []
 path_none [] e = refl
 path_none (u ∷ us) e = absurd (omega (arith, e))
 
@@ -58,42 +58,48 @@ narrow_same : (good : Bool) (units bytes : List ℕ) → cond good (Some units) 
 narrow_same true units bytes e = cc
 narrow_same false units bytes e = absurd cc
 
-pub path_other : (units path : List ℕ) (u : ℕ) → units ≡ u ∷ path → u ≢ 92 → path_behind units ≡ None
+pub path_other : (units path : List ℕ) (u : ℕ) → units ≡ u ∷ path → u ≢ 92 → way_behind units ≡ None
 path_other units path u e other =
-    ap path_behind e ∙ way_not (u == 92) (nat_lt 0 (length path)) (list_all is_value_name_byte path) (is_path path) path
+    ap way_behind e ∙ way_not (u == 92) (nat_lt 0 (length path)) (list_all is_value_name_byte path) (is_path path) path
     (grind (arith, nat_tests, other))
 
-pub path_empty : (units path : List ℕ) (u : ℕ) → units ≡ u ∷ path → length path ≡ 0 → path_behind units ≡ None
+pub path_empty : (units path : List ℕ) (u : ℕ) → units ≡ u ∷ path → length path ≡ 0 → way_behind units ≡ None
 path_empty units path u e nothing =
-    ap path_behind e ∙ way_empty (u == 92) (nat_lt 0 (length path)) (list_all is_value_name_byte path) (is_path path) path
+    ap way_behind e ∙ way_empty (u == 92) (nat_lt 0 (length path)) (list_all is_value_name_byte path) (is_path path) path
     (grind (arith, nat_tests, nothing))
 
 pub path_narrow : (units path : List ℕ) (u : ℕ) → units ≡ u ∷ path → cond (list_all is_value_name_byte path) (Some path) None ≡ None →
-    path_behind units ≡ None
+    way_behind units ≡ None
 path_narrow units path u e narrow =
-    ap path_behind e ∙ way_narrow (u == 92) (nat_lt 0 (length path)) (list_all is_value_name_byte path) (is_path path) path narrow
+    ap way_behind e ∙ way_narrow (u == 92) (nat_lt 0 (length path)) (list_all is_value_name_byte path) (is_path path) path narrow
 
 pub path_bad : (units path bytes : List ℕ) (u : ℕ) → units ≡ u ∷ path →
-    cond (list_all is_value_name_byte path) (Some path) None ≡ Some bytes → is_path bytes ≡ false → path_behind units ≡ None
+    cond (list_all is_value_name_byte path) (Some path) None ≡ Some bytes → is_path bytes ≡ false → way_behind units ≡ None
 path_bad units path bytes u e narrow bad =
     let same = narrow_same (list_all is_value_name_byte path) path bytes narrow in
-    ap path_behind e ∙ way_bad (u == 92) (nat_lt 0 (length path)) (list_all is_value_name_byte path) (is_path path) path
+    ap way_behind e ∙ way_bad (u == 92) (nat_lt 0 (length path)) (list_all is_value_name_byte path) (is_path path) path
     (ap is_path (sym same) ∙ bad)
 
 pub path_good : (units path bytes : List ℕ) (u : ℕ) → units ≡ u ∷ path → u ≡ 92 → 0 < length path →
-    cond (list_all is_value_name_byte path) (Some path) None ≡ Some bytes → is_path bytes ≡ true → path_behind units ≡ Some bytes
+    cond (list_all is_value_name_byte path) (Some path) None ≡ Some bytes → is_path bytes ≡ true → way_behind units ≡ Some bytes
 path_good units path bytes u e is some narrow good =
     let same = narrow_same (list_all is_value_name_byte path) path bytes narrow in
-    ap path_behind e ∙ way_good (u == 92) (nat_lt 0 (length path)) (list_all is_value_name_byte path) (is_path path) path bytes
+    ap way_behind e ∙ way_good (u == 92) (nat_lt 0 (length path)) (list_all is_value_name_byte path) (is_path path) path bytes
     (grind (arith, nat_tests, is)) (grind (arith, nat_tests, some)) narrow (ap is_path (sym same) ∙ good)
 
-pub below_is : (root units rest : List ℕ) → behind_name root units ≡ Some rest → path_below root units ≡ path_behind rest
-unfolding path_below
+pub below_is : (root units rest : List ℕ) → behind_name root units ≡ Some rest → way_below root units ≡ path_behind rest
+unfolding way_below
 below_is root units rest e = ap (option_and_then path_behind) e
 
-pub below_not : (root units : List ℕ) → behind_name root units ≡ None → path_below root units ≡ None
-unfolding path_below
+pub below_not : (root units : List ℕ) → behind_name root units ≡ None → way_below root units ≡ None
+unfolding way_below
 below_not root units e = ap (option_and_then path_behind) e
+
+pub below_long : (root units long : List ℕ) → lengthened units ≡ Some long → path_below root units ≡ way_below root long
+below_long root units long e = ap (λ (o : Option (List ℕ)). way_below root (unwrap_or o units)) e
+
+pub below_same : (root units : List ℕ) → lengthened units ≡ None → path_below root units ≡ way_below root units
+below_same root units e = ap (λ (o : Option (List ℕ)). way_below root (unwrap_or o units)) e
 
 pub gone_is : (root units rest : List ℕ) → behind_word (codes "-") units ≡ Some rest → gone_below root units ≡ path_below root rest
 gone_is root units rest e = ap (option_and_then (path_below root)) e
@@ -156,14 +162,14 @@ if_unnamed true units behind e = absurd cc
 if_unnamed false units behind e = refl
 
 pub name_is : (line rest units behind name : List ℕ) → behind_word (codes "@") line ≡ None → behind_word (codes "\"") line ≡ Some rest →
-    quoted rest ≡ Some (units, behind) → cond (is_value_name units) (Some units) None ≡ Some name → name_read line ≡ Some (name, behind)
+    quoted rest ≡ Some (units, behind) → cond (is_line_name units) (Some units) None ≡ Some name → name_read line ≡ Some (name, behind)
 unfolding name_read
-name_is line rest units behind name e f g h = rw (e, f, g) (if_named (is_value_name units) units name behind h)
+name_is line rest units behind name e f g h = rw (e, f, g) (if_named (is_line_name units) units name behind h)
 
 pub name_bad : (line rest units behind : List ℕ) → behind_word (codes "@") line ≡ None → behind_word (codes "\"") line ≡ Some rest →
-    quoted rest ≡ Some (units, behind) → cond (is_value_name units) (Some units) None ≡ None → name_read line ≡ None
+    quoted rest ≡ Some (units, behind) → cond (is_line_name units) (Some units) None ≡ None → name_read line ≡ None
 unfolding name_read
-name_bad line rest units behind e f g h = rw (e, f, g) (if_unnamed (is_value_name units) units behind h)
+name_bad line rest units behind e f g h = rw (e, f, g) (if_unnamed (is_line_name units) units behind h)
 
 -- ---- data
 
@@ -200,22 +206,22 @@ before_is text close e =
       ap (λ (n : ℕ). drop (n + 1) text) (sym found.0) ∙ sym (rest_is (close + 1) text),
     )
 
-pub kind_is : (text list : List ℕ) (close kind : ℕ) → position is_close text ≡ Some close → number_of 8 (take close text) ≡ Some kind →
-    behind_word (codes ":") (take (length text - (close + 1)) (drop (close + 1) text)) ≡ Some list → kind_data text ≡ typed_bytes kind list
+pub kind_is : (narrow : Bool) (text list : List ℕ) (close kind : ℕ) → position is_close text ≡ Some close → number_of 8 (take close text) ≡ Some kind →
+    behind_word (codes ":") (take (length text - (close + 1)) (drop (close + 1) text)) ≡ Some list → kind_data narrow text ≡ typed_bytes narrow kind list
 unfolding kind_data
-kind_is text list close kind at digits colon =
+kind_is narrow text list close kind at digits colon =
     let parts = before_is text close at in
     rw (parts.0, parts.1, digits, colon) refl
 
-pub kind_bad : (text : List ℕ) (close : ℕ) → position is_close text ≡ Some close → number_of 8 (take close text) ≡ None →
-    kind_data text ≡ None
+pub kind_bad : (narrow : Bool) (text : List ℕ) (close : ℕ) → position is_close text ≡ Some close → number_of 8 (take close text) ≡ None →
+    kind_data narrow text ≡ None
 unfolding kind_data
-kind_bad text close at digits = let parts = before_is text close at in rw (parts.0, digits) refl
+kind_bad narrow text close at digits = let parts = before_is text close at in rw (parts.0, digits) refl
 
-pub kind_no_colon : (text : List ℕ) (close kind : ℕ) → position is_close text ≡ Some close → number_of 8 (take close text) ≡ Some kind →
-    behind_word (codes ":") (take (length text - (close + 1)) (drop (close + 1) text)) ≡ None → kind_data text ≡ None
+pub kind_no_colon : (narrow : Bool) (text : List ℕ) (close kind : ℕ) → position is_close text ≡ Some close → number_of 8 (take close text) ≡ Some kind →
+    behind_word (codes ":") (take (length text - (close + 1)) (drop (close + 1) text)) ≡ None → kind_data narrow text ≡ None
 unfolding kind_data
-kind_no_colon text close kind at digits colon =
+kind_no_colon narrow text close kind at digits colon =
     let parts = before_is text close at in
     rw (parts.0, parts.1, digits, colon) refl
 
@@ -223,44 +229,44 @@ never : (o : Option ℕ) → option_and_then {U = ℕ × List ℕ} (λ kind. Non
 never None = refl
 never (Some n) = refl
 
-pub kind_open : (text : List ℕ) → position is_close text ≡ None → kind_data text ≡ None
+pub kind_open : (narrow : Bool) (text : List ℕ) → position is_close text ≡ None → kind_data narrow text ≡ None
 unfolding kind_data behind_word
-kind_open text e =
+kind_open narrow text e =
     let past = no_index (position_or_len is_close text) (length text) e in
     let nothing : after_first is_close text ≡ [] = drop_all (position_or_len is_close text + 1) text (omega (arith, past)) in
     rw nothing (never (number_of 8 (before_first is_close text)))
 
-pub bytes_colon : (rest list : List ℕ) → behind_word (codes ":") rest ≡ Some list → bytes_data rest ≡ typed_bytes 3 list
+pub bytes_colon : (narrow : Bool) (rest list : List ℕ) → behind_word (codes ":") rest ≡ Some list → bytes_data narrow rest ≡ typed_bytes narrow 3 list
 unfolding bytes_data
-bytes_colon rest list e = rw e refl
+bytes_colon narrow rest list e = rw e refl
 
-pub bytes_kind : (rest text : List ℕ) → behind_word (codes ":") rest ≡ None → behind_word (codes "(") rest ≡ Some text →
-    bytes_data rest ≡ kind_data text
+pub bytes_kind : (narrow : Bool) (rest text : List ℕ) → behind_word (codes ":") rest ≡ None → behind_word (codes "(") rest ≡ Some text →
+    bytes_data narrow rest ≡ kind_data narrow text
 unfolding bytes_data
-bytes_kind rest text e f = rw (e, f) refl
+bytes_kind narrow rest text e f = rw (e, f) refl
 
-pub bytes_not : (rest : List ℕ) → behind_word (codes ":") rest ≡ None → behind_word (codes "(") rest ≡ None → bytes_data rest ≡ None
+pub bytes_not : (narrow : Bool) (rest : List ℕ) → behind_word (codes ":") rest ≡ None → behind_word (codes "(") rest ≡ None → bytes_data narrow rest ≡ None
 unfolding bytes_data
-bytes_not rest e f = rw (e, f) refl
+bytes_not narrow rest e f = rw (e, f) refl
 
-pub data_text : (text rest : List ℕ) → behind_word (codes "\"") text ≡ Some rest → data_of text ≡ text_data rest
+pub data_text : (narrow : Bool) (text rest : List ℕ) → behind_word (codes "\"") text ≡ Some rest → data_of narrow text ≡ text_data rest
 unfolding data_of
-data_text text rest e = rw e refl
+data_text narrow text rest e = rw e refl
 
-pub data_dword : (text digits : List ℕ) → behind_word (codes "\"") text ≡ None → behind_word (codes "dword:") text ≡ Some digits →
-    data_of text ≡ number_data digits
+pub data_dword : (narrow : Bool) (text digits : List ℕ) → behind_word (codes "\"") text ≡ None → behind_word (codes "dword:") text ≡ Some digits →
+    data_of narrow text ≡ number_data digits
 unfolding data_of
-data_dword text digits e f = rw (e, f) refl
+data_dword narrow text digits e f = rw (e, f) refl
 
-pub data_hex : (text rest : List ℕ) → behind_word (codes "\"") text ≡ None → behind_word (codes "dword:") text ≡ None →
-    behind_word (codes "hex") text ≡ Some rest → data_of text ≡ bytes_data rest
+pub data_hex : (narrow : Bool) (text rest : List ℕ) → behind_word (codes "\"") text ≡ None → behind_word (codes "dword:") text ≡ None →
+    behind_word (codes "hex") text ≡ Some rest → data_of narrow text ≡ bytes_data narrow rest
 unfolding data_of
-data_hex text rest e f g = rw (e, f, g) refl
+data_hex narrow text rest e f g = rw (e, f, g) refl
 
-pub data_not : (text : List ℕ) → behind_word (codes "\"") text ≡ None → behind_word (codes "dword:") text ≡ None →
-    behind_word (codes "hex") text ≡ None → data_of text ≡ None
+pub data_not : (narrow : Bool) (text : List ℕ) → behind_word (codes "\"") text ≡ None → behind_word (codes "dword:") text ≡ None →
+    behind_word (codes "hex") text ≡ None → data_of narrow text ≡ None
 unfolding data_of
-data_not text e f g = rw (e, f, g) refl
+data_not narrow text e f g = rw (e, f, g) refl
 
 pub ruleset paths = (path_none, path_other, path_empty, path_narrow, path_bad, path_good)
 

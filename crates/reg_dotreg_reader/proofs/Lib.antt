@@ -3,7 +3,9 @@ pub mod DigitLists
 pub mod PlainBytes
 pub mod QuotedUnits
 pub mod TextLines
+pub mod ValueRows
 pub mod CharacterUnits
+pub mod RootNames
 pub mod EntryReadings
 pub mod EntrySteps
 pub mod EntriesOnLiterals

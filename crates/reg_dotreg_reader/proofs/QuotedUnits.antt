@@ -1,5 +1,5 @@
 -- Quoted texts, names and units as bytes, read one unit after another.
-use Rattle.std.proofs.Common.{◌≡◌, ◌≢◌, ◌⊎◌, inl, inr, ℕ, ◌+◌, ◌/◌, ◌%◌, ◌<◌, ◌≤◌, ◌==◌, Bool, true, false, cond, List, [], ◌∷◌, ◌++◌}
+use Rattle.std.proofs.Common.{◌≡◌, ◌≢◌, ℕ, ◌+◌, ◌/◌, ◌%◌, ◌<◌, ◌≤◌, ◌==◌, Bool, true, false, cond, List, [], ◌∷◌, ◌++◌}
 use Rattle.std.proofs.Common.{length, get_or, take, drop, Option, Some, None, refl, sym, ap, ◌∙◌, arith, add-one, drop-cons, append_assoc}
 use Rattle.std.proofs.Common.{append-nil}
 use Rattle.std.specs.Prelude.{option_map, codes}
@@ -7,7 +7,7 @@ use Rattle.std.specs.List.{list_all}
 use Rattle.std.proofs.lemmas.Bool.Decides.{nat_tests}
 use Rattle.std.proofs.lemmas.List.{drop_all, take_all, take_more}
 use Rattle.std.proofs.lemmas.List.Folds.{list_all_at}
-use Rattle.reg_dotreg_reader.specs.EntryWords.{is_escaped, behind_word, with_unit, quoted_from, quoted, unit_bytes}
+use Rattle.reg_dotreg_reader.specs.EntryWords.{is_escaped, behind_word, with_unit, quoted_from, quoted, unit_bytes, is_plain, plain_bytes}
 
 -- what is read where a quoted text ends here
 abbrev pub closed : List ℕ → Option (List ℕ × List ℕ)
@@ -25,15 +25,6 @@ unfolding quoted quoted_from behind_word
 stops_quote text rest u e is =
     let here : text ≡ 34 ∷ rest = e ∙ ap (λ (w : ℕ). w ∷ rest) is in
     rw here refl
-
-pub stops_feed : (text rest : List ℕ) (u : ℕ) → text ≡ u ∷ rest → u ≡ 10 → quoted text ≡ closed text
-unfolding quoted quoted_from behind_word
-stops_feed text rest u e is =
-    let here : text ≡ 10 ∷ rest = e ∙ ap (λ (w : ℕ). w ∷ rest) is in
-    rw here refl
-
-pub stops_either : (text rest : List ℕ) (u : ℕ) → text ≡ u ∷ rest → (u ≡ 10) ⊎ (u ≡ 34) → quoted text ≡ closed text
-stops_either text rest u e is = elim is [ inl feed ↦ stops_feed text rest u e feed | inr quote ↦ stops_quote text rest u e quote ]
 
 pub stops_backslash : (text rest : List ℕ) (u : ℕ) → text ≡ u ∷ rest → u ≡ 92 → length rest ≡ 0 → quoted text ≡ closed text
 unfolding quoted quoted_from behind_word
@@ -62,25 +53,23 @@ next_escape text rest others u v e is behind one =
     let here : text ≡ 92 ∷ v ∷ others = e ∙ (ap (λ (w : ℕ). w ∷ rest) is ∙ ap (λ (w : List ℕ). 92 ∷ w) behind) in
     rw here (goes_escaped v others one, omega arith)
 
-plain_by : (u : ℕ) (rest : List ℕ) (quote feed backslash : Bool) → quote ≡ false → feed ≡ false → backslash ≡ false →
-    cond quote (Some ([], rest)) (cond feed None (cond backslash (quoted_from backslash rest) (with_unit u (quoted_from backslash rest))))
+plain_by : (u : ℕ) (rest : List ℕ) (quote backslash : Bool) → quote ≡ false → backslash ≡ false →
+    cond quote (Some ([], rest)) (cond backslash (quoted_from backslash rest) (with_unit u (quoted_from backslash rest)))
     ≡ with_unit u (quoted_from false rest)
-plain_by u rest true feed backslash a b c = absurd cc
-plain_by u rest false true backslash a b c = absurd cc
-plain_by u rest false false true a b c = absurd cc
-plain_by u rest false false false a b c = refl
+plain_by u rest true backslash a b = absurd cc
+plain_by u rest false true a b = absurd cc
+plain_by u rest false false a b = refl
 
-goes_plain : (u : ℕ) (rest : List ℕ) → u ≢ 34 → u ≢ 10 → u ≢ 92 → quoted (u ∷ rest) ≡ with_unit u (quoted rest)
+goes_plain : (u : ℕ) (rest : List ℕ) → u ≢ 34 → u ≢ 92 → quoted (u ∷ rest) ≡ with_unit u (quoted rest)
 unfolding quoted quoted_from
-goes_plain u rest quote feed backslash =
-    plain_by u rest (u == 34) (u == 10) (u == 92) (grind (arith, nat_tests, quote)) (grind (arith, nat_tests, feed))
-    (grind (arith, nat_tests, backslash))
+goes_plain u rest quote backslash =
+    plain_by u rest (u == 34) (u == 92) (grind (arith, nat_tests, quote)) (grind (arith, nat_tests, backslash))
 
-pub next_plain : (text rest : List ℕ) (u : ℕ) → text ≡ u ∷ rest → u ≢ 34 → u ≢ 10 → u ≢ 92 →
+pub next_plain : (text rest : List ℕ) (u : ℕ) → text ≡ u ∷ rest → u ≢ 34 → u ≢ 92 →
     (quoted text ≡ with_unit u (quoted rest)) × (length rest < length text)
-next_plain text rest u e quote feed backslash = rw e (goes_plain u rest quote feed backslash, omega arith)
+next_plain text rest u e quote backslash = rw e (goes_plain u rest quote backslash, omega arith)
 
-pub ruleset stops = (stops_empty, stops_quote, stops_feed, stops_backslash, stops_escape, next_escape, next_plain)
+pub ruleset stops = (stops_empty, stops_quote, stops_backslash, stops_escape, next_escape, next_plain)
 
 -- ---- a quoted text
 
@@ -160,6 +149,47 @@ unfolding unit_bytes
 bytes_end units bytes low high i so_far past first second =
     second ∙ (ap (λ (w : List ℕ). w ++ 0 ∷ []) first ∙ (append_assoc bytes (0 ∷ []) (0 ∷ [])
     ∙ (ap (λ (w : List ℕ). bytes ++ unit_bytes (w ++ 0 ∷ [])) (sym (drop_all i units past)) ∙ so_far)))
+
+-- ---- characters of one byte
+
+pub plain_more : (bytes units low high : List ℕ) (i b : ℕ) → units ++ unit_bytes (drop i bytes) ≡ unit_bytes bytes →
+    i < length bytes → b ≡ get_or bytes i 0 → is_plain b ≡ true → low ≡ units ++ b ∷ [] → high ≡ low ++ 0 ∷ [] →
+    high ++ unit_bytes (drop (i + 1) bytes) ≡ unit_bytes bytes
+unfolding unit_bytes
+plain_more bytes units low high i b so_far below is plain first second =
+    let rest : List ℕ = unit_bytes (drop (i + 1) bytes) in
+    let here : b ∷ 0 ∷ rest ≡ unit_bytes (drop i bytes) =
+    ap (λ (n : ℕ). n ∷ 0 ∷ rest) (low_is b (small b plain)) ∙ (ap (λ (n : ℕ). b % 256 ∷ n ∷ rest) (high_is b (small b plain))
+    ∙ (ap (λ (n : ℕ). n % 256 ∷ n / 256 ∷ rest) is ∙ one_left bytes i below)) in
+    ap (λ (w : List ℕ). w ++ rest) (second ∙ ap (λ (w : List ℕ). w ++ 0 ∷ []) first)
+    ∙ (append_assoc (units ++ b ∷ []) (0 ∷ []) rest ∙ (append_assoc units (b ∷ []) (0 ∷ rest)
+    ∙ (ap (λ (w : List ℕ). units ++ w) here ∙ so_far)))
+  where
+    small : (b : ℕ) → is_plain b ≡ true → b ≤ 127
+    small b e = grind (arith, nat_tests)
+
+    low_is : (b : ℕ) → b ≤ 127 → b ≡ b % 256
+    low_is b plain = omega arith
+
+    high_is : (b : ℕ) → b ≤ 127 → 0 ≡ b / 256
+    high_is b plain = omega arith
+
+    one_left : (bytes : List ℕ) (i : ℕ) → i < length bytes →
+        get_or bytes i 0 % 256 ∷ get_or bytes i 0 / 256 ∷ unit_bytes (drop (i + 1) bytes) ≡ unit_bytes (drop i bytes)
+    one_left bytes i below = rw (add-one, drop-cons bytes i 0) refl
+
+pub plain_not : (bytes : List ℕ) (i : ℕ) → i < length bytes → is_plain (get_or bytes i 0) ≡ false → plain_bytes bytes ≡ None
+unfolding plain_bytes
+plain_not bytes i below over = ap (λ (b : Bool). cond b (Some (unit_bytes bytes)) None) (list_all_at is_plain bytes i 0 below over)
+
+pub plain_end : (bytes units : List ℕ) (i : ℕ) → units ++ unit_bytes (drop i bytes) ≡ unit_bytes bytes →
+    list_all is_plain bytes ≡ list_all is_plain (drop i bytes) → length bytes ≤ i → plain_bytes bytes ≡ Some units
+unfolding plain_bytes unit_bytes
+plain_end bytes units i so_far good past =
+    let nothing : drop i bytes ≡ [] = drop_all i bytes past in
+    let all : list_all is_plain bytes ≡ true = good ∙ ap (list_all is_plain) nothing in
+    ap (λ (b : Bool). cond b (Some (unit_bytes bytes)) None) all
+    ∙ ap (λ (w : List ℕ). Some w) (sym so_far ∙ (ap (λ (w : List ℕ). units ++ unit_bytes w) nothing ∙ append-nil units))
 
 pub ruleset texts = (units_start, units_more, units_end, units_open)
 

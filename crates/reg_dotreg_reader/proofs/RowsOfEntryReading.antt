@@ -27,7 +27,7 @@ title-none : entries_in (codes "ROOT") [] ≡
 unfolding on_texts
 title-none = refl
 
-title-other : entries_in (codes "ROOT") (codes "REGEDIT4\n") ≡
+title-other : entries_in (codes "ROOT") (codes "REGEDIT5\n") ≡
     Err 1
 unfolding on_texts
 title-other = refl
@@ -46,6 +46,34 @@ title-second : entries_in (codes "ROOT") (codes "\nWindows Registry Editor Versi
     Err 1
 unfolding on_texts
 title-second = refl
+
+-- the first line of a narrow text: blanks at its end, a letter more, other letters
+title-narrow : entries_in (codes "ROOT") (codes "REGEDIT4 " ++ (9 ∷ 13 ∷ codes "\n\n[ROOT]\n\"a\"=hex(2):41,00\n@=hex:41\n")) ≡
+    Ok (record { line = 3; entry = Key [] } ∷ record { line = 4; entry = Value (codes "a") 2 (65 ∷ 0 ∷ 0 ∷ 0 ∷ []) }
+    ∷ record { line = 5; entry = Value [] 3 (65 ∷ []) } ∷ [])
+unfolding on_texts
+title-narrow = refl
+
+title-narrow_longer : entries_in (codes "ROOT") (codes "REGEDIT45\n") ≡
+    Err 1
+unfolding on_texts
+title-narrow_longer = refl
+
+title-narrow_case : entries_in (codes "ROOT") (codes "Regedit4\n") ≡
+    Err 1
+unfolding on_texts
+title-narrow_case = refl
+
+-- in a narrow text, and in another
+narrow-high : entries_in (codes "ROOT") (codes "REGEDIT4\n[ROOT]\n@=hex(1):41\n@=hex(1):ff\n") ≡
+    Err 4
+unfolding on_texts
+narrow-high = refl
+
+wide-bytes : entries_in (codes "ROOT") (title ++ (codes "\n[ROOT]\n@=hex(1):ff,00\n")) ≡
+    Ok (record { line = 2; entry = Key [] } ∷ record { line = 3; entry = Value [] 1 (255 ∷ 0 ∷ []) } ∷ [])
+unfolding on_texts
+wide-bytes = refl
 
 -- lines are counted from 1, those that say nothing too
 text-numbers : entries_in (codes "ROOT") (title ++ (codes "\n" ++ (13 ∷ codes "\n; x" ++ (13 ∷ codes "\n[ROOT]\n\n@=-" ++ (13 ∷ codes "\n"))))) ≡
@@ -161,3 +189,184 @@ return-two : entries_in (codes "ROOT") (title ++ (codes "\n[ROOT]" ++ (13 ∷ 13
     Err 2
 unfolding on_texts
 return-two = refl
+
+-- the root's name and a key's in their long forms, whichever they are given in
+root-short : entries_in (codes "hklm") (title ++ (codes "\n[HKEY_LOCAL_MACHINE\\A]\n[HKLM]\n")) ≡
+    Ok (record { line = 2; entry = Key (codes "A") } ∷ record { line = 3; entry = Key [] } ∷ [])
+unfolding on_texts
+root-short = refl
+
+root-long : entries_in (codes "HKEY_LOCAL_MACHINE") (title ++ (codes "\n[HKLM\\A]\n")) ≡
+    Ok (record { line = 2; entry = Key (codes "A") } ∷ [])
+unfolding on_texts
+root-long = refl
+
+root-below : entries_in (codes "HKLM\\SOFTWARE") (title ++ (codes "\n[HKEY_LOCAL_MACHINE\\software\\A]\n[-hklm\\Software]\n")) ≡
+    Ok (record { line = 2; entry = Key (codes "A") } ∷ record { line = 3; entry = GoneKey [] } ∷ [])
+unfolding on_texts
+root-below = refl
+
+root-above : entries_in (codes "HKLM\\SOFTWARE") (title ++ (codes "\n[HKLM\\A]\n")) ≡
+    Err 2
+unfolding on_texts
+root-above = refl
+
+root-other : entries_in (codes "HKLM") (title ++ (codes "\n[HKCU\\A]\n")) ≡
+    Err 2
+unfolding on_texts
+root-other = refl
+
+-- comments behind values: behind bytes, numbers, texts and `-`, with blanks or without
+comment-bytes : entries_in (codes "ROOT") (title ++ (codes "\n[ROOT]\n@=hex:01,02 ; x\n")) ≡
+    Ok (record { line = 2; entry = Key [] } ∷ record { line = 3; entry = Value [] 3 (1 ∷ 2 ∷ []) } ∷ [])
+unfolding on_texts
+comment-bytes = refl
+
+comment-number : entries_in (codes "ROOT") (title ++ (codes "\n[ROOT]\n@=dword:1;2" ++ (13 ∷ codes "\n"))) ≡
+    Ok (record { line = 2; entry = Key [] } ∷ record { line = 3; entry = Value [] 4 (1 ∷ 0 ∷ 0 ∷ 0 ∷ []) } ∷ [])
+unfolding on_texts
+comment-number = refl
+
+comment-text : entries_in (codes "ROOT") (title ++ (codes "\n[ROOT]\n@=\"a\" ; \"b\"\n")) ≡
+    Ok (record { line = 2; entry = Key [] } ∷ record { line = 3; entry = Value [] 1 (97 ∷ 0 ∷ 0 ∷ 0 ∷ []) } ∷ [])
+unfolding on_texts
+comment-text = refl
+
+comment-goes : entries_in (codes "ROOT") (title ++ (codes "\n[ROOT]\n@=- ; x \\\n@=-\n")) ≡
+    Ok (record { line = 2; entry = Key [] } ∷ record { line = 3; entry = GoneValue [] } ∷ record { line = 4; entry = GoneValue [] } ∷ [])
+unfolding on_texts
+comment-goes = refl
+
+-- a `;` in quotes stands for itself, also behind a quote behind a backslash, and behind a backslash behind one
+comment-in_text : entries_in (codes "ROOT") (title ++ (codes "\n[ROOT]\n@=\"a;b\"\n")) ≡
+    Ok (record { line = 2; entry = Key [] } ∷ record { line = 3; entry = Value [] 1 (97 ∷ 0 ∷ 59 ∷ 0 ∷ 98 ∷ 0 ∷ 0 ∷ 0 ∷ []) } ∷ [])
+unfolding on_texts
+comment-in_text = refl
+
+comment-in_name : entries_in (codes "ROOT") (title ++ (codes "\n[ROOT]\n\"a;b\"=-;c\n")) ≡
+    Ok (record { line = 2; entry = Key [] } ∷ record { line = 3; entry = GoneValue (codes "a;b") } ∷ [])
+unfolding on_texts
+comment-in_name = refl
+
+comment-quote_within : entries_in (codes "ROOT") (title ++ (codes "\n[ROOT]\n@=\"\\\";\"\n")) ≡
+    Ok (record { line = 2; entry = Key [] } ∷ record { line = 3; entry = Value [] 1 (34 ∷ 0 ∷ 59 ∷ 0 ∷ 0 ∷ 0 ∷ []) } ∷ [])
+unfolding on_texts
+comment-quote_within = refl
+
+comment-backslash_within : entries_in (codes "ROOT") (title ++ (codes "\n[ROOT]\n@=\"\\\\\";\"\n")) ≡
+    Ok (record { line = 2; entry = Key [] } ∷ record { line = 3; entry = Value [] 1 (92 ∷ 0 ∷ 0 ∷ 0 ∷ []) } ∷ [])
+unfolding on_texts
+comment-backslash_within = refl
+
+-- one that begins before the value ends
+comment-early : entries_in (codes "ROOT") (title ++ (codes "\n[ROOT]\n@;=-\n")) ≡
+    Err 3
+unfolding on_texts
+comment-early = refl
+
+comment-no_data : entries_in (codes "ROOT") (title ++ (codes "\n[ROOT]\n@=; x\n")) ≡
+    Err 3
+unfolding on_texts
+comment-no_data = refl
+
+-- behind the backslash at a row's end, behind the last row, and on lines alone between rows
+comment-rows : entries_in (codes "ROOT") (title ++ (codes "\n[ROOT]\n\"a\"=hex:01,02,\\ ; first" ++ (13 ∷ codes "\n; between" ++ (13 ∷ codes "\n  ; and \\\n  03 ; last\n@=-\n")))) ≡
+    Ok (record { line = 2; entry = Key [] } ∷ record { line = 3; entry = Value (codes "a") 3 (1 ∷ 2 ∷ 3 ∷ []) } ∷ record { line = 7; entry = GoneValue [] } ∷ [])
+unfolding on_texts
+comment-rows = refl
+
+-- a line of blanks alone ends the value, as it does without comments
+comment-blank_line : entries_in (codes "ROOT") (title ++ (codes "\n[ROOT]\n@=hex:01,\\\n; x\n \n@=-\n")) ≡
+    Ok (record { line = 2; entry = Key [] } ∷ record { line = 3; entry = Value [] 3 (1 ∷ []) } ∷ record { line = 6; entry = GoneValue [] } ∷ [])
+unfolding on_texts
+comment-blank_line = refl
+
+-- no row follows the comment
+comment-last : entries_in (codes "ROOT") (title ++ (codes "\n[ROOT]\n@=hex:01,\\\n; x\n")) ≡
+    Err 3
+unfolding on_texts
+comment-last = refl
+
+-- a comment between rows, before the backslash
+comment-before_backslash : entries_in (codes "ROOT") (title ++ (codes "\n[ROOT]\n@=hex:01, ; x \\\n  02\n")) ≡
+    Err 4
+unfolding on_texts
+comment-before_backslash = refl
+
+-- lines of keys have no comments
+comment-key : entries_in (codes "ROOT") (title ++ (codes "\n[ROOT] ; x\n")) ≡
+    Err 2
+unfolding on_texts
+comment-key = refl
+
+comment-key_named : entries_in (codes "ROOT") (title ++ (codes "\n[ROOT\\a;b]\n")) ≡
+    Ok (record { line = 2; entry = Key (codes "a;b") } ∷ [])
+unfolding on_texts
+comment-key_named = refl
+
+-- texts over several lines, whose ends stand for themselves: CR LF, LF, and blanks before them
+lines-return : entries_in (codes "ROOT") (title ++ (codes "\n[ROOT]\n@=\"a" ++ (13 ∷ codes "\nb\"" ++ (13 ∷ codes "\n@=-\n")))) ≡
+    Ok (record { line = 2; entry = Key [] } ∷ record { line = 3; entry = Value [] 1 (97 ∷ 0 ∷ 13 ∷ 0 ∷ 10 ∷ 0 ∷ 98 ∷ 0 ∷ 0 ∷ 0 ∷ []) } ∷ record { line = 5; entry = GoneValue [] } ∷ [])
+unfolding on_texts
+lines-return = refl
+
+lines-feed : entries_in (codes "ROOT") (title ++ (codes "\n[ROOT]\n\"n\"=\"a \n\n b\"\n@=-\n")) ≡
+    Ok (record { line = 2; entry = Key [] } ∷ record { line = 3; entry = Value (codes "n") 1 (97 ∷ 0 ∷ 32 ∷ 0 ∷ 10 ∷ 0 ∷ 10 ∷ 0 ∷ 32 ∷ 0 ∷ 98 ∷ 0 ∷ 0 ∷ 0 ∷ []) } ∷ record { line = 6; entry = GoneValue [] } ∷ [])
+unfolding on_texts
+lines-feed = refl
+
+-- within, nothing but a quote and a backslash says something else
+lines-within : entries_in (codes "ROOT") (title ++ (codes "\n[ROOT]\n@=\"\n;c\n[K]\n\\\"\\\\\"\n@=-\n")) ≡
+    Ok (record { line = 2; entry = Key [] } ∷ record { line = 3; entry = Value [] 1 (10 ∷ 0 ∷ 59 ∷ 0 ∷ 99 ∷ 0 ∷ 10 ∷ 0 ∷ 91 ∷ 0 ∷ 75 ∷ 0 ∷ 93 ∷ 0 ∷ 10 ∷ 0 ∷ 34 ∷ 0 ∷ 92 ∷ 0 ∷ 0 ∷ 0 ∷ []) } ∷ record { line = 7; entry = GoneValue [] } ∷ [])
+unfolding on_texts
+lines-within = refl
+
+-- blanks and a comment behind the quote that closes it, and nothing else
+lines-comment : entries_in (codes "ROOT") (title ++ (codes "\n[ROOT]\n@=\"a\nb\" ; \"\n@=-\n")) ≡
+    Ok (record { line = 2; entry = Key [] } ∷ record { line = 3; entry = Value [] 1 (97 ∷ 0 ∷ 10 ∷ 0 ∷ 98 ∷ 0 ∷ 0 ∷ 0 ∷ []) } ∷ record { line = 5; entry = GoneValue [] } ∷ [])
+unfolding on_texts
+lines-comment = refl
+
+lines-behind : entries_in (codes "ROOT") (title ++ (codes "\n[ROOT]\n@=\"a\nb\"c\n")) ≡
+    Err 3
+unfolding on_texts
+lines-behind = refl
+
+-- behind a row that goes on, and before one
+lines-carried : entries_in (codes "ROOT") (title ++ (codes "\n[ROOT]\n@=\\\n\"a\nb\"\\\n ; c\n\n@=-\n")) ≡
+    Ok (record { line = 2; entry = Key [] } ∷ record { line = 3; entry = Value [] 1 (97 ∷ 0 ∷ 10 ∷ 0 ∷ 98 ∷ 0 ∷ 0 ∷ 0 ∷ []) } ∷ record { line = 8; entry = GoneValue [] } ∷ [])
+unfolding on_texts
+lines-carried = refl
+
+-- a backslash before a line's end, in quotes
+lines-backslash : entries_in (codes "ROOT") (title ++ (codes "\n[ROOT]\n@=\"a\\\nb\"\n")) ≡
+    Err 3
+unfolding on_texts
+lines-backslash = refl
+
+lines-backslash_return : entries_in (codes "ROOT") (title ++ (codes "\n[ROOT]\n@=\"a\\" ++ (13 ∷ codes "\nb\"\n"))) ≡
+    Err 3
+unfolding on_texts
+lines-backslash_return = refl
+
+-- no quote closes it, whatever follows
+lines-open : entries_in (codes "ROOT") (title ++ (codes "\n[ROOT]\n@=\"a\n[ROOT]\nx\n")) ≡
+    Err 3
+unfolding on_texts
+lines-open = refl
+
+lines-open_last : entries_in (codes "ROOT") (title ++ (codes "\n[ROOT]\n@=\"a\nb")) ≡
+    Err 3
+unfolding on_texts
+lines-open_last = refl
+
+-- names stand on one line
+lines-name : entries_in (codes "ROOT") (title ++ (codes "\n[ROOT]\n\"a\nb\"=-\n")) ≡
+    Err 3
+unfolding on_texts
+lines-name = refl
+
+lines-key : entries_in (codes "ROOT") (title ++ (codes "\n[ROOT\\a\nb]\n")) ≡
+    Err 2
+unfolding on_texts
+lines-key = refl

@@ -9,7 +9,8 @@ use Rattle.std.proofs.lemmas.List.Sums.{prefix_len_is, suffix_len_is}
 use Rattle.std.proofs.lemmas.Bool.Decides.{nat_tests}
 use Rattle.reg_names.specs.Names.{fold}
 use Rattle.reg_dotreg_reader.specs.EntryWords.{is_blank, behind_blanks, before_blanks, before_mark, behind_word}
-use Rattle.reg_dotreg_reader.specs.EntryMeanings.{behind_name, title, untitled}
+use Rattle.reg_dotreg_reader.specs.EntryLines.{without_return}
+use Rattle.reg_dotreg_reader.specs.EntryMeanings.{behind_name, is_narrow_by, untitled}
 
 -- ---- blanks
 
@@ -152,27 +153,21 @@ is_word [] (u ∷ us) = sym (long_not (suc (length us)) (omega arith))
 is_word (c ∷ word) [] = refl
 is_word (c ∷ word) (u ∷ us) = all_by (u == c) (bytes_eq us word) (behind_word word us) (is_word word us)
 
-pub is_title : (lines rest : List (List ℕ)) (line left behind : List ℕ) → lines ≡ line ∷ rest → left ≡ before_blanks line →
-    behind_word title left ≡ Some behind → length behind ≡ 0 → untitled lines ≡ Some rest
-is_title lines rest line left behind e is begins nothing =
-    let all : bytes_eq (before_blanks line) title ≡ true =
-    ap (λ (w : List ℕ). bytes_eq w title) (sym is) ∙ (is_word title left ∙ (ap is_all begins ∙ ap (λ (n : ℕ). n == 0) nothing)) in
-    ap untitled e ∙ ap (λ (b : Bool). cond b (Some rest) None) all
+pub word_whole : (word units rest : List ℕ) → behind_word word units ≡ Some rest → bytes_eq units word ≡ (length rest == 0)
+word_whole word units rest e = is_word word units ∙ ap is_all e
 
-pub longer_title : (lines rest : List (List ℕ)) (line left behind : List ℕ) → lines ≡ line ∷ rest → left ≡ before_blanks line →
-    behind_word title left ≡ Some behind → 0 < length behind → untitled lines ≡ None
-longer_title lines rest line left behind e is begins some =
-    let more : (length behind == 0) ≡ false = grind (arith, nat_tests, some) in
-    let all : bytes_eq (before_blanks line) title ≡ false =
-    ap (λ (w : List ℕ). bytes_eq w title) (sym is) ∙ (is_word title left ∙ (ap is_all begins ∙ more)) in
-    ap untitled e ∙ ap (λ (b : Bool). cond b (Some rest) None) all
+pub word_not : (word units : List ℕ) → behind_word word units ≡ None → bytes_eq units word ≡ false
+word_not word units e = is_word word units ∙ ap is_all e
 
-pub other_title : (lines rest : List (List ℕ)) (line left : List ℕ) → lines ≡ line ∷ rest → left ≡ before_blanks line →
-    behind_word title left ≡ None → untitled lines ≡ None
-other_title lines rest line left e is begins =
-    let all : bytes_eq (before_blanks line) title ≡ false =
-    ap (λ (w : List ℕ). bytes_eq w title) (sym is) ∙ (is_word title left ∙ ap is_all begins) in
-    ap untitled e ∙ ap (λ (b : Bool). cond b (Some rest) None) all
+pub is_title : (lines rest : List (List ℕ)) (line left : List ℕ) (narrow : Bool) → lines ≡ line ∷ rest → left ≡ before_blanks (without_return line) →
+    is_narrow_by left ≡ Some narrow → untitled lines ≡ Some (narrow, rest)
+is_title lines rest line left narrow e is by =
+    ap untitled e ∙ ap (λ (o : Option Bool). option_map (λ is_narrow. (is_narrow, rest)) o) (ap is_narrow_by (sym is) ∙ by)
+
+pub other_title : (lines rest : List (List ℕ)) (line left : List ℕ) → lines ≡ line ∷ rest → left ≡ before_blanks (without_return line) →
+    is_narrow_by left ≡ None → untitled lines ≡ None
+other_title lines rest line left e is by =
+    ap untitled e ∙ ap (λ (o : Option Bool). option_map (λ is_narrow. (is_narrow, rest)) o) (ap is_narrow_by (sym is) ∙ by)
 
 pub no_title : (lines : List (List ℕ)) → lines ≡ [] → untitled lines ≡ None
 no_title lines e = ap untitled e
@@ -181,4 +176,4 @@ pub ruleset words = (word_short, word_next, word_other, word_end)
 
 pub ruleset names = (name_short, name_next, name_other, name_end)
 
-pub ruleset titles = (is_title, longer_title, other_title, no_title)
+pub ruleset titles = (is_title, other_title, no_title)

@@ -2,7 +2,7 @@
 use Rattle.std.specs.Prelude.{ℕ, ◌+◌, ◌-◌, ◌*◌, ◌/◌, ◌%◌, ◌==◌, ◌&&◌, ◌||◌, nat_lt, nat_le, Bool, true, false, if◌then◌else◌, List, [], ◌∷◌}
 use Rattle.std.specs.Prelude.{length, take, drop, Option, Some, None, option_map, option_and_then}
 use Rattle.std.specs.Option.{unwrap_or}
-use Rattle.std.specs.List.{prefix_len, suffix_len, slice_split}
+use Rattle.std.specs.List.{list_all, prefix_len, suffix_len, slice_split}
 use Rattle.hex.specs.Hex.{hex_digit_value}
 
 -- ---- blanks and marks
@@ -81,11 +81,11 @@ abbrev pub with_plain : ℕ → Option (List ℕ × List ℕ) → Option (List �
 with_plain unit read = if unit == 92 then read else with_unit unit read
 
 -- a quoted text from some place in it on, behind a backslash or not: its units, and what stands behind the quote that closes it; `None`
--- where none closes it before its line ends, or where a backslash stands before another unit than a quote or a backslash
+-- where none closes it, or where a backslash stands before another unit than a quote or a backslash
 unfoldable pub quoted_from : (is_behind_backslash : Bool) → List ℕ → Option (List ℕ × List ℕ)
 quoted_from behind [] = None
 quoted_from true (u ∷ us) = if is_escaped u then with_unit u (quoted_from false us) else None
-quoted_from false (u ∷ us) = if u == 34 then Some ([], us) else if u == 10 then None else with_plain u (quoted_from (u == 92) us)
+quoted_from false (u ∷ us) = if u == 34 then Some ([], us) else with_plain u (quoted_from (u == 92) us)
 
 -- a quoted text behind the quote that opens it
 unfoldable pub quoted : List ℕ → Option (List ℕ × List ℕ)
@@ -95,3 +95,11 @@ quoted units = quoted_from false units
 unfoldable pub unit_bytes : List ℕ → List ℕ
 unit_bytes [] = []
 unit_bytes (unit ∷ units) = unit % 256 ∷ unit / 256 ∷ unit_bytes units
+
+-- a character of one byte
+abbrev pub is_plain : ℕ → Bool
+is_plain byte = nat_le byte 127
+
+-- characters of one byte, as the bytes of their units; `None` where one is above 0x7F
+unfoldable pub plain_bytes : List ℕ → Option (List ℕ)
+plain_bytes bytes = if list_all is_plain bytes then Some (unit_bytes bytes) else None

@@ -1,48 +1,21 @@
 //! The lines of keys.
 ghost use Rattle.std.specs.Prelude.{◌≡◌, option_copied};
-ghost use Rattle.reg_names.specs.Names.{fold};
-ghost use Rattle.reg_dotreg_reader.specs.EntryMeanings.{behind_name, path_behind, path_below, gone_below, bracketed, key_said};
+ghost use Rattle.reg_dotreg_reader.specs.EntryMeanings.{way_behind, without_backslash, path_behind, way_below, path_below, gone_below, bracketed, key_said};
 ghost use Rattle.reg_dotreg_reader.specs.Internal.ReadSoFar.{Reads};
 
 use crate::entry::Entry;
 use crate::fault::LineFault;
 use crate::quotes::narrowed;
+use crate::roots::{behind_name, lengthened};
 use crate::words::{before_mark, behind_word};
 use reg_model::Bytes;
 use reg_names::check_path;
 use std::alloc::Global;
 
-/// A letter a to z becomes A to Z; every other unit stays.
-fn folded(unit: u16) -> u16
-    ensures { result ≡ fold unit }
-{
-    if unit >= 97 && unit <= 122 {
-        unit - 32
-    } else {
-        unit
-    }
-}
-
-/// What stands behind a name, where some units begin with it, letters of either case.
-#[tactic(auto, using(crate::proofs::WordEnds::names))]
-fn behind_name<'a>(name: &[u8], units: &'a [u16]) -> Option<&'a [u16]>
-    ensures { option_copied result ≡ behind_name name.now units.now }
-{
-    let mut rest = units;
-    for letter in name {
-        let (unit, others) = rest.split_first()?;
-        if folded(*unit) != folded(u16::from(*letter)) {
-            return None;
-        }
-        rest = others;
-    }
-    Some(rest)
-}
-
-/// The path behind the root's name: of no names, or a backslash and a path.
+/// What stands behind the root's name: no names, or a backslash and a path.
 #[tactic(auto, using(crate::proofs::EntryReadings::paths))]
-fn path_behind(alloc: Global, units: &[u16]) -> Result<Vec<u8>, LineFault>
-    ensures { Reads (λ v. v.items) (path_behind units.now) result }
+fn way_behind(alloc: Global, units: &[u16]) -> Result<Vec<u8>, LineFault>
+    ensures { Reads (λ v. v.items) (way_behind units.now) result }
 {
     let Some((first, path)) = units.split_first() else {
         return Ok(Vec::new(alloc));
@@ -57,14 +30,42 @@ fn path_behind(alloc: Global, units: &[u16]) -> Result<Vec<u8>, LineFault>
     }
 }
 
-/// The path of a key below the root.
+/// Units without the backslash at their end, if there is one.
+fn without_backslash(units: &[u16]) -> &[u16]
+    ensures { result.now ≡ without_backslash units.now }
+{
+    match before_mark(92, units) {
+        Some(front) => front,
+        None => units,
+    }
+}
+
+/// The path behind the root's name, one backslash at its end passed over.
+fn path_behind(alloc: Global, units: &[u16]) -> Result<Vec<u8>, LineFault>
+    ensures { Reads (λ v. v.items) (path_behind units.now) result }
+{
+    way_behind(alloc, without_backslash(units))
+}
+
+/// The path of a key below the root, both in their long forms.
 #[tactic(auto, using(crate::proofs::EntryReadings::below_is, crate::proofs::EntryReadings::below_not))]
-fn path_below(alloc: Global, root: &[u8], units: &[u16]) -> Result<Vec<u8>, LineFault>
-    ensures { Reads (λ v. v.items) (path_below root.now units.now) result }
+fn way_below(alloc: Global, root: &[u8], units: &[u16]) -> Result<Vec<u8>, LineFault>
+    ensures { Reads (λ v. v.items) (way_below root.now units.now) result }
 {
     match behind_name(root, units) {
         Some(rest) => path_behind(alloc, rest),
         None => Err(LineFault::Form),
+    }
+}
+
+/// The path of a key below the root, which is in its long form.
+#[tactic(auto, using(crate::proofs::EntryReadings::below_long, crate::proofs::EntryReadings::below_same))]
+fn path_below(alloc: Global, root: &[u8], units: &[u16]) -> Result<Vec<u8>, LineFault>
+    ensures { Reads (λ v. v.items) (path_below root.now units.now) result }
+{
+    match lengthened(alloc, units)? {
+        Some(long) => way_below(alloc, root, &long),
+        None => way_below(alloc, root, units),
     }
 }
 

@@ -6,10 +6,10 @@
 //!
 //! Its types are [`Entry`], [`Numbered`] and [`ReadFault`].
 //!
-//! `encoding` makes units of bytes, `lines` cuts them and joins lines that go on, `reading` goes over the lines once, and `keys`, `values`,
-//! `quotes`, `numbers` and `words` read what one says.
+//! `encoding` makes units of bytes, `lines` cuts them, `rows` joins those of a value, `reading` goes over the lines once, and `keys`,
+//! `roots`, `values`, `quotes`, `numbers` and `words` read what one says.
 //!
-//! The form is that of regedit's exports, version 5.00; names of characters 0x01 to 0x7F alone are this project's own.
+//! The forms are those of regedit, version 5.00 and REGEDIT4; names of characters 0x01 to 0x7F alone are this project's own.
 #![tactic(auto)]
 
 mod encoding;
@@ -20,6 +20,8 @@ mod lines;
 mod numbers;
 mod quotes;
 mod reading;
+mod roots;
+mod rows;
 mod values;
 mod words;
 

@@ -1,8 +1,10 @@
 //! Texts in quotes, names and units as bytes.
-ghost use Rattle.std.specs.Prelude.{◌≡◌, ◌<◌, ◌∷◌, [], ◌++◌, length, if◌then◌else◌, codes, option_map, IfOk, Some, None, MatchOption};
+ghost use Rattle.std.specs.Prelude.{◌≡◌, ◌<◌, ◌∷◌, [], ◌++◌, length, not, if◌then◌else◌, codes, option_map, IfOk, Some, None, MatchOption};
 ghost use Rattle.std.specs.List.{list_all};
-ghost use Rattle.reg_names.specs.Names.{is_value_name_byte, is_value_name};
-ghost use Rattle.reg_dotreg_reader.specs.EntryWords.{is_escaped as is_escaped_of, behind_word as behind_word_of, quoted, with_unit, unit_bytes};
+ghost use Rattle.reg_names.specs.Names.{is_value_name_byte};
+ghost use Rattle.reg_dotreg_reader.specs.EntryLines.{is_feed};
+ghost use Rattle.reg_dotreg_reader.specs.EntryMeanings.{is_line_name};
+ghost use Rattle.reg_dotreg_reader.specs.EntryWords.{is_escaped as is_escaped_of, behind_word as behind_word_of, quoted, with_unit, unit_bytes, is_plain as is_plain_of, plain_bytes};
 ghost use Rattle.reg_dotreg_reader.specs.Internal.ReadSoFar.{Reads};
 
 use crate::fault::LineFault;
@@ -17,8 +19,8 @@ fn is_escaped(unit: u16) -> bool
     unit == 34 || unit == 92
 }
 
-/// The unit that stands next in a quoted text, behind a backslash or alone, and what follows; `None` where a quote, the end of a line
-/// or a backslash before another unit ends it.
+/// The unit that stands next in a quoted text, behind a backslash or alone, and what follows; `None` where a quote or a backslash before
+/// another unit ends it.
 #[tactic(auto, using(crate::proofs::QuotedUnits::stops))]
 fn next_unit(text: &[u16]) -> Option<(u16, &[u16])>
     ensures { MatchOption result (quoted text.now ≡ option_map (λ rest. ([], rest)) (behind_word_of (codes "\"") text.now))
@@ -26,7 +28,7 @@ fn next_unit(text: &[u16]) -> Option<(u16, &[u16])>
 {
     let (unit, rest) = text.split_first()?;
     match *unit {
-        34 | 10 => None,
+        34 => None,
         92 => {
             let (unit, rest) = rest.split_first()?;
             if is_escaped(*unit) {
@@ -78,11 +80,18 @@ pub fn narrowed(alloc: Global, units: &[u16]) -> Result<Vec<u8>, LineFault>
     Ok(bytes)
 }
 
+/// Whether units stand on one line.
+fn are_on_one_line(units: &[u16]) -> bool
+    ensures { result ≡ list_all (λ u. not (is_feed u)) units.now }
+{
+    units.iter().all(|unit| *unit != 10)
+}
+
 /// The name of a value.
 pub fn value_name(alloc: Global, units: &[u16]) -> Result<Vec<u8>, LineFault>
-    ensures { Reads (λ v. v.items) (if is_value_name units.now then Some units.now else None) result }
+    ensures { Reads (λ v. v.items) (if is_line_name units.now then Some units.now else None) result }
 {
-    if units.len() > VALUE_NAME_LIMIT {
+    if units.len() > VALUE_NAME_LIMIT || !are_on_one_line(units) {
         return Err(LineFault::Form);
     }
     narrowed(alloc, units)
@@ -101,4 +110,27 @@ pub fn ended_bytes(alloc: Global, units: &[u16]) -> Result<Vec<u8>, AllocError>
     bytes.push(0)?;
     bytes.push(0)?;
     Ok(bytes)
+}
+
+/// Whether a byte is a character.
+fn is_plain(byte: u8) -> bool
+    ensures { result ≡ is_plain_of byte }
+{
+    byte <= 0x7F
+}
+
+/// Characters of one byte, as the bytes of their units; none may be above 0x7F.
+#[tactic(auto, using(crate::proofs::QuotedUnits::plain_more, crate::proofs::QuotedUnits::plain_not, crate::proofs::QuotedUnits::plain_end))]
+pub fn plain_bytes(alloc: Global, bytes: &[u8]) -> Result<Vec<u8>, LineFault>
+    ensures { Reads (λ v. v.items) (plain_bytes bytes.now) result }
+{
+    let mut units = Vec::with_capacity(alloc, bytes.len().saturating_mul(2))?;
+    for byte in bytes {
+        if !is_plain(*byte) {
+            return Err(LineFault::Form);
+        }
+        units.push(*byte)?;
+        units.push(0)?;
+    }
+    Ok(units)
 }

@@ -1,5 +1,6 @@
 //! Blanks, marks and words of a line.
 ghost use Rattle.std.specs.Prelude.{◌≡◌, ◌<◌, ◌≤◌, length, option_copied, IfSome};
+ghost use Rattle.std.specs.Str.{bytes_eq};
 ghost use Rattle.reg_dotreg_reader.specs.EntryWords.{is_blank, behind_blanks, before_blanks, trimmed, before_mark, behind_word};
 
 /// Whether a unit is a blank.
@@ -63,4 +64,15 @@ pub fn behind_word<'a>(word: &[u8], units: &'a [u16]) -> Option<&'a [u16]>
         rest = others;
     }
     Some(rest)
+}
+
+/// Whether some units are a word and no more.
+#[tactic(auto, using(crate::proofs::WordEnds::word_whole, crate::proofs::WordEnds::word_not))]
+pub fn is_word(word: &[u8], units: &[u16]) -> bool
+    ensures { result ≡ bytes_eq units.now word.now }
+{
+    match behind_word(word, units) {
+        Some(rest) => rest.is_empty(),
+        None => false,
+    }
 }

@@ -6,6 +6,6 @@ use Rattle.reg_dotreg_reader.proofs.lines.first_line.Goals as goal
 
 pub returns-in-Some : goal.returns-in-Some
 returns-in-Some c = (
-  line_first c.args.text.now c.without_return.result.now _ c.in-Some.end (sym c.in-Some.ensures) c.without_return.ensures refl,
+  line_first c.args.text.now _ _ c.in-Some.end (sym c.in-Some.ensures) refl refl,
   behind_shorter is_feed c.args.text.now c.in-Some.end (sym c.in-Some.ensures),
 )

@@ -1,9 +1,9 @@
 use Rattle.std.proofs.Common.{sym, ◌∙◌}
-use Rattle.reg_dotreg_reader.proofs.QuotedUnits.{stops_either, stops_escape, next_escape}
+use Rattle.reg_dotreg_reader.proofs.QuotedUnits.{stops_quote, stops_escape, next_escape}
 use Rattle.reg_dotreg_reader.proofs.quotes.next_unit.Goals as goal
 
 pub returns-in-34 : goal.returns-in-34
-returns-in-34 c = stops_either c.args.text.now c.in_ok-unit.rest.now c.in_ok-unit.unit.now c.in_ok-unit.ensures.cases.0 c.in-34.is
+returns-in-34 c = stops_quote c.args.text.now c.in_ok-unit.rest.now c.in_ok-unit.unit.now c.in_ok-unit.ensures.cases.0 c.in-34.is
 
 pub returns-then-is_escaped : goal.returns-then-is_escaped
 returns-then-is_escaped c =

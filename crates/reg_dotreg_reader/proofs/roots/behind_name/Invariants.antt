@@ -1,6 +1,6 @@
 use Rattle.std.proofs.Common.{◌≡◌, drop}
 use Rattle.reg_dotreg_reader.specs.EntryMeanings.{behind_name}
-use Rattle.reg_dotreg_reader.proofs.keys.behind_name.Given as goal
+use Rattle.reg_dotreg_reader.proofs.roots.behind_name.Given as goal
 
 abbrev pub invariant-loop-letter : goal.invariant-loop-letter
 invariant-loop-letter l = behind_name l.name l.units ≡ behind_name (drop l.letter-index l.name) l.rest

@@ -1,7 +1,7 @@
 use Rattle.std.proofs.Common.{sym, ap, ◌∙◌}
 use Rattle.reg_names.specs.Names.{fold}
 use Rattle.reg_dotreg_reader.proofs.WordEnds.{name_other}
-use Rattle.reg_dotreg_reader.proofs.keys.behind_name.Goals as goal
+use Rattle.reg_dotreg_reader.proofs.roots.behind_name.Goals as goal
 
 pub returns-then-folded : goal.returns-then-folded
 returns-then-folded c =
