@@ -3,8 +3,8 @@
 //! Its one contract: each call writes just what a crate below does of a tree, of the tree that the image loads as; or it answers why the
 //! image doesn't load, and then nothing was written. But [`get`] reads only what leads to a value, and [`list`] what it lists of a key by
 //! itself, unless they are asked to load the whole: so they may answer of an image that doesn't load. [`list`] and [`get`] write what
-//! reg_tree_text does, [`find`] what reg_find does, [`export`] what reg_dotreg_writer does, [`export_json`] and [`export_csv`] what
-//! reg_tables does, and [`diff`] what reg_diff does of two trees. No image is read past its bins.
+//! reg_tree_text does, [`find`] what reg_find does, [`export`] what reg_dotreg_writer does, [`export_json`], [`export_jsonl`],
+//! [`export_html`] and [`export_csv`] what reg_tables does, and [`diff`] what reg_diff does of two trees. No image is read past its bins.
 //!
 //! It stands on these and on reg_tree_image, which loads. Its types are the calls' faults.
 #![tactic(auto)]
@@ -23,4 +23,4 @@ pub use fault::{DiffFault, ExportEnd, FindFault, QueryFault};
 pub use finding::find;
 pub use listing::list;
 pub use querying::get;
-pub use tabling::{export_csv, export_json};
+pub use tabling::{export_csv, export_html, export_json, export_jsonl};

@@ -1,12 +1,12 @@
 -- A day of the calendar, found by its number.
-use Rattle.std.proofs.Common.{◌≡◌, ℕ, zero, suc, ◌+◌, ◌-◌, ◌<◌, ◌≤◌, Bool, true, false, inl, inr, refl, sym, ap, ◌∙◌, arith, ℤ, pos, ◌+ℤ◌, ◌≤ℤ◌, ◌<ℤ◌}
+use Rattle.std.proofs.Common.{◌≡◌, ℕ, zero, suc, ◌+◌, ◌-◌, ◌<◌, ◌≤◌, Bool, true, false, inl, inr, refl, sym, ap, arith, ℤ, pos, ◌≤ℤ◌}
 use Rattle.std.specs.Prelude.{nat_lt, if◌then◌else◌}
 use Rattle.std.proofs.lemmas.Bool.Decides.{nat_tests}
 use Rattle.std.proofs.lemmas.Int.{by_lt_z}
 use Rattle.std.proofs.lemmas.Bool.{cases_order}
 use Rattle.jiff_core.specs.Calendar.{day_count, day_of_year, days_of_months, days_in_year, days_in_month, IsCivilDate}
 use Rattle.jiff_core.proofs.SignedLemmas.{signed_arith}
-use Rattle.jiff_core.proofs.CalendarLemmas.{day_count-year_is, day_count-lt_year, day_count-next_year, day_count-day_of_year, days_of_months-zero}
+use Rattle.jiff_core.proofs.CalendarLemmas.{day_count-year_is, day_count-lt_year, day_count-next_year, day_count-day_of_year}
 use Rattle.jiff_core.proofs.CalendarLemmas.{days_of_months_more, days_of_months_mono}
 use Rattle.jiff_core.proofs.MarchLemmas.{day_count-early}
 use Rattle.reg_tables.specs.Times.{year_and_day, month_and_day}

@@ -1,17 +1,15 @@
 -- The text of a gathered key is serde_json's compact text of its data.
-use Rattle.std.proofs.Common.{◌≡◌, ℕ, suc, Bool, true, false, ◌||◌, List, [], ◌∷◌, length, map, refl, sym, ap, ◌∙◌, subst, Some}
+use Rattle.std.proofs.Common.{◌≡◌, ℕ, suc, Bool, false, ◌||◌, List, [], ◌∷◌, length, map, refl, sym, ap, ◌∙◌, subst, Some}
 use Rattle.serde.specs.Event.{Log, Logs, WritesEach, WritesSeq, seq_begins, seq_ends}
 use Rattle.serde_json.specs.Data.{Data, array}
 use Rattle.serde_json.specs.Events.{items_len, SendsValue, SendsItems}
 use Rattle.serde_json.specs.View.{items_of}
 use Rattle.serde_json.specs.Written.{has_float, items_have_float}
-use Rattle.reg_tables.specs.declared.time.Moment.{Moment}
-use Rattle.reg_tables.specs.declared.time.Moment.TheVariants as moment
 use Rattle.reg_tables.specs.declared.form.ValueForm.{ValueForm}
 use Rattle.reg_tables.specs.declared.form.ValueForm.TheVariants as form
 use Rattle.reg_tables.specs.declared.entry.ValueEntry.{ValueEntry}
 use Rattle.reg_tables.specs.declared.entry.KeyEntry.{KeyEntry}
-use Rattle.reg_tables.specs.Internal.Entries.{moment_data, text_data, form_view, value_view, key_view}
+use Rattle.reg_tables.specs.Internal.Entries.{text_data, form_view, value_view, key_view}
 
 -- ---- the events of a sequence
 
@@ -38,10 +36,6 @@ items-whole : {A : Type 0} (f : A → Data) → ((x : A) → has_float (f x) ≡
 items-whole f each [] = refl
 items-whole f each (x ∷ xs) = ap (λ (b : Bool). b || items_have_float (items_of (map f xs))) (each x) ∙ items-whole f each xs
 
-moment-whole : (m : Moment) → has_float (moment_data m) ≡ false
-moment-whole (moment.Instant text) = refl
-moment-whole (moment.Ticks ticks) = refl
-
 form-whole : (f : ValueForm) → has_float (form_view f) ≡ false
 form-whole (form.Text text) = refl
 form-whole (form.Texts texts) = items-whole text_data (λ _. refl) texts.items
@@ -53,6 +47,4 @@ value-whole e = ap (λ (b : Bool). b || false) (form-whole e.form)
 
 pub key-whole : (e : KeyEntry) → has_float (key_view e) ≡ false
 key-whole e =
-    let values = items-whole value_view value-whole e.values.items in
-    ap (λ (b : Bool). b || (items_have_float (items_of (map value_view e.values.items)) || false)) (moment-whole e.time)
-    ∙ ap (λ (b : Bool). b || false) values
+    ap (λ (b : Bool). b || false) (items-whole value_view value-whole e.values.items)

@@ -1,5 +1,5 @@
 -- Keys and values gathered from a tree have the data that is told of them.
-use Rattle.std.proofs.Common.{◌≡◌, ℕ, ◌+◌, ◌≤◌, List, [], ◌∷◌, ◌++◌, map, drop, length, Some, refl, sym, ap, ◌∙◌, arith, append_assoc, append-nil}
+use Rattle.std.proofs.Common.{◌≡◌, ℕ, ◌+◌, ◌≤◌, List, [], ◌∷◌, ◌++◌, map, drop, length, Some, sym, ap, ◌∙◌, append_assoc, append-nil}
 use Rattle.std.specs.Prelude.{codes, slice_get}
 use Rattle.std.specs.FinMap.{get}
 use Rattle.std.proofs.lemmas.Option.{same_Some}
@@ -7,15 +7,15 @@ use Rattle.std.proofs.lemmas.List.{map-append, drop_all}
 use Rattle.serde_json.specs.Data.{Data, number, unsigned, string, array, object, member, no_members}
 use Rattle.serde_json.specs.View.{items_of}
 use Rattle.reg_names.specs.Names.{text_of}
-use Rattle.reg_heap.specs.Paths.{Path, Tree, Rec, Member}
+use Rattle.reg_heap.specs.Paths.{Path, Tree, Member}
 use Rattle.reg_heap.specs.Edits.{values_of, values_at}
 use Rattle.reg_text.specs.Texts.{digits_text}
 use Rattle.reg_values.specs.ValueLists.{Tells}
 use Rattle.reg_tree_text.specs.DumpTexts.{Told}
-use Rattle.reg_tree_text.proofs.LineTexts.{next_value}
 use Rattle.reg_tables.specs.declared.entry.ValueEntry.{ValueEntry}
+use Rattle.reg_tables.specs.SecurityTexts.{security_told}
 use Rattle.reg_tables.specs.Tables.{value_data, key_data}
-use Rattle.reg_tables.specs.Times.{time_data}
+use Rattle.reg_tables.specs.Times.{time_text}
 use Rattle.reg_tables.specs.ValueForms.{data_of}
 use Rattle.reg_tables.specs.Internal.Entries.{value_view}
 
@@ -64,23 +64,23 @@ gathered_all values index entries l so_far =
 
 -- ---- a key
 
-abbrev pub key_object : (path : List ℕ) → Data → (marks : ℕ) (class security : List ℕ) → List Data → Data
+abbrev pub key_object : (path time : List ℕ) (marks : ℕ) (class security : List ℕ) → List Data → Data
 key_object path time marks class security values =
-    object (member (codes "path") (string path) (member (codes "time") time (member (codes "marks") (number (unsigned marks))
+    object (member (codes "path") (string path) (member (codes "time") (string time) (member (codes "marks") (number (unsigned marks))
     (member (codes "class") (string class) (member (codes "security") (string security)
     (member (codes "values") (array (items_of values)) no_members))))))
 
 pub key-told : (tree : Tree) (p : Path) (told : Told) → get tree p ≡ Some told.key → (path shown : List ℕ) → shown ≡ path → path ≡ text_of told.names →
-    (ticks : ℕ) (time : Data) → ticks ≡ told.key.time → time ≡ time_data ticks → (marks : ℕ) → marks ≡ told.key.marks →
+    (ticks : ℕ) (time : List ℕ) → ticks ≡ told.key.time → time ≡ time_text ticks → (marks : ℕ) → marks ≡ told.key.marks →
     (class digits : List ℕ) → class ≡ told.key.class → digits ≡ digits_text class →
-    (descriptor security : List ℕ) → descriptor ≡ told.key.descriptor → security ≡ digits_text descriptor →
+    (descriptor security : List ℕ) → descriptor ≡ told.key.descriptor → security ≡ security_told descriptor →
     (values : List Data) → values ≡ map value_data (values_at tree p) → key_object shown time marks digits security values ≡ key_data told
 key-told tree p told here path shown s names ticks time t moment marks m class digits c hex descriptor security d hex_too values v =
     ap (λ (x : List ℕ). key_object x time marks digits security values) (s ∙ names)
-    ∙ (ap (λ (x : Data). key_object (text_of told.names) x marks digits security values) (moment ∙ ap time_data t)
-    ∙ (ap (λ (x : ℕ). key_object (text_of told.names) (time_data told.key.time) x digits security values) m
-    ∙ (ap (λ (x : List ℕ). key_object (text_of told.names) (time_data told.key.time) told.key.marks x security values) (hex ∙ ap digits_text c)
-    ∙ (ap (λ (x : List ℕ). key_object (text_of told.names) (time_data told.key.time) told.key.marks (digits_text told.key.class) x values)
-    (hex_too ∙ ap digits_text d)
-    ∙ ap (λ (x : List Data). key_object (text_of told.names) (time_data told.key.time) told.key.marks (digits_text told.key.class)
-    (digits_text told.key.descriptor) x) (v ∙ ap (λ (x : List Member). map value_data x) (ap values_of here))))))
+    ∙ (ap (λ (x : List ℕ). key_object (text_of told.names) x marks digits security values) (moment ∙ ap time_text t)
+    ∙ (ap (λ (x : ℕ). key_object (text_of told.names) (time_text told.key.time) x digits security values) m
+    ∙ (ap (λ (x : List ℕ). key_object (text_of told.names) (time_text told.key.time) told.key.marks x security values) (hex ∙ ap digits_text c)
+    ∙ (ap (λ (x : List ℕ). key_object (text_of told.names) (time_text told.key.time) told.key.marks (digits_text told.key.class) x values)
+    (hex_too ∙ ap security_told d)
+    ∙ ap (λ (x : List Data). key_object (text_of told.names) (time_text told.key.time) told.key.marks (digits_text told.key.class)
+    (security_told told.key.descriptor) x) (v ∙ ap (λ (x : List Member). map value_data x) (ap values_of here))))))

@@ -1,7 +1,7 @@
 -- The names that lead to a key, met on the way along its path.
-use Rattle.std.proofs.Common.{◌≡◌, ◌≢◌, ℕ, zero, suc, ◌+◌, ◌<◌, ◌≤◌, ◌&&◌, Bool, true, false, List, [], ◌∷◌, ◌++◌, length, map, Option, Some, None}
+use Rattle.std.proofs.Common.{◌≡◌, ℕ, zero, suc, ◌+◌, ◌≤◌, ◌&&◌, Bool, true, false, List, [], ◌∷◌, ◌++◌, length, map, Option, Some, None}
 use Rattle.std.proofs.Common.{IsSome, refl, sym, ap, ◌∙◌, subst, arith, append_assoc, append-nil, length-append}
-use Rattle.std.specs.Prelude.{if◌then◌else◌, is_some, reverse, MatchOption}
+use Rattle.std.specs.Prelude.{if◌then◌else◌, is_some, reverse}
 use Rattle.std.specs.FinMap.{get}
 use Rattle.std.proofs.lemmas.Bool.{false≢true}
 use Rattle.reg_names.specs.declared.TheConstants.{PATH_LIMIT}
@@ -15,7 +15,7 @@ use Rattle.reg_tree.proofs.Invariant.CellReadings.{some_of}
 use Rattle.reg_tree_text.specs.declared.walk.Pending.{Pending}
 use Rattle.reg_tree_text.specs.declared.walk.Walk.{Walk}
 use Rattle.reg_tree_text.specs.DumpTexts.{Told, name_of, told_here, told_from}
-use Rattle.reg_tree_text.specs.Internal.Walking.{text_below, told_below, ArePending, Stands, Goes}
+use Rattle.reg_tree_text.specs.Internal.Walking.{text_below, told_below, ArePending, Goes}
 use Rattle.reg_tree_text.proofs.WalkSteps.{text-below, name-some, told-open}
 use Rattle.reg_tree_text.proofs.LineTexts.{root_named}
 use Rattle.reg_tree_text.specs.PathQueries.{key_at}

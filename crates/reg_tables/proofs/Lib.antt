@@ -1,11 +1,17 @@
 pub mod DatesTold
 pub mod TimesTold
 pub mod UnitParts
+pub mod SecurityParts
 pub mod EntryTexts
 pub mod OneName
 pub mod KeyNames
 pub mod GatheredKeys
 pub mod TableTexts
+pub mod Shielded
+pub mod LaidTexts
 pub mod RowsOfTimes
 pub mod RowsOfValueForms
+pub mod RowsOfFormsTold
+pub mod RowsOfSecurityTexts
 pub mod RowsOfTables
+pub mod RowsOfPages

@@ -3,8 +3,7 @@ use Rattle.std.proofs.Common.{◌≡◌, refl}
 use Rattle.std.specs.Prelude.{codes}
 use Rattle.std.specs.Fmt.{digits}
 use Rattle.jiff_fmt.specs.Text.{places, trailing_zeros}
-use Rattle.serde_json.specs.Data.{string, number, unsigned}
-use Rattle.reg_tables.specs.Times.{year_and_day, month_and_day, date_text, clock_text, instant_text, time_text, time_data}
+use Rattle.reg_tables.specs.Times.{year_and_day, month_and_day, date_text, clock_text, instant_text, time_text}
 
 -- the start of 1601, and that of 1970
 instant-first : instant_text 0 ≡ codes "1601-01-01T00:00:00Z"
@@ -50,11 +49,3 @@ text-last = refl
 text-beyond : time_text 2_650_466_808_010_000_000 ≡ codes "2650466808010000000"
 unfolding time_text digits
 text-beyond = refl
-
-data-first : time_data 0 ≡ string (codes "1601-01-01T00:00:00Z")
-unfolding time_data instant_text date_text year_and_day month_and_day clock_text places trailing_zeros
-data-first = refl
-
-data-beyond : time_data 2_650_466_808_010_000_000 ≡ number (unsigned 2_650_466_808_010_000_000)
-unfolding time_data
-data-beyond = refl

@@ -2,6 +2,7 @@
 use Rattle.std.proofs.Common.{◌≡◌, List, ℕ, [], ◌∷◌, refl}
 use Rattle.std.specs.Prelude.{codes}
 use Rattle.std.specs.Char.Utf16.{utf16_chars}
+use Rattle.std.specs.Fmt.{digits}
 use Rattle.hex.proofs.OnLiterals.{hex_on_literals}
 use Rattle.serde_json.specs.Data.{Data, number, unsigned, string, array, object, member, no_members, item, no_items}
 use Rattle.reg_tables.specs.ValueForms.{form_data, data_of}
@@ -95,9 +96,23 @@ number-high : data_of 5 (1 ∷ 2 ∷ 0 ∷ 0 ∷ []) ≡ number (unsigned 16_908
 unfolding form_data
 number-high = refl
 
-number-long : data_of 11 (0 ∷ 1 ∷ 0 ∷ 0 ∷ 0 ∷ 0 ∷ 0 ∷ 128 ∷ []) ≡ number (unsigned 9_223_372_036_854_776_064)
-unfolding form_data
+number-long : data_of 11 (0 ∷ 1 ∷ 0 ∷ 0 ∷ 0 ∷ 0 ∷ 0 ∷ 128 ∷ []) ≡ string (codes "9223372036854776064")
+unfolding form_data digits
 number-long = refl
+
+-- 2^53 + 1, which a reader that keeps numbers as floats would change; and none
+number-long_odd : data_of 11 (1 ∷ 0 ∷ 0 ∷ 0 ∷ 0 ∷ 0 ∷ 32 ∷ 0 ∷ []) ≡ string (codes "9007199254740993")
+unfolding form_data digits
+number-long_odd = refl
+
+number-long_zero : data_of 11 (0 ∷ 0 ∷ 0 ∷ 0 ∷ 0 ∷ 0 ∷ 0 ∷ 0 ∷ []) ≡ string (codes "0")
+unfolding form_data digits
+number-long_zero = refl
+
+-- the greatest number of 4 bytes stays a number
+number-greatest : data_of 4 (255 ∷ 255 ∷ 255 ∷ 255 ∷ []) ≡ number (unsigned 4_294_967_295)
+unfolding form_data
+number-greatest = refl
 
 number-short : data_of 4 (1 ∷ 2 ∷ 3 ∷ []) ≡ hex (codes "010203")
 unfolding form_data hex_on_literals

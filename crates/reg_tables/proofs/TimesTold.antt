@@ -1,10 +1,10 @@
 -- The text of an instant is what a clock in UTC shows.
-use Rattle.std.proofs.Common.{◌≡◌, ℕ, ◌+◌, ◌-◌, ◌*◌, ◌/◌, ◌%◌, ◌<◌, ◌≤◌, List, ◌++◌, [], ◌∷◌, false, None, refl, sym, ap, ◌∙◌, subst, arith}
-use Rattle.std.proofs.Common.{append_assoc, ℤ, pos, ◌+ℤ◌, ◌-ℤ◌, ◌*ℤ◌, ◌≤ℤ◌}
+use Rattle.std.proofs.Common.{◌≡◌, ℕ, ◌+◌, ◌*◌, ◌/◌, ◌%◌, ◌<◌, ◌≤◌, List, ◌++◌, [], ◌∷◌, false, None, refl, sym, ap, ◌∙◌, subst, arith}
+use Rattle.std.proofs.Common.{append_assoc, ℤ, pos, ◌+ℤ◌, ◌-ℤ◌, ◌*ℤ◌}
 use Rattle.jiff_core.specs.declared.civil.date.Date.{Date}
 use Rattle.jiff_core.specs.declared.civil.time.Time.{Time}
 use Rattle.jiff_core.specs.declared.civil.datetime.DateTime.{DateTime}
-use Rattle.jiff_core.specs.Calendar.{day_count, day_of_year, IsCivilDate}
+use Rattle.jiff_core.specs.Calendar.{day_of_year, IsCivilDate}
 use Rattle.jiff_core.specs.Date.{epoch_day}
 use Rattle.jiff_core.specs.DateTime.{civil_nanos}
 use Rattle.jiff_core.specs.Time.{time_nanos}
@@ -19,9 +19,8 @@ use Rattle.jiff_fmt.specs.Text as jiff
 use Rattle.std.specs.Prelude.{nat_le, if◌then◌else◌, Bool, true, Option}
 use Rattle.std.specs.Fmt.{decimal}
 use Rattle.std.proofs.lemmas.Bool.Decides.{nat_tests}
-use Rattle.serde_json.specs.Data.{Data, string, number, unsigned}
 use Rattle.reg_tables.specs.declared.time.TheConstants.{LAST_INSTANT}
-use Rattle.reg_tables.specs.Times.{year_and_day, month_and_day, date_text, clock_text, instant_text, time_text, time_data}
+use Rattle.reg_tables.specs.Times.{year_and_day, month_and_day, date_text, clock_text, instant_text, time_text}
 use Rattle.reg_tables.proofs.DatesTold.{day_count-1601, year-found, month-found, IsInYear, IsInMonth}
 
 -- a date by its day number
@@ -81,18 +80,6 @@ time_text-last ticks l = let t : nat_le ticks LAST_INSTANT ≡ true = grind (ari
 pub time_text-beyond : (ticks : ℕ) → LAST_INSTANT < ticks → time_text ticks ≡ decimal ticks
 unfolding time_text
 time_text-beyond ticks l = let t : nat_le ticks LAST_INSTANT ≡ false = grind (arith, nat_tests, l) in ap (λ (b : Bool). if b then instant_text ticks else decimal ticks) t
-
-pub time_data-last : (ticks : ℕ) → ticks ≤ LAST_INSTANT → (text : List ℕ) → text ≡ instant_text ticks → string text ≡ time_data ticks
-unfolding time_data
-time_data-last ticks l text e =
-    let t : nat_le ticks LAST_INSTANT ≡ true = grind (arith, nat_tests, l) in
-    ap string e ∙ sym (ap (λ (b : Bool). if b then string (instant_text ticks) else number (unsigned ticks)) t)
-
-pub time_data-beyond : (ticks : ℕ) → LAST_INSTANT < ticks → time_data ticks ≡ number (unsigned ticks)
-unfolding time_data
-time_data-beyond ticks l =
-    let t : nat_le ticks LAST_INSTANT ≡ false = grind (arith, nat_tests, l) in
-    ap (λ (b : Bool). if b then string (instant_text ticks) else number (unsigned ticks)) t
 
 -- ---- what jiff prints
 

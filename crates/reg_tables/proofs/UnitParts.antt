@@ -1,8 +1,8 @@
 -- The parts of units between their zeros, one after another.
 use Rattle.std.proofs.Common.{◌≡◌, ◌≢◌, ℕ, ◌+◌, ◌-◌, ◌≤◌, ◌<◌, ◌==◌, Bool, true, false, List, [], ◌∷◌, ◌++◌, length, length-drop, take, drop, map}
-use Rattle.std.proofs.Common.{Option, Some, None, String, Global, string_bytes, refl, sym, ap, ◌∙◌, subst, arith, append-nil, append_assoc}
+use Rattle.std.proofs.Common.{Option, Some, None, String, Global, string_bytes, refl, sym, ap, ◌∙◌, arith, append-nil, append_assoc}
 use Rattle.std.specs.Prelude.{if◌then◌else◌, cond, MatchOption, Vec}
-use Rattle.std.specs.List.{slice_split, onto_first, position_or_len}
+use Rattle.std.specs.List.{onto_first, position_or_len}
 use Rattle.std.specs.Option.{option_map, option_and_then}
 use Rattle.std.proofs.lemmas.Bool.Decides.{nat_tests}
 use Rattle.std.proofs.lemmas.List.{take_all, map-append}

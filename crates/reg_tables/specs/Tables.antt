@@ -1,4 +1,5 @@
--- The keys and values of a tree as JSON and as CSV (this project's own; RFC 8259 and RFC 4180 as serde_json and csv write them).
+-- The keys and values of a tree as JSON, as lines of JSON and as CSV (this project's own; RFC 8259 and RFC 4180 as serde_json and csv write
+-- them).
 use Rattle.std.specs.Prelude.{◌≡◌, ℕ, ◌+◌, List, [], ◌∷◌, ◌++◌, codes, map, flat_map, Option, Some, None}
 use Rattle.std.specs.Fmt.{decimal}
 use Rattle.std.specs.FinMap.{get}
@@ -16,8 +17,10 @@ use Rattle.reg_tree_text.specs.ValueTexts.{value_told}
 use Rattle.reg_tree_text.specs.PathQueries.{key_at}
 use Rattle.reg_tree_text.specs.declared.path_fault.PathFault.{PathFault}
 use Rattle.reg_tree_text.specs.declared.path_fault.PathFault.TheVariants.{NoKey, NoValue, Stopped}
-use Rattle.reg_tables.specs.Times.{time_text, time_data}
+use Rattle.reg_tables.specs.SecurityTexts.{security_told}
+use Rattle.reg_tables.specs.Times.{time_text}
 use Rattle.reg_tables.specs.ValueForms.{data_of}
+use Rattle.reg_tables.specs.FormsTold.{form_told}
 
 -- the names of the keys from one on that are on the way along a path below it, as given
 unfoldable pub names_along : Tree → (above path : List (List ℕ)) → List (List ℕ)
@@ -40,12 +43,12 @@ value_data value =
     object (member (codes "name") (string value.name) (member (codes "type") (number (unsigned value.kind))
     (member (codes "data") (data_of value.kind value.bytes) no_members)))
 
--- a key: its path, its time, its marks, the bytes of its class and its descriptor, and its values in their order
+-- a key: its path, its time, its marks, the bytes of its class, its descriptor, and its values in their order
 abbrev pub key_data : Told → Data
 key_data told =
-    object (member (codes "path") (string (text_of told.names)) (member (codes "time") (time_data told.key.time)
+    object (member (codes "path") (string (text_of told.names)) (member (codes "time") (string (time_text told.key.time))
     (member (codes "marks") (number (unsigned told.key.marks)) (member (codes "class") (string (digits_text told.key.class))
-    (member (codes "security") (string (digits_text told.key.descriptor))
+    (member (codes "security") (string (security_told told.key.descriptor))
     (member (codes "values") (array (items_of (map value_data told.key.values))) no_members))))))
 
 -- the text of a key, in one line
@@ -65,20 +68,31 @@ keys_text (told ∷ rest) = key_text told ++ flat_map more_text rest
 unfoldable pub json_text : Tree → Path → List ℕ
 json_text tree path = codes "[\n" ++ (keys_text (keys_from tree path) ++ codes "\n]\n")
 
+-- ---- JSON lines
+
+-- the text of a key in a line of its own
+unfoldable pub key_line : Told → List ℕ
+key_line told = key_text told ++ codes "\n"
+
+-- the key at a path and all below it, each in a line of its own
+unfoldable pub jsonl_text : Tree → Path → List ℕ
+jsonl_text tree path = flat_map key_line (keys_from tree path)
+
 -- ---- CSV
 
 -- the first row, which names the columns
 abbrev pub column_names : List (List ℕ)
-column_names = codes "kind" ∷ codes "path" ∷ codes "time" ∷ codes "name" ∷ codes "type" ∷ codes "data" ∷ []
+column_names = codes "kind" ∷ codes "path" ∷ codes "time" ∷ codes "name" ∷ codes "type" ∷ codes "form" ∷ codes "data" ∷ []
 
 -- the row of a key: its path and its time
 abbrev pub key_row : (path : List ℕ) (time : ℕ) → List (List ℕ)
-key_row path time = codes "key" ∷ path ∷ time_text time ∷ [] ∷ [] ∷ [] ∷ []
+key_row path time = codes "key" ∷ path ∷ time_text time ∷ [] ∷ [] ∷ [] ∷ [] ∷ []
 
--- the row of a value of a key: the key's path, and its own name, type and data
+-- the row of a value of a key: the key's path, and its own name, type, form and data
 abbrev pub value_row : (path : List ℕ) → Member → List (List ℕ)
 value_row path value =
-    codes "value" ∷ path ∷ [] ∷ value.name ∷ decimal value.kind ∷ value_told value.kind value.bytes ∷ []
+    codes "value" ∷ path ∷ [] ∷ value.name ∷ decimal value.kind ∷ form_told value.kind value.bytes
+    ∷ value_told value.kind value.bytes ∷ []
 
 -- a row's text
 unfoldable pub line_text : List (List ℕ) → List ℕ

@@ -4,7 +4,6 @@ use Rattle.std.specs.Prelude.{ℕ, zero, suc, ◌+◌, ◌-◌, ◌*◌, ◌/◌
 use Rattle.std.specs.Fmt.{decimal}
 use Rattle.jiff_core.specs.Calendar.{days_in_year, days_in_month}
 use Rattle.jiff_fmt.specs.Text.{pad2, pad4, fraction_part}
-use Rattle.serde_json.specs.Data.{Data, number, unsigned, string}
 use Rattle.reg_tables.specs.declared.time.TheConstants.{LAST_INSTANT}
 
 -- the year in which a day is, so many days behind the first day of a year, and its place there, counted from 0; within so many years
@@ -45,7 +44,3 @@ instant_text ticks = date_text (ticks / 864_000_000_000) ++ (84 ∷ (clock_text 
 -- the time of a key as a text: the instant, or the number of 100 ns where it is behind the last instant that jiff says
 unfoldable pub time_text : ℕ → List ℕ
 time_text ticks = if nat_le ticks LAST_INSTANT then instant_text ticks else decimal ticks
-
--- the time of a key in JSON: that text, or that number
-unfoldable pub time_data : ℕ → Data
-time_data ticks = if nat_le ticks LAST_INSTANT then string (instant_text ticks) else number (unsigned ticks)

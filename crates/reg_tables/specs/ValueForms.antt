@@ -1,5 +1,6 @@
 -- The data of a value in JSON (this project's own; Win32 registry reference, "Registry Value Types").
 use Rattle.std.specs.Prelude.{ℕ, ◌==◌, ◌&&◌, ◌||◌, Bool, false, if◌then◌else◌, List, [], ◌∷◌, length, map, codes, Option, Some, None}
+use Rattle.std.specs.Fmt.{decimal}
 use Rattle.std.specs.List.{slice_split}
 use Rattle.std.specs.Option.{option_map, option_and_then, unwrap_or}
 use Rattle.byteorder.specs.Endian.{little_number, big_number}
@@ -46,14 +47,15 @@ abbrev pub strings_form : List ℕ → Option Data
 strings_form bytes = option_map texts_data (option_and_then (λ units. strings_in (parts_of units)) (units_of bytes))
 
 -- data in the form of its type: a string that ends with its one zero; several such, none of them empty, and a zero behind them; a
--- number of 4 bytes, the low one first or the high one first, or of 8. `None` of data in another form, and of each other type
+-- number of 4 bytes, the low one first or the high one first; one of 8 as a string of its digits, as many readers change numbers above
+-- 2^53. `None` of data in another form, and of each other type
 unfoldable pub form_data : (kind : ℕ) (bytes : List ℕ) → Option Data
 form_data kind bytes =
     if kind == STRING || kind == EXPANDABLE || kind == LINK then string_form bytes
     else if kind == STRINGS then strings_form bytes
     else if kind == NUMBER && length bytes == 4 then Some (number (unsigned (little_number 4 bytes)))
     else if kind == BIG_NUMBER && length bytes == 4 then Some (number (unsigned (big_number 4 bytes)))
-    else if kind == LONG_NUMBER && length bytes == 8 then Some (number (unsigned (little_number 8 bytes)))
+    else if kind == LONG_NUMBER && length bytes == 8 then Some (string (decimal (little_number 8 bytes)))
     else None
 
 -- bytes in no form: an object with two digits for each

@@ -76,7 +76,9 @@ fn put_table<S: Sink>(
         output,
         writer,
         alloc,
-        &[b"kind", b"path", b"time", b"name", b"type", b"data"],
+        &[
+            b"kind", b"path", b"time", b"name", b"type", b"form", b"data",
+        ],
     )?;
     put_keys(output, writer, alloc, tree, walk)
 }
@@ -104,8 +106,9 @@ fn write_table<S: Sink>(
 
 /// Writes the key that a path leads to from the root, names folded, and all keys below it as CSV, in the order of a dump: a row with
 /// the names of the columns, one for each key with its path and time, and behind it one for each of its values with the key's path
-/// and the value's name, type and data ([`reg_tree_text::value_text`]). The empty path is the root's. The text goes to the writer some
-/// 64 KB at a time, but that of a row in one piece, and at the end the writer is flushed.
+/// and the value's name, type, form and data ([`reg_tree_text::value_text`]). The form is how the data are told: `text`, `number` or
+/// `hex`. The empty path is the root's. The text goes to the writer some 64 KB at a time, but that of a row in one piece, and at the end
+/// the writer is flushed.
 ///
 /// `NoKey` where the text is no path or no key is there, and then nothing was written; else `Stopped` where a write or memory failed,
 /// after a front of the text. Of the writer's calls just one failed where a write is told, and else none.

@@ -4,7 +4,6 @@ ghost use Rattle.serde_json.specs.Written.{compact_text};
 ghost use Rattle.reg_tables.specs.Internal.Entries.{key_view};
 
 use crate::form::ValueForm;
-use crate::time::Moment;
 use serde::{Described, Serialize, Serializer};
 use std::alloc::{AllocError, Global};
 
@@ -16,12 +15,12 @@ pub struct ValueEntry<'a> {
     pub form: ValueForm,
 }
 
-/// A key: the names that lead to it, joined by backslashes, its time and marks, its class and its descriptor as two digits a byte, and
+/// A key: the names that lead to it, joined by backslashes, its time and marks, its class as two digits a byte, its descriptor's text, and
 /// its values.
 #[derive(Drop)]
 pub struct KeyEntry<'a> {
     pub path: &'a str,
-    pub time: Moment,
+    pub time: String,
     pub marks: u16,
     pub class: String,
     pub security: String,
@@ -60,7 +59,7 @@ impl Serialize for KeyEntry<'_> {
         out.key("path")?;
         out.str(self.path)?;
         out.key("time")?;
-        self.time.serialize(out)?;
+        out.str(self.time.as_str())?;
         out.key("marks")?;
         out.u64(u64::from(self.marks))?;
         out.key("class")?;

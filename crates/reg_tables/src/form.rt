@@ -1,37 +1,40 @@
 //! The data of a value in the form of its type.
-ghost use Rattle.std.specs.Prelude.{◌≡◌, IfOk, OnOk};
+ghost use Rattle.std.specs.Prelude.{◌≡◌, IfOk, OnOk, Some};
+ghost use Rattle.std.specs.Fmt.{decimal};
 ghost use Rattle.std.specs.Option.{option_map};
 ghost use Rattle.reg_tables.specs.ValueForms.{string_form, strings_form, form_data, data_of};
+ghost use Rattle.serde_json.specs.Data.{string};
 ghost use Rattle.serde_json.specs.Events.{SendsValue};
 ghost use Rattle.reg_tables.specs.Internal.Entries.{texts_view, form_view};
 
+use crate::time::number_text;
 use crate::units::{spell_string, spell_strings, units_of};
 use byteorder::{BigEndian, ByteOrder, LittleEndian};
 use serde::{Described, Serialize, Serializer};
 use std::alloc::{AllocError, Global};
 
 /// The type of a string (Win32, `REG_SZ`).
-const STRING: u32 = 1;
+pub const STRING: u32 = 1;
 
 /// The type of a string with names of variables (Win32, `REG_EXPAND_SZ`).
-const EXPANDABLE: u32 = 2;
+pub const EXPANDABLE: u32 = 2;
 
 /// The type of a number of 4 bytes, the low one first (Win32, `REG_DWORD`).
-const NUMBER: u32 = 4;
+pub const NUMBER: u32 = 4;
 
 /// The type of a number of 4 bytes, the high one first (Win32, `REG_DWORD_BIG_ENDIAN`).
-const BIG_NUMBER: u32 = 5;
+pub const BIG_NUMBER: u32 = 5;
 
 /// The type of a link's target (Win32, `REG_LINK`).
-const LINK: u32 = 6;
+pub const LINK: u32 = 6;
 
 /// The type of several strings (Win32, `REG_MULTI_SZ`).
-const STRINGS: u32 = 7;
+pub const STRINGS: u32 = 7;
 
 /// The type of a number of 8 bytes, the low one first (Win32, `REG_QWORD`).
-const LONG_NUMBER: u32 = 11;
+pub const LONG_NUMBER: u32 = 11;
 
-/// The data of a value: a string, several strings, a number, or bytes as two digits each.
+/// The data of a value: a string, or a long number's digits; several strings; a number; or bytes as two digits each.
 #[derive(Drop)]
 pub enum ValueForm {
     Text(String),
@@ -93,6 +96,13 @@ fn strings_of(alloc: Global, bytes: &[u8]) -> Result<Option<ValueForm>, AllocErr
     }
 }
 
+/// A number as a string of its digits.
+fn digits_of(alloc: Global, number: u64) -> Result<Option<ValueForm>, AllocError>
+    ensures { IfOk result (λ form. option_map form_view form ≡ Some (string (decimal number))) }
+{
+    Ok(Some(ValueForm::Text(number_text(alloc, number)?)))
+}
+
 /// Data in the form of its type; `None` of data in another form, and of a type that has none.
 #[tactic(auto, unfolding(crate::specs::ValueForms::form_data))]
 fn formed(alloc: Global, kind: u32, bytes: &[u8]) -> Result<Option<ValueForm>, AllocError>
@@ -111,7 +121,7 @@ fn formed(alloc: Global, kind: u32, bytes: &[u8]) -> Result<Option<ValueForm>, A
         return Ok(Some(ValueForm::Number(u64::from(BigEndian::read_u32(bytes)))));
     }
     if kind == LONG_NUMBER && bytes.len() == 8 {
-        return Ok(Some(ValueForm::Number(LittleEndian::read_u64(bytes))));
+        return digits_of(alloc, LittleEndian::read_u64(bytes));
     }
     Ok(None)
 }

@@ -11,7 +11,8 @@ ghost use Rattle.reg_tables.specs.Internal.Entries.{value_view, key_view};
 
 use crate::entry::{KeyEntry, ValueEntry};
 use crate::form::form_of;
-use crate::time::moment_of;
+use crate::sddl::security_text;
+use crate::time::moment_text;
 use reg_tree::{Node, Tree};
 use std::alloc::{AllocError, Global};
 use std::str;
@@ -77,10 +78,10 @@ pub fn key_entry<'a>(
 {
     Ok(KeyEntry {
         path: name_text(path)?,
-        time: moment_of(alloc, tree.time(node))?,
+        time: moment_text(alloc, tree.time(node))?,
         marks: tree.marks(node),
         class: hex::encode(alloc, tree.class(node))?,
-        security: hex::encode(alloc, tree.descriptor(node))?,
+        security: security_text(alloc, tree.descriptor(node))?,
         values: value_entries(alloc, tree, node)?,
     })
 }

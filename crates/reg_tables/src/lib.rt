@@ -1,11 +1,14 @@
-//! The keys and values of a tree as JSON and as CSV.
+//! The keys and values of a tree as JSON, as lines of JSON, as a page of HTML and as CSV.
 //!
-//! Its one contract: [`export_json`] and [`export_csv`] write just the text that `specs/Tables.antt` says of the key that is there and of
-//! all below it, or a front of it where a write or memory fails; where there is none, they say so and write nothing. It stands on
-//! reg_tree_text, whose walk, gathered output and texts of data it takes, and on serde_json, csv and jiff, whose own words the texts are. It has no type of its own.
+//! Its one contract: [`export_json`], [`export_jsonl`], [`export_html`] and [`export_csv`] write just the text that `specs/Tables.antt` and
+//! `specs/Pages.antt` say of the key that is there and of all below it, or a front of it where a write or memory fails; where there is
+//! none, they say so and write nothing. It stands on reg_tree_text, whose walk, gathered output and texts of data it takes, and on
+//! serde_json, csv and jiff, whose own words the texts are. It has no type of its own.
 //!
-//! `keys` begins a walk at a key, with the names that lead to it. `gather` makes of a key a struct of `entry`, which `json_table` writes;
-//! `comma_table` writes the rows of `row`. `form` and `units` say what data are in JSON, and `time` how an instant is written.
+//! `keys` begins a walk at a key, with the names that lead to it. `gather` makes of a key a struct of `entry`, which `json_table` writes
+//! between the texts of `layout`, for a page those of `page`; `comma_table` writes the rows of `row`. `form` and `units` say what data are
+//! in JSON, `told_form` what a row says of their form, `sddl` how a security descriptor is told, `shield` how JSON stands in a page, and `time`
+//! how an instant is written.
 #![tactic(auto)]
 
 mod comma_table;
@@ -14,10 +17,15 @@ mod form;
 mod gather;
 mod json_table;
 mod keys;
+mod layout;
+mod page;
 mod parts;
 mod row;
+mod sddl;
+mod shield;
 mod time;
+mod told_form;
 mod units;
 
 pub use comma_table::export_csv;
-pub use json_table::export_json;
+pub use json_table::{export_html, export_json, export_jsonl};

@@ -1,5 +1,5 @@
 //! The rows of a table of values.
-ghost use Rattle.std.specs.Prelude.{◌≡◌, ◌<◌, IfOk, length, map, flat_map, slice_get, string_bytes, Some};
+ghost use Rattle.std.specs.Prelude.{◌≡◌, ◌<◌, ◌∷◌, [], IfOk, codes, length, map, flat_map, slice_get, string_bytes, Some};
 ghost use Rattle.std.specs.FinMap.{get};
 ghost use Rattle.std.specs.Fmt.{decimal};
 ghost use Rattle.reg_names.specs.Names.{text_of};
@@ -12,6 +12,7 @@ ghost use Rattle.reg_tables.specs.Tables.{key_row, value_row, value_rows, key_ro
 
 use crate::parts::put_text;
 use crate::time::{moment_text, number_text};
+use crate::told_form::told_form;
 use csv::{Error, WriterBuilder};
 use reg_text::{Output, Sink};
 use reg_tree::{Node, Tree};
@@ -57,6 +58,28 @@ pub fn put_row<S: Sink>(
     put_text(output, writer, &text)
 }
 
+/// Tells the row of a value of that name, with the texts of its type, form and data.
+fn put_fields<S: Sink>(
+    output: &mut Output<String>,
+    writer: &mut S,
+    alloc: Global,
+    path: &[u8],
+    name: &[u8],
+    number: &[u8],
+    form: &[u8],
+    told: &[u8],
+) -> Result<(), DumpFault>
+    ensures { Puts output.old (S.contents writer.old, S.failures writer.old) output.new (S.contents writer.new, S.failures writer.new)
+        (line_text (codes "value" ∷ path.now ∷ [] ∷ name.now ∷ number.now ∷ form.now ∷ told.now ∷ [])) result }
+{
+    put_row(
+        output,
+        writer,
+        alloc,
+        &[b"value", path, b"", name, number, form, told],
+    )
+}
+
 /// Tells the row of a value of that name, type and data.
 fn put_member<S: Sink>(
     output: &mut Output<String>,
@@ -71,19 +94,17 @@ fn put_member<S: Sink>(
         (line_text (value_row path.now (record { name = name.now; kind = kind; bytes = bytes.now }))) result }
 {
     let number = number_text(alloc, u64::from(kind))?;
+    let form = told_form(alloc, kind, bytes)?;
     let data = value_text(alloc, kind, bytes)?;
-    put_row(
+    put_fields(
         output,
         writer,
         alloc,
-        &[
-            b"value",
-            path,
-            b"",
-            name,
-            number.as_bytes(),
-            data.as_bytes(),
-        ],
+        path,
+        name,
+        number.as_bytes(),
+        form.as_bytes(),
+        data.as_bytes(),
     )
 }
 
@@ -145,7 +166,7 @@ fn put_line<S: Sink>(
         output,
         writer,
         alloc,
-        &[b"key", path, text.as_bytes(), b"", b"", b""],
+        &[b"key", path, text.as_bytes(), b"", b"", b"", b""],
     )
 }
 

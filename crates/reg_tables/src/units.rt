@@ -24,7 +24,7 @@ pub fn units_of(alloc: Global, bytes: &[u8]) -> Result<Option<Vec<u16>>, AllocEr
 }
 
 /// The text that units spell; `None` where a surrogate has no partner.
-fn spell(alloc: Global, units: &[u16]) -> Result<Option<String>, AllocError>
+pub fn spell(alloc: Global, units: &[u16]) -> Result<Option<String>, AllocError>
     ensures { IfOk result (λ text. option_map string_bytes text ≡ spelt units.now) }
 {
     match String::from_utf16(alloc, units)? {

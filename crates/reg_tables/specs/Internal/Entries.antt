@@ -3,17 +3,10 @@ use Rattle.std.specs.Prelude.{List, map, codes, String, string_bytes}
 use Rattle.std.specs.declared.alloc.Global.{Global}
 use Rattle.serde_json.specs.Data.{Data, number, unsigned, string, array, object, member, no_members}
 use Rattle.serde_json.specs.View.{items_of}
-use Rattle.reg_tables.specs.declared.time.Moment.{Moment}
-use Rattle.reg_tables.specs.declared.time.Moment.TheVariants as moment
 use Rattle.reg_tables.specs.declared.form.ValueForm.{ValueForm}
 use Rattle.reg_tables.specs.declared.form.ValueForm.TheVariants as form
 use Rattle.reg_tables.specs.declared.entry.ValueEntry.{ValueEntry}
 use Rattle.reg_tables.specs.declared.entry.KeyEntry.{KeyEntry}
-
--- a time that was told
-abbrev pub moment_data : Moment → Data
-moment_data (moment.Instant text) = string (string_bytes text)
-moment_data (moment.Ticks ticks) = number (unsigned ticks)
 
 -- a text that was spelt
 abbrev pub text_data : String Global → Data
@@ -39,6 +32,6 @@ value_view e =
 -- a key
 abbrev pub key_view : KeyEntry → Data
 key_view e =
-    object (member (codes "path") (string e.path.now) (member (codes "time") (moment_data e.time)
+    object (member (codes "path") (string e.path.now) (member (codes "time") (text_data e.time)
     (member (codes "marks") (number (unsigned e.marks)) (member (codes "class") (text_data e.class)
     (member (codes "security") (text_data e.security) (member (codes "values") (array (items_of (map value_view e.values.items))) no_members))))))

@@ -2,7 +2,7 @@ use Rattle.std.proofs.Common.{ap, sym, ◌∙◌}
 use Rattle.std.specs.Prelude.{flat_map}
 use Rattle.reg_tree_text.proofs.SentTexts.{opened, swapped, ends, stops_full, exits}
 use Rattle.reg_tree_text.proofs.CountedKeys.{went, ended}
-use Rattle.reg_tables.specs.Tables.{more_text}
+use Rattle.reg_tables.specs.Internal.Layouts.{more_laid}
 use Rattle.reg_tables.proofs.json_table.put_more.Goals as goal
 
 pub loop-key-init : goal.loop-key-init
@@ -22,7 +22,7 @@ returns-then-not-branch g c =
     (let v = c.loop-key.invariant here rest stands in
     let a = v.0 in
     ends begin _ whole _ left _ _ (v.1 begin whole left s)
-    (ap (flat_map more_text) (ended _ _ _ _ c.if-not-branch.true (c.in_ok-advance.ensures a.here a.rest a.stands))))
+    (ap (flat_map (more_laid c.args.layout)) (ended _ _ _ _ c.if-not-branch.true (c.in_ok-advance.ensures a.here a.rest a.stands))))
 
 pub put_next-requires : goal.put_next-requires
 put_next-requires g c =
@@ -38,8 +38,8 @@ returns-in_err-put_next g c =
     let n = went _ _ _ _ c.if-not-branch.false (c.in_ok-advance.ensures a.here a.rest a.stands) in
     exits _ _ _ _ c.from_residual-in_err-put_next.ensures.1
     (c.in_err-put_next.ensures n.stands.path n.stands.at n.told n.stands.key (c.deref.ensures.value ∙ n.stands.text) begin whole _
-    (opened begin _ whole (more_text n.told) (flat_map more_text n.rest) left _ _
-    (swapped begin _ whole _ _ left _ _ (v.1 begin whole left s) (sym (ap (flat_map more_text) n.all_is))))))
+    (opened begin _ whole (more_laid c.args.layout n.told) (flat_map (more_laid c.args.layout) n.rest) left _ _
+    (swapped begin _ whole _ _ left _ _ (v.1 begin whole left s) (sym (ap (flat_map (more_laid c.args.layout)) n.all_is))))))
 
 pub loop-key-preserved : goal.loop-key-preserved
 loop-key-preserved g c =
@@ -50,8 +50,8 @@ loop-key-preserved g c =
       record { here = n.told; rest = n.rest; stands = n.stands },
       λ begin whole left s.
           c.in_ok-put_next.ensures n.stands.path n.stands.at n.told n.stands.key (c.deref.ensures.value ∙ n.stands.text) begin whole _
-          (opened begin _ whole (more_text n.told) (flat_map more_text n.rest) left _ _
-          (swapped begin _ whole _ _ left _ _ (v.1 begin whole left s) (sym (ap (flat_map more_text) n.all_is)))),
+          (opened begin _ whole (more_laid c.args.layout n.told) (flat_map (more_laid c.args.layout) n.rest) left _ _
+          (swapped begin _ whole _ _ left _ _ (v.1 begin whole left s) (sym (ap (flat_map (more_laid c.args.layout)) n.all_is)))),
     ))
 
 pub returns : goal.returns

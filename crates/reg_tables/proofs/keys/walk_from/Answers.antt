@@ -1,4 +1,4 @@
-use Rattle.std.proofs.Common.{◌∙◌, ap, sym, refl}
+use Rattle.std.proofs.Common.{refl}
 use Rattle.reg_tables.proofs.KeyNames.{path_found, way_start, never_missing, way_next, way_end}
 use Rattle.reg_tables.proofs.OneName.{one_name}
 use Rattle.reg_tables.proofs.keys.walk_from.Goals as goal

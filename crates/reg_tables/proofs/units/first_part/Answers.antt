@@ -1,4 +1,3 @@
-use Rattle.std.proofs.Common.{◌∙◌, sym}
 use Rattle.reg_tables.proofs.UnitParts.{one_part, more_parts}
 use Rattle.reg_tables.proofs.units.first_part.Goals as goal
 

@@ -1,6 +1,6 @@
 use Rattle.std.proofs.Common.{arith, refl}
 use Rattle.std.proofs.lemmas.Bool.Decides.{nat_tests}
-use Rattle.reg_tables.proofs.UnitParts.{texts_start, texts-unended, texts-ended, texts-bad, texts-more}
+use Rattle.reg_tables.proofs.UnitParts.{texts_start, texts-ended}
 use Rattle.reg_tables.proofs.units.spell_strings.Goals as goal
 
 pub loop-part-init : goal.loop-part-init
