@@ -18,7 +18,7 @@ use Rattle.reg_dotreg_import.specs.ImportCalls.{Accepts, import_calls}
 use Rattle.reg_dotreg_import.specs.ImportStops.{ImportStops}
 use Rattle.reg_dotreg_import.specs.declared.fault.ImportFault.{ImportFault}
 use Rattle.reg_edits.specs.Edits.{Opens, are_changed, next_sequence}
-use Rattle.reg_edits.specs.TextImports.{IsText, IsNoText, NoEntries, root_name, Applies, ApplyStops, ReadStops, TextBlames, Imports, ImportEnds, ImportBlames}
+use Rattle.reg_edits.specs.TextImports.{IsText, IsNoText, NoEntries, front_of, Applies, ApplyStops, ReadStops, TextBlames, Imports, ImportEnds, ImportBlames}
 use Rattle.reg_edits.specs.declared.edits.Edited.{Edited}
 use Rattle.reg_edits.specs.declared.importing.ImportEnd.{ImportEnd}
 use Rattle.reg_edits.specs.declared.importing.ImportEnd.TheVariants.{Load, Input, Text, Entry, Memory}
@@ -31,16 +31,16 @@ no_entries (Ok v) root text units e h = h
 no_entries (Err fault) root text units e h = NoEntries units e h
 
 -- the entries of a text were made
-pub applies : (moment : ℕ) (text : List ℕ) (old last : View) (entries : List Numbered) → IsText (root_name old) text entries →
+pub applies : (front : Option (List ℕ)) (moment : ℕ) (text : List ℕ) (old last : View) (entries : List Numbered) → IsText (front_of front old) text entries →
     last.keys.tree ≡ imported moment old.keys.tree (entries_of entries) → Accepts moment old (import_calls moment old (entries_of entries)) last →
-    Applies moment text old last
-applies moment text old last entries is_text tree calls = record { entries = entries; is_text = is_text; tree = tree; calls = calls }
+    Applies front moment text old last
+applies front moment text old last entries is_text tree calls = record { entries = entries; is_text = is_text; tree = tree; calls = calls }
 
 -- an entry stopped it, where no callback is asked
-pub entry_stops : (moment : ℕ) (text : List ℕ) (old last : View) (entries : List Numbered) (fault : ImportFault) →
-    IsText (root_name old) text entries → {asked : Callbacks} → asked ≡ no_callbacks → IsHive last →
-    ImportStops asked moment fault old entries last → ApplyStops (Entry fault) moment text old
-entry_stops moment text old last entries fault is_text none hive stops =
+pub entry_stops : (front : Option (List ℕ)) (moment : ℕ) (text : List ℕ) (old last : View) (entries : List Numbered) (fault : ImportFault) →
+    IsText (front_of front old) text entries → {asked : Callbacks} → asked ≡ no_callbacks → IsHive last →
+    ImportStops asked moment fault old entries last → ApplyStops (Entry fault) front moment text old
+entry_stops front moment text old last entries fault is_text none hive stops =
     (entries, last, is_text, hive, subst (λ (asked : Callbacks). ImportStops asked moment fault old entries last) none stops)
 
 -- what was read, as it is handed on
@@ -48,23 +48,23 @@ pub read_as : (unread left : Option (List ℕ)) (bytes text : List ℕ) → text
 read_as unread left bytes text same h = subst (λ (w : List ℕ). Consumes unread left w) (sym same) h
 
 -- the text wasn't read to its end
-pub unread_ends : (fault : ImportEnd) (moment : ℕ) (file file_left unread left : Option (List ℕ)) (old : View) (sequence : ℕ) →
-    Opens file file_left old sequence → ReadStops fault unread left → ImportEnds fault moment file file_left unread left
-unread_ends (Load fault) moment file file_left unread left old sequence o h = absurd h
-unread_ends (Input error) moment file file_left unread left old sequence o h = (old, sequence, h.0, o, h.1)
-unread_ends (Text fault) moment file file_left unread left old sequence o h = absurd h
-unread_ends (Entry fault) moment file file_left unread left old sequence o h = absurd h
-unread_ends Memory moment file file_left unread left old sequence o h = (old, sequence, h.0, o, h.1)
+pub unread_ends : (fault : ImportEnd) (front : Option (List ℕ)) (moment : ℕ) (file file_left unread left : Option (List ℕ)) (old : View) (sequence : ℕ) →
+    Opens file file_left old sequence → ReadStops fault unread left → ImportEnds fault front moment file file_left unread left
+unread_ends (Load fault) front moment file file_left unread left old sequence o h = absurd h
+unread_ends (Input error) front moment file file_left unread left old sequence o h = (old, sequence, h.0, o, h.1)
+unread_ends (Text fault) front moment file file_left unread left old sequence o h = absurd h
+unread_ends (Entry fault) front moment file file_left unread left old sequence o h = absurd h
+unread_ends Memory front moment file file_left unread left old sequence o h = (old, sequence, h.0, o, h.1)
 
 -- its entries weren't made
-pub apply_ends : (fault : ImportEnd) (moment : ℕ) (file file_left unread left : Option (List ℕ)) (text : List ℕ) (old : View) (sequence : ℕ) →
-    Opens file file_left old sequence → IsAtEnd left → Consumes unread left text → ApplyStops fault moment text old →
-    ImportEnds fault moment file file_left unread left
-apply_ends (Load fault) moment file file_left unread left text old sequence o at_end consumed h = absurd h
-apply_ends (Input error) moment file file_left unread left text old sequence o at_end consumed h = absurd h
-apply_ends (Text fault) moment file file_left unread left text old sequence o at_end consumed h = (old, sequence, text, o, at_end, consumed, h)
-apply_ends (Entry fault) moment file file_left unread left text old sequence o at_end consumed h = (old, sequence, text, o, at_end, consumed, h)
-apply_ends Memory moment file file_left unread left text old sequence o at_end consumed h = absurd h
+pub apply_ends : (fault : ImportEnd) (front : Option (List ℕ)) (moment : ℕ) (file file_left unread left : Option (List ℕ)) (text : List ℕ) (old : View) (sequence : ℕ) →
+    Opens file file_left old sequence → IsAtEnd left → Consumes unread left text → ApplyStops fault front moment text old →
+    ImportEnds fault front moment file file_left unread left
+apply_ends (Load fault) front moment file file_left unread left text old sequence o at_end consumed h = absurd h
+apply_ends (Input error) front moment file file_left unread left text old sequence o at_end consumed h = absurd h
+apply_ends (Text fault) front moment file file_left unread left text old sequence o at_end consumed h = (old, sequence, text, o, at_end, consumed, h)
+apply_ends (Entry fault) front moment file file_left unread left text old sequence o at_end consumed h = (old, sequence, text, o, at_end, consumed, h)
+apply_ends Memory front moment file file_left unread left text old sequence o at_end consumed h = absurd h
 
 -- ---- which reads failed
 
@@ -82,20 +82,20 @@ unread_blames (Entry fault) file file_after text text_after unread left h stays 
 unread_blames Memory file file_after text text_after unread left h stays blames = (stays, blames)
 
 -- none where its entries weren't made
-pub apply_blames : (fault : ImportEnd) (moment : ℕ) (bytes : List ℕ) (old : View) (file file_after text text_after : Option ℕ) →
-    ApplyStops fault moment bytes old → Stays file file_after → Stays text text_after → ImportBlames fault file file_after text text_after
-apply_blames (Load fault) moment bytes old file file_after text text_after h stays still = absurd h
-apply_blames (Input error) moment bytes old file file_after text text_after h stays still = absurd h
-apply_blames (Text fault) moment bytes old file file_after text text_after h stays still = (stays, still)
-apply_blames (Entry fault) moment bytes old file file_after text text_after h stays still = (stays, still)
-apply_blames Memory moment bytes old file file_after text text_after h stays still = absurd h
+pub apply_blames : (fault : ImportEnd) (front : Option (List ℕ)) (moment : ℕ) (bytes : List ℕ) (old : View) (file file_after text text_after : Option ℕ) →
+    ApplyStops fault front moment bytes old → Stays file file_after → Stays text text_after → ImportBlames fault file file_after text text_after
+apply_blames (Load fault) front moment bytes old file file_after text text_after h stays still = absurd h
+apply_blames (Input error) front moment bytes old file file_after text text_after h stays still = absurd h
+apply_blames (Text fault) front moment bytes old file file_after text text_after h stays still = (stays, still)
+apply_blames (Entry fault) front moment bytes old file file_after text text_after h stays still = (stays, still)
+apply_blames Memory front moment bytes old file file_after text text_after h stays still = absurd h
 
 -- the whole
-pub imports : (moment : ℕ) (edited : Edited) (file file_left unread left : Option (List ℕ)) (text : List ℕ) (old : View) (sequence : ℕ) →
-    Opens file file_left old sequence → IsAtEnd left → Consumes unread left text → Applies moment text old (view_of edited.seated.hive) →
+pub imports : (front : Option (List ℕ)) (moment : ℕ) (edited : Edited) (file file_left unread left : Option (List ℕ)) (text : List ℕ) (old : View) (sequence : ℕ) →
+    Opens file file_left old sequence → IsAtEnd left → Consumes unread left text → Applies front moment text old (view_of edited.seated.hive) →
     edited.moment ≡ moment → edited.sequence ≡ next_sequence sequence → edited.is_changed ≡ are_changed (view_of edited.seated.hive).journal →
-    edited.failed ≡ 0 → Imports moment edited file file_left unread left
-imports moment edited file file_left unread left text old sequence o at_end consumed made saved_at next changed none_failed = record {
+    edited.failed ≡ 0 → Imports front moment edited file file_left unread left
+imports front moment edited file file_left unread left text old sequence o at_end consumed made saved_at next changed none_failed = record {
   old = old;
   sequence = sequence;
   opens = o;

@@ -1,5 +1,5 @@
 -- What an import of a .reg text makes of a file's hive (this project's own).
-use Rattle.std.specs.Prelude.{◌≡◌, ℕ, List, [], Option, Some, Ok}
+use Rattle.std.specs.Prelude.{◌≡◌, ℕ, List, [], Option, Some, None, Ok}
 use Rattle.std.specs.Io.KnownBytes.{IsAtEnd, Consumes}
 use Rattle.std.specs.FinMap.{get}
 use Rattle.reg_model.specs.Callbacks.{no_callbacks}
@@ -35,30 +35,35 @@ pub data IsNoText (root text : List ℕ) (fault : ReadFault) : Type 0 where
 abbrev pub root_name : View → List ℕ
 root_name hive = name_of (get hive.keys.tree [])
 
+-- what stands in a text for a hive's root: a front that is given, or the root's name
+abbrev pub front_of : Option (List ℕ) → View → List ℕ
+front_of (Some front) hive = front
+front_of None hive = root_name hive
+
 -- the entries of a text were made in a hive, at a moment, by their calls, one after another
-pub record Applies (moment : ℕ) (text : List ℕ) (old last : View) : Type 0 where
+pub record Applies (front : Option (List ℕ)) (moment : ℕ) (text : List ℕ) (old last : View) : Type 0 where
   pub entries : List Numbered
-  pub is_text : IsText (root_name old) text entries
+  pub is_text : IsText (front_of front old) text entries
   pub tree : last.keys.tree ≡ imported moment old.keys.tree (entries_of entries)
   pub calls : Accepts moment old (import_calls moment old (entries_of entries)) last
 
 -- why they weren't: the text wasn't read; or an entry stopped it, in the hive to which the calls before led
-abbrev pub ApplyStops : ImportEnd → ℕ → List ℕ → View → Type 0
-ApplyStops (Text fault) moment text old = IsNoText (root_name old) text fault
-ApplyStops (Entry fault) moment text old =
-    (entries : List Numbered) × (last : View) × IsText (root_name old) text entries × IsHive last
+abbrev pub ApplyStops : ImportEnd → Option (List ℕ) → ℕ → List ℕ → View → Type 0
+ApplyStops (Text fault) front moment text old = IsNoText (front_of front old) text fault
+ApplyStops (Entry fault) front moment text old =
+    (entries : List Numbered) × (last : View) × IsText (front_of front old) text entries × IsHive last
     × ImportStops no_callbacks moment fault old entries last
-ApplyStops fault moment text old = ⊥
+ApplyStops fault front moment text old = ⊥
 
 -- what an import left of the hive of a file: an input was read to its end, and the entries of its text were made, all at one moment
-pub record Imports (moment : ℕ) (edited : Edited) (file file_left unread left : Option (List ℕ)) : Type 0 where
+pub record Imports (front : Option (List ℕ)) (moment : ℕ) (edited : Edited) (file file_left unread left : Option (List ℕ)) : Type 0 where
   pub old : View
   pub sequence : ℕ
   pub opens : Opens file file_left old sequence
   pub at_end : IsAtEnd left
   pub text : List ℕ
   pub consumed : Consumes unread left text
-  pub applies : Applies moment text old (view_of edited.seated.hive)
+  pub applies : Applies front moment text old (view_of edited.seated.hive)
   pub saved_at : edited.moment ≡ moment
   pub next : edited.sequence ≡ next_sequence sequence
   pub changed : IsChanged old (view_of edited.seated.hive) edited.is_changed
@@ -77,15 +82,15 @@ TextBlames fault before after = Stays before after
 
 -- what ended an import before there was anything to save: the image doesn't load, and then nothing was read of the text; a read of the text
 -- failed, or memory lacked for it, and then it was read so far; or the text wasn't understood, or an entry stopped it
-abbrev pub ImportEnds : ImportEnd → (moment : ℕ) → (file file_left unread left : Option (List ℕ)) → Type 0
-ImportEnds (Load fault) moment file file_left unread left = MeetsFault fault file file_left × (left ≡ unread)
-ImportEnds (Input error) moment file file_left unread left =
+abbrev pub ImportEnds : ImportEnd → (front : Option (List ℕ)) → (moment : ℕ) → (file file_left unread left : Option (List ℕ)) → Type 0
+ImportEnds (Load fault) front moment file file_left unread left = MeetsFault fault file file_left × (left ≡ unread)
+ImportEnds (Input error) front moment file file_left unread left =
     (old : View) × (sequence : ℕ) × (read : List ℕ) × Opens file file_left old sequence × Consumes unread left read
-ImportEnds Memory moment file file_left unread left =
+ImportEnds Memory front moment file file_left unread left =
     (old : View) × (sequence : ℕ) × (read : List ℕ) × Opens file file_left old sequence × Consumes unread left read
-ImportEnds fault moment file file_left unread left =
+ImportEnds fault front moment file file_left unread left =
     (old : View) × (sequence : ℕ) × (text : List ℕ) × Opens file file_left old sequence × IsAtEnd left × Consumes unread left text
-    × ApplyStops fault moment text old
+    × ApplyStops fault front moment text old
 
 -- a read of the file failed where the load tells just this, one of the text where the fault is that of its reader, and none else
 abbrev pub ImportBlames : ImportEnd → (file file_after text text_after : Option ℕ) → Type 0

@@ -1,11 +1,11 @@
 //! What an import makes of a file's hive: a hive loaded, the entries of a .reg text made in it, and what its image is to be saved with.
 
-ghost use Rattle.std.specs.Prelude.{◌≡◌, ◌<◌, [], length, IfOk, IfErr, OnOk, MatchResult};
+ghost use Rattle.std.specs.Prelude.{◌≡◌, ◌<◌, [], length, option_copied, IfOk, IfErr, OnOk, MatchResult};
 ghost use Rattle.std.specs.Io.KnownBytes.{Consumes, IsAtEnd};
 ghost use Rattle.reg_text.specs.Failures.{Stays};
 ghost use Rattle.reg_callbacks.specs.Lists.{rows_of};
 ghost use Rattle.reg_calls.specs.HiveView.{view_of, callbacks_of};
-ghost use Rattle.reg_edits.specs.TextImports.{IsText, IsNoText, root_name, Applies, ApplyStops, Imports, ImportEnds, ReadStops, TextBlames, ImportBlames};
+ghost use Rattle.reg_edits.specs.TextImports.{IsText, IsNoText, front_of, Applies, ApplyStops, Imports, ImportEnds, ReadStops, TextBlames, ImportBlames};
 
 use crate::edits::{Edited, is_changed, next_sequence};
 use crate::loading::{LoadedHive, load_seated};
@@ -65,31 +65,36 @@ fn read_text(alloc: Global, root: &[u8], text: &[u8]) -> Result<Vec<Numbered>, R
     read_entries(alloc, root, units.as_slice())
 }
 
-/// The entries of the bytes of a .reg text, of keys of a hive.
+/// The entries of the bytes of a .reg text, of keys of a hive, for whose root a front stands, or its name.
 fn read_text_for<C: Callback>(
     alloc: Global,
     hive: &Hive<C>,
+    front: Option<&[u8]>,
     text: &[u8],
 ) -> Result<Vec<Numbered>, ReadFault>
-    ensures ok { IfOk result (λ entries. IsText (root_name (view_of hive.now)) text.now entries.items) }
-    ensures err { IfErr result (λ fault. IsNoText (root_name (view_of hive.now)) text.now fault) }
+    ensures ok { IfOk result (λ entries. IsText (front_of (option_copied front.entry) (view_of hive.now)) text.now entries.items) }
+    ensures err { IfErr result (λ fault. IsNoText (front_of (option_copied front.entry) (view_of hive.now)) text.now fault) }
 {
     let tree = hive.tree();
-    read_text(alloc, tree.name(tree.root()), text)
+    match front {
+        Some(front) => read_text(alloc, front, text),
+        None => read_text(alloc, tree.name(tree.root()), text),
+    }
 }
 
 /// Makes the entries of a text in a hive on which no callback is registered.
 fn apply_text<C: Callback>(
     alloc: Global,
+    front: Option<&[u8]>,
     moment: u64,
     hive: &mut SeatedHive<C>,
     text: &[u8],
 ) -> Result<(), ImportEnd>
     requires { rows_of (callbacks_of hive.old.hive) ≡ [] }
-    ensures ok { OnOk result (Applies moment text.now (view_of hive.old.hive) (view_of hive.new.hive)) }
-    ensures err { IfErr result (λ fault. ApplyStops fault moment text.now (view_of hive.old.hive)) }
+    ensures ok { OnOk result (Applies (option_copied front.entry) moment text.now (view_of hive.old.hive) (view_of hive.new.hive)) }
+    ensures err { IfErr result (λ fault. ApplyStops fault (option_copied front.entry) moment text.now (view_of hive.old.hive)) }
 {
-    let entries = read_text_for(alloc, &hive.hive, text)?;
+    let entries = read_text_for(alloc, &hive.hive, front, text)?;
     match reg_dotreg_import::import(alloc, hive, moment, entries) {
         Ok(()) => Ok(()),
         Err(fault) => {
@@ -139,18 +144,20 @@ fn read_whole<R: Source>(alloc: Global, input: &mut R) -> Result<Vec<u8>, Import
 }
 
 /// Loads a hive from the image at the front of a file, makes in it the entries of the .reg text on an input, all at one moment, and
-/// answers the hive that they left, with that moment and the next sequence number.
+/// answers the hive that they left, with that moment and the next sequence number. In the text a front stands for the hive's root, where
+/// one is given, else the root's name.
 ///
 /// The input is read to its end before an entry is made; a read of it that fails, or is interrupted, isn't tried again.
 pub fn import<F: Source, R: Source>(
     alloc: Global,
     file: &mut F,
+    front: Option<&[u8]>,
     moment: u64,
     input: &mut R,
 ) -> Result<Edited, ImportEnd>
-    ensures ok { IfOk result (λ edited. Imports moment edited (F.remaining file.old) (F.remaining file.new)
+    ensures ok { IfOk result (λ edited. Imports (option_copied front.entry) moment edited (F.remaining file.old) (F.remaining file.new)
         (R.remaining input.old) (R.remaining input.new)) }
-    ensures err { IfErr result (λ fault. ImportEnds fault moment (F.remaining file.old) (F.remaining file.new)
+    ensures err { IfErr result (λ fault. ImportEnds fault (option_copied front.entry) moment (F.remaining file.old) (F.remaining file.new)
         (R.remaining input.old) (R.remaining input.new)) }
     ensures failures { MatchResult result
         (λ _. Stays (F.failures file.old) (F.failures file.new) × Stays (R.failures input.old) (R.failures input.new))
@@ -161,7 +168,7 @@ pub fn import<F: Source, R: Source>(
         sequence,
     } = load_seated(alloc, file)?;
     let text = read_whole(alloc, input)?;
-    apply_text(alloc, moment, &mut seated, text.as_slice())?;
+    apply_text(alloc, front, moment, &mut seated, text.as_slice())?;
     let is_changed = is_changed(&seated.hive);
     Ok(Edited {
         seated,

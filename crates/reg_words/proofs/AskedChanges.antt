@@ -7,7 +7,8 @@ use Rattle.reg_words.specs.ChangeWords.{value_in}
 use Rattle.reg_words.specs.declared.typed.change.Contents.{Contents}
 use Rattle.reg_words.specs.declared.typed.change.KeyChange.{KeyChange}
 use Rattle.reg_words.specs.declared.typed.change.KeyChange.TheVariants.{CreateKey, SetValue, DeleteValue, DeleteKey}
-use Rattle.reg_words.specs.CommandLines.{AsksForKey, AsksForName, AsksForContents, AsksToChange, IsSet}
+use Rattle.reg_words.specs.CommandLines.{AsksForKey, AsksForName, AsksForContents, AsksToChange}
+use Rattle.reg_words.specs.StreamLines.{IsSet}
 use Rattle.reg_words.specs.Internal.Commands.{IsFound}
 use Rattle.reg_words.proofs.StreamWords.{apart}
 use Rattle.reg_words.proofs.AskedWords.{none_there}

@@ -1,6 +1,6 @@
 -- What a command line asks for, as `clap`'s matches tell it.
-use Rattle.std.proofs.Common.{◌≡◌, ◌∙◌, ◌<◌, ◌≤◌, List, ℕ, Bool, true, false, codes, sym, refl, ap, arith, subst, inl, inr, ◌⊎◌, bytes_eq}
-use Rattle.std.specs.Prelude.{◌↔◌, Option, Some, None, Result, Ok, Err, find, option_and_then, option_map, slice_get, unwrap_or}
+use Rattle.std.proofs.Common.{◌≡◌, ◌∙◌, ◌<◌, ◌≤◌, List, ℕ, Bool, true, false, codes, map, sym, refl, ap, arith, subst, inl, inr, ◌⊎◌, bytes_eq}
+use Rattle.std.specs.Prelude.{◌↔◌, Option, Some, None, MatchOption, Result, Ok, Err, find, option_and_then, option_map, slice_get, unwrap_or}
 use Rattle.std.specs.Str.Parse.{IsNumeral, digits_value, without_leading_plus}
 use Rattle.std.proofs.lemmas.Option.{same_Some}
 use Rattle.std.specs.Str.Parse.{ParsesUnsigned}
@@ -9,18 +9,21 @@ use Rattle.clap.specs.Values.{read_as}
 use Rattle.clap.specs.Walk.{row_text}
 use Rattle.clap.specs.declared.parser.matches.Found.{Found}
 use Rattle.clap.proofs.WalkLemmas.{first_value-rows, one_text-rows, raw_values-rows}
-use Rattle.reg_words.specs.StreamLines.{AreBothGiven, IsGiven, IsHiveCount, IsNumber}
+use Rattle.reg_words.specs.StreamLines.{AreBothGiven, AsksOfStream, IsGiven, IsSet, IsHiveCount, IsNumber}
 use Rattle.reg_words.specs.declared.typed.change.KeyChange.{KeyChange}
 use Rattle.reg_words.specs.declared.typed.change.KeyChange.TheVariants.{CreateKey, SetValue, DeleteValue, DeleteKey}
-use Rattle.reg_words.specs.CommandLines.{IsMoment, IsSet, Asks, AsksToBegin, AsksToEdit, AsksToChange, AsksForForm, AsksForPlaces, places_asked}
+use Rattle.reg_words.specs.CommandLines.{IsMoment, Asks, AsksToBegin, AsksToEdit, AsksToChange, AsksForForm, AsksForPlaces, places_asked}
 use Rattle.reg_words.specs.Internal.Commands.{IsFound, IsOther}
-use Rattle.reg_words.proofs.StreamWords.{apart, stream_word, stream_named, stream_apart, other_stream, no_running, no_stream_of_both, no_working}
+use Rattle.reg_words.proofs.StreamWords.{apart, stream_word, stream_named, stream_apart, other_stream, no_running, no_stream_of_both, no_working, no_dirty_dump, no_dirty_check}
 use Rattle.reg_words.specs.declared.request.Request.{Request}
-use Rattle.reg_words.specs.declared.request.Request.TheVariants.{Stream, Dump, Check, Listing, Get, Find, Diff, Export, New, Edit, Import, Change}
+use Rattle.reg_words.specs.declared.request.Request.TheVariants.{Stream, Dump, Check, Listing, Get, Find, Diff, Export, New, Edit, Import, Change, Version}
 use Rattle.reg_words.specs.declared.request.EditRequest.{EditRequest}
 use Rattle.reg_words.specs.declared.request.Form.{Form}
-use Rattle.reg_words.specs.declared.request.Form.TheVariants.{Reg, Json, Csv}
+use Rattle.reg_words.specs.declared.request.Form.TheVariants.{Reg, Json, JsonLines, Csv, Html}
+use Rattle.reg_words.specs.declared.request.HiveFile.{HiveFile}
 use Rattle.reg_words.specs.declared.request.Places.{Places}
+use Rattle.reg_words.specs.declared.request.StreamRequest.{StreamRequest}
+use Rattle.reg_words.specs.declared.request.StreamRequest.TheVariants as stream
 use Rattle.reg_words.specs.declared.request.Begin.{Begin}
 use Rattle.reg_words.specs.declared.request.Begin.TheVariants.{Now, At}
 
@@ -119,31 +122,33 @@ change_named found (DeleteKey path is_tree) h = h.0
 -- the word of the subcommand that asks for something
 abbrev pub word_of : Request → List ℕ
 word_of (Stream request) = stream_word request
-word_of (Dump file) = codes "dump"
-word_of (Check files) = codes "check"
-word_of (Listing file path is_tree is_whole) = codes "ls"
-word_of (Get file path name is_raw is_whole) = codes "get"
-word_of (Find file pattern ignores_case places) = codes "find"
-word_of (Diff old new) = codes "diff"
-word_of (Export file path form) = codes "export"
+word_of (Dump hive) = codes "dump"
+word_of (Check files is_dirty) = codes "check"
+word_of (Listing hive path is_tree is_whole) = codes "ls"
+word_of (Get hive path name is_raw is_whole) = codes "get"
+word_of (Find hive pattern ignores_case places) = codes "find"
+word_of (Diff old new is_dirty) = codes "diff"
+word_of (Export hive path form) = codes "export"
 word_of (New file name) = codes "new"
 word_of (Edit edit keeps_going) = codes "edit"
-word_of (Import edit) = codes "import"
+word_of (Import edit text prefix) = codes "import"
 word_of (Change edit change) = change_word change
+word_of Version = codes "version"
 
 pub named : (found : Text × List Row) (request : Request) → Asks found request → found.0 ≡ word_of request
 named found (Stream request) h = stream_named found request h
-named found (Dump file) h = h.0
-named found (Check files) h = h.0
-named found (Listing file path is_tree is_whole) h = h.0
-named found (Get file path name is_raw is_whole) h = h.0
-named found (Find file pattern ignores_case places) h = h.0
-named found (Diff old new) h = h.0
-named found (Export file path form) h = h.0
+named found (Dump hive) h = h.0
+named found (Check files is_dirty) h = h.0
+named found (Listing hive path is_tree is_whole) h = h.0
+named found (Get hive path name is_raw is_whole) h = h.0
+named found (Find hive pattern ignores_case places) h = h.0
+named found (Diff old new is_dirty) h = h.0
+named found (Export hive path form) h = h.0
 named found (New file name) h = h.0
 named found (Edit edit keeps_going) h = h.0
-named found (Import edit) h = h.0
+named found (Import edit text prefix) h = h.0
 named found (Change edit change) h = change_named found change h.1
+named found Version h = h
 
 -- another subcommand was named
 module _ (word : Text) (rows : List Row) (request : Request) (same : bytes_eq word word ≡ true) where
@@ -168,25 +173,23 @@ pub named_so : (name word : Text) (rows : List Row) (result : Option Request) �
     IsFound (Asks (name, rows)) result
 named_so name word rows result e h = subst (λ (w : Text). IsFound (Asks (w, rows)) result) (sym e) h
 
-pub asked_so : (name word : Text) (rows : List Row) (request : Request) → name ≡ word → Asks (word, rows) request → Asks (name, rows) request
-asked_so name word rows request e h = subst (λ (w : Text). Asks (w, rows) request) (sym e) h
-
 -- a subcommand of another name than all that ask for something but a change, which asks for none
 pub none_asked : (name : Text) (rows : List Row) → IsOther name →
     ((edit : EditRequest) (change : KeyChange) → Asks (name, rows) (Change edit change) → ⊥) → (request : Request) → Asks (name, rows) request → ⊥
 none_asked name rows none never (Stream request) h =
     stream_apart (name, rows) request none.no_run_word none.no_dump_word none.no_check_word h
-none_asked name rows none never (Dump file) h = none.no_dump_word (named (name, rows) (Dump file) h)
-none_asked name rows none never (Check files) h = none.no_check_word (named (name, rows) (Check files) h)
-none_asked name rows none never (Listing file path is_tree is_whole) h = none.no_ls_word (named (name, rows) (Listing file path is_tree is_whole) h)
-none_asked name rows none never (Get file path value is_raw is_whole) h = none.no_get_word (named (name, rows) (Get file path value is_raw is_whole) h)
-none_asked name rows none never (Find file pattern ignores_case places) h = none.no_find_word (named (name, rows) (Find file pattern ignores_case places) h)
-none_asked name rows none never (Diff old new) h = none.no_diff_word (named (name, rows) (Diff old new) h)
-none_asked name rows none never (Export file path form) h = none.no_export_word (named (name, rows) (Export file path form) h)
+none_asked name rows none never (Dump hive) h = none.no_dump_word (named (name, rows) (Dump hive) h)
+none_asked name rows none never (Check files is_dirty) h = none.no_check_word (named (name, rows) (Check files is_dirty) h)
+none_asked name rows none never (Listing hive path is_tree is_whole) h = none.no_ls_word (named (name, rows) (Listing hive path is_tree is_whole) h)
+none_asked name rows none never (Get hive path value is_raw is_whole) h = none.no_get_word (named (name, rows) (Get hive path value is_raw is_whole) h)
+none_asked name rows none never (Find hive pattern ignores_case places) h = none.no_find_word (named (name, rows) (Find hive pattern ignores_case places) h)
+none_asked name rows none never (Diff old new is_dirty) h = none.no_diff_word (named (name, rows) (Diff old new is_dirty) h)
+none_asked name rows none never (Export hive path form) h = none.no_export_word (named (name, rows) (Export hive path form) h)
 none_asked name rows none never (New file value) h = none.no_new_word (named (name, rows) (New file value) h)
 none_asked name rows none never (Edit edit keeps_going) h = none.no_edit_word (named (name, rows) (Edit edit keeps_going) h)
-none_asked name rows none never (Import edit) h = none.no_import_word (named (name, rows) (Import edit) h)
+none_asked name rows none never (Import edit text prefix) h = none.no_import_word (named (name, rows) (Import edit text prefix) h)
 none_asked name rows none never (Change edit change) h = never edit change h
+none_asked name rows none never Version h = none.no_version_word (named (name, rows) Version h)
 
 -- what is there is none
 pub none_there : {X : Type 0} (o : Option X) (x : X) → o ≡ None → o ≡ Some x → ⊥
@@ -213,41 +216,52 @@ module _ (rows : List Row) where
   no_new e (Change edit change) h = other_change (codes "new") rows edit change refl refl refl refl h
   no_new e request h = other (codes "new") rows request refl refl h
 
+  -- standard input that wasn't written to its end
+  pub no_dump : first_of (codes "file") rows ≡ None → IsSet (codes "dirty") rows → (request : Request) → Asks (codes "dump", rows) request → ⊥
+  no_dump e dirty (Dump hive) h = none_there _ hive.file.now e h.1.0
+  no_dump e dirty (Stream request) h = no_dirty_dump rows request dirty h
+  no_dump e dirty (Change edit change) h = other_change (codes "dump") rows edit change refl refl refl refl h
+  no_dump e dirty request h = other (codes "dump") rows request refl refl h
+
+  pub no_check : all_of (codes "files") rows ≡ None → IsSet (codes "dirty") rows → (request : Request) → Asks (codes "check", rows) request → ⊥
+  no_check e dirty (Check files is_dirty) h = none_there _ (map (λ file. file.now) files.items) e h.1
+  no_check e dirty (Stream request) h = no_dirty_check rows request dirty h
+  no_check e dirty (Change edit change) h = other_change (codes "check") rows edit change refl refl refl refl h
+  no_check e dirty request h = other (codes "check") rows request refl refl h
+
   pub no_list : first_of (codes "file") rows ≡ None → (request : Request) → Asks (codes "ls", rows) request → ⊥
-  no_list e (Listing file path is_tree is_whole) h = none_there _ file.now e h.1
+  no_list e (Listing hive path is_tree is_whole) h = none_there _ hive.file.now e h.1.0
   no_list e (Stream request) h = other_stream (codes "ls", rows) (codes "ls") request refl refl refl refl refl h
   no_list e (Change edit change) h = other_change (codes "ls") rows edit change refl refl refl refl h
   no_list e request h = other (codes "ls") rows request refl refl h
 
-  pub no_get : ((first_of (codes "file") rows ≡ None) ⊎ (first_of (codes "path") rows ≡ None)) → (request : Request) →
-      Asks (codes "get", rows) request → ⊥
-  no_get (inl e) (Get file path value is_raw is_whole) h = none_there _ file.now e h.1
-  no_get (inr e) (Get file path value is_raw is_whole) h = none_there _ path.now e h.2
+  pub no_get : first_of (codes "file") rows ≡ None → (request : Request) → Asks (codes "get", rows) request → ⊥
+  no_get e (Get hive path value is_raw is_whole) h = none_there _ hive.file.now e h.1.0
   no_get e (Stream request) h = other_stream (codes "get", rows) (codes "get") request refl refl refl refl refl h
   no_get e (Change edit change) h = other_change (codes "get") rows edit change refl refl refl refl h
   no_get e request h = other (codes "get") rows request refl refl h
 
   pub no_find : ((first_of (codes "file") rows ≡ None) ⊎ ((first_of (codes "pattern") rows ≡ None)
       ⊎ ((places : Places) → AsksForPlaces rows places → ⊥))) → (request : Request) → Asks (codes "find", rows) request → ⊥
-  no_find (inl e) (Find file pattern ignores_case places) h = none_there _ file.now e h.1
-  no_find (inr (inl e)) (Find file pattern ignores_case places) h = none_there _ pattern.now e h.2
-  no_find (inr (inr never)) (Find file pattern ignores_case places) h = never places h.3
+  no_find (inl e) (Find hive pattern ignores_case places) h = none_there _ hive.file.now e h.1.0
+  no_find (inr (inl e)) (Find hive pattern ignores_case places) h = none_there _ pattern.now e h.2
+  no_find (inr (inr never)) (Find hive pattern ignores_case places) h = never places h.3
   no_find e (Stream request) h = other_stream (codes "find", rows) (codes "find") request refl refl refl refl refl h
   no_find e (Change edit change) h = other_change (codes "find") rows edit change refl refl refl refl h
   no_find e request h = other (codes "find") rows request refl refl h
 
   pub no_diff : ((first_of (codes "old") rows ≡ None) ⊎ (first_of (codes "new") rows ≡ None)) → (request : Request) →
       Asks (codes "diff", rows) request → ⊥
-  no_diff (inl e) (Diff old new) h = none_there _ old.now e h.1
-  no_diff (inr e) (Diff old new) h = none_there _ new.now e h.2
+  no_diff (inl e) (Diff old new is_dirty) h = none_there _ old.now e h.1
+  no_diff (inr e) (Diff old new is_dirty) h = none_there _ new.now e h.2
   no_diff e (Stream request) h = other_stream (codes "diff", rows) (codes "diff") request refl refl refl refl refl h
   no_diff e (Change edit change) h = other_change (codes "diff") rows edit change refl refl refl refl h
   no_diff e request h = other (codes "diff") rows request refl refl h
 
   pub no_export : ((first_of (codes "file") rows ≡ None) ⊎ ((form : Form) → AsksForForm rows form → ⊥)) → (request : Request) →
       Asks (codes "export", rows) request → ⊥
-  no_export (inl e) (Export file path form) h = none_there _ file.now e h.1
-  no_export (inr never) (Export file path form) h = never form h.3
+  no_export (inl e) (Export hive path form) h = none_there _ hive.file.now e h.1.0
+  no_export (inr never) (Export hive path form) h = never form h.3
   no_export e (Stream request) h = other_stream (codes "export", rows) (codes "export") request refl refl refl refl refl h
   no_export e (Change edit change) h = other_change (codes "export") rows edit change refl refl refl refl h
   no_export e request h = other (codes "export") rows request refl refl h
@@ -259,7 +273,7 @@ module _ (rows : List Row) where
   no_edit never request h = other (codes "edit") rows request refl refl h
 
   pub no_import : ((edit : EditRequest) → AsksToEdit rows edit → ⊥) → (request : Request) → Asks (codes "import", rows) request → ⊥
-  no_import never (Import edit) h = never edit h.1
+  no_import never (Import edit text prefix) h = never edit h.1
   no_import never (Stream request) h = other_stream (codes "import", rows) (codes "import") request refl refl refl refl refl h
   no_import never (Change edit change) h = other_change (codes "import") rows edit change refl refl refl refl h
   no_import never request h = other (codes "import") rows request refl refl h
@@ -300,13 +314,18 @@ places_found rows given result is read = exactly rows (places_asked (first_of (c
 pub no_form : (rows : List Row) → first_of (codes "as") rows ≡ None → (form : Form) → AsksForForm rows form → ⊥
 no_form rows e (Reg is_utf8) h = none_there _ (codes "reg") e h.0
 no_form rows e Json h = none_there _ (codes "json") e h
+no_form rows e JsonLines h = none_there _ (codes "jsonl") e h
 no_form rows e Csv h = none_there _ (codes "csv") e h
+no_form rows e Html h = none_there _ (codes "html") e h
 
-pub other_form : (rows : List Row) (name : Text) → first_of (codes "as") rows ≡ Some name → (name ≡ codes "reg" → ⊥) → (name ≡ codes "json" → ⊥) →
-    (name ≡ codes "csv" → ⊥) → (form : Form) → AsksForForm rows form → ⊥
-other_form rows name e reg json csv (Reg is_utf8) h = reg (same_Some name (codes "reg") (sym e ∙ h.0))
-other_form rows name e reg json csv Json h = json (same_Some name (codes "json") (sym e ∙ h))
-other_form rows name e reg json csv Csv h = csv (same_Some name (codes "csv") (sym e ∙ h))
+module _ (rows : List Row) (name : Text) (e : first_of (codes "as") rows ≡ Some name) where
+  pub other_form : (name ≡ codes "reg" → ⊥) → (name ≡ codes "json" → ⊥) → (name ≡ codes "jsonl" → ⊥) → (name ≡ codes "csv" → ⊥) →
+      (name ≡ codes "html" → ⊥) → (form : Form) → AsksForForm rows form → ⊥
+  other_form reg json lines csv html (Reg is_utf8) h = reg (same_Some name (codes "reg") (sym e ∙ h.0))
+  other_form reg json lines csv html Json h = json (same_Some name (codes "json") (sym e ∙ h))
+  other_form reg json lines csv html JsonLines h = lines (same_Some name (codes "jsonl") (sym e ∙ h))
+  other_form reg json lines csv html Csv h = csv (same_Some name (codes "csv") (sym e ∙ h))
+  other_form reg json lines csv html Html h = html (same_Some name (codes "html") (sym e ∙ h))
 
 -- something was found, or nothing
 pub found_there : {A : Type 0} (P : A → Type 0) (r : Option A) (a : A) → r ≡ Some a → IsFound P r → P a
@@ -314,6 +333,35 @@ found_there P r a e h = subst (IsFound P) e h
 
 pub never_found : {A : Type 0} (P : A → Type 0) (r : Option A) → r ≡ None → IsFound P r → (a : A) → P a → ⊥
 never_found P r e h = subst (IsFound P) e h
+
+pub looked_at : (P : HiveFile → Type 0) (Q : Type 0) (r : Option HiveFile) (hive : HiveFile) → r ≡ Some hive → MatchOption r Q P → P hive
+looked_at P Q r hive e h = subst (λ o. MatchOption o Q P) e h
+
+pub not_looked_at : (P : HiveFile → Type 0) (Q : Type 0) (r : Option HiveFile) → r ≡ None → MatchOption r Q P → Q
+not_looked_at P Q r e h = subst (λ o. MatchOption o Q P) e h
+
+-- ---- standard input, which isn't one that wasn't written to its end
+
+module _ (rows : List Row) (word : Text) (stream : StreamRequest) (none : Type 0)
+    (asks : none → (IsSet (codes "dirty") rows → ⊥) → AsksOfStream (word, rows) stream)
+    (never : none → IsSet (codes "dirty") rows → (request : Request) → Asks (word, rows) request → ⊥) where
+  pub streamed : (r : Option Request) → none →
+      MatchOption r (IsSet (codes "dirty") rows) (λ request. (request ≡ Stream stream) × (IsSet (codes "dirty") rows → ⊥)) →
+      IsFound (Asks (word, rows)) r
+  streamed None lacks dirty = never lacks dirty
+  streamed (Some request) lacks h = subst (Asks (word, rows)) (sym h.0) (asks lacks h.1)
+
+pub dump_streamed : (rows : List Row) (r : Option Request) → first_of (codes "file") rows ≡ None →
+    MatchOption r (IsSet (codes "dirty") rows) (λ request. (request ≡ Stream stream.Dump) × (IsSet (codes "dirty") rows → ⊥)) →
+    IsFound (Asks (codes "dump", rows)) r
+dump_streamed rows =
+    streamed rows (codes "dump") stream.Dump (first_of (codes "file") rows ≡ None) (λ none clean. (refl, none, clean)) (no_dump rows)
+
+pub check_streamed : (rows : List Row) (r : Option Request) → all_of (codes "files") rows ≡ None →
+    MatchOption r (IsSet (codes "dirty") rows) (λ request. (request ≡ Stream stream.Check) × (IsSet (codes "dirty") rows → ⊥)) →
+    IsFound (Asks (codes "check", rows)) r
+check_streamed rows =
+    streamed rows (codes "check") stream.Check (all_of (codes "files") rows ≡ None) (λ none clean. (refl, none, clean)) (no_check rows)
 
 -- the text that is given, or the one in its place
 pub given_or : {N : Type 0} (f : Found) (word instead : Text) (got : Option N) (now : N → Text) (given other : N) →

@@ -49,11 +49,11 @@ seventeen_hives_are_none = refl
 
 dump_asks : IsCommandLine (codes "regtool" ∷ codes "dump" ∷ []) (Stream Dump)
 unfolding faults_in found_in regtool clap_on_literals
-dump_asks = record { named = named (codes "regtool" ∷ codes "dump" ∷ []) refl; taken = refl; asks = (refl, refl) }
+dump_asks = record { named = named (codes "regtool" ∷ codes "dump" ∷ []) refl; taken = refl; asks = (refl, refl, λ dirty. cc) }
 
 check_asks : IsCommandLine (codes "regtool" ∷ codes "check" ∷ []) (Stream Check)
 unfolding faults_in found_in regtool clap_on_literals
-check_asks = record { named = named (codes "regtool" ∷ codes "check" ∷ []) refl; taken = refl; asks = (refl, refl) }
+check_asks = record { named = named (codes "regtool" ∷ codes "check" ∷ []) refl; taken = refl; asks = (refl, refl, λ dirty. cc) }
 
 another_command_is_none : is_none (faults_in (codes "regtool" ∷ codes "frob" ∷ [])) ≡ false
 unfolding faults_in regtool clap_on_literals

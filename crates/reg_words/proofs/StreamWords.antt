@@ -3,7 +3,7 @@ use Rattle.std.proofs.Common.{◌≡◌, ◌∙◌, List, ℕ, true, false, code
 use Rattle.std.specs.Prelude.{Some, None}
 use Rattle.std.proofs.lemmas.Option.{same_Some}
 use Rattle.clap.specs.Words.{Row, Text, all_of, first_of, one_of}
-use Rattle.reg_words.specs.StreamLines.{AreBothGiven, AsksOfStream, IsHiveCount, IsNumber}
+use Rattle.reg_words.specs.StreamLines.{AreBothGiven, IsSet, AsksOfStream, IsHiveCount, IsNumber}
 use Rattle.reg_words.specs.declared.request.StreamRequest.{StreamRequest}
 use Rattle.reg_words.specs.declared.request.StreamRequest.TheVariants.{Run, Image, Workers, Dump, Check}
 
@@ -63,6 +63,21 @@ check_of_files found files (Image sequence) is some h = same_name found (codes "
 check_of_files found files (Workers count) is some h = same_name found (codes "check") (codes "run") is refl refl h.0
 check_of_files found files Dump is some h = same_name found (codes "check") (codes "dump") is refl refl h.0
 check_of_files found files Check is some h = let bad : None ≡ Some files = sym h.1 ∙ some in cc
+
+-- standard input that wasn't written to its end
+pub no_dirty_dump : (rows : List Row) (request : StreamRequest) → IsSet (codes "dirty") rows → AsksOfStream (codes "dump", rows) request → ⊥
+no_dirty_dump rows Run dirty h = apart (codes "dump") (codes "run") refl refl h.0
+no_dirty_dump rows (Image sequence) dirty h = apart (codes "dump") (codes "run") refl refl h.0
+no_dirty_dump rows (Workers count) dirty h = apart (codes "dump") (codes "run") refl refl h.0
+no_dirty_dump rows Dump dirty h = h.2 dirty
+no_dirty_dump rows Check dirty h = apart (codes "dump") (codes "check") refl refl h.0
+
+pub no_dirty_check : (rows : List Row) (request : StreamRequest) → IsSet (codes "dirty") rows → AsksOfStream (codes "check", rows) request → ⊥
+no_dirty_check rows Run dirty h = apart (codes "check") (codes "run") refl refl h.0
+no_dirty_check rows (Image sequence) dirty h = apart (codes "check") (codes "run") refl refl h.0
+no_dirty_check rows (Workers count) dirty h = apart (codes "check") (codes "run") refl refl h.0
+no_dirty_check rows Dump dirty h = apart (codes "check") (codes "dump") refl refl h.0
+no_dirty_check rows Check dirty h = h.2 dirty
 
 -- an option that was given and wasn't
 given_too : (name : Text) (rows : List Row) (text : Text) → one_of name rows ≡ Some text → one_of name rows ≡ None → ⊥

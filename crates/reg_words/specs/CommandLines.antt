@@ -9,16 +9,17 @@ use Rattle.reg_words.specs.ChangeWords.{path_in, name_in, value_in}
 use Rattle.reg_words.specs.declared.typed.change.KeyChange.{KeyChange}
 use Rattle.reg_words.specs.declared.typed.change.KeyChange.TheVariants.{CreateKey, SetValue, DeleteValue, DeleteKey}
 use Rattle.reg_words.specs.PlaceLists.{places_in}
-use Rattle.reg_words.specs.StreamLines.{AsksOfStream, GivesBoth}
+use Rattle.reg_words.specs.StreamLines.{AsksOfStream, GivesBoth, IsSet}
 use Rattle.reg_words.specs.declared.request.EditRequest.{EditRequest}
 use Rattle.reg_words.specs.declared.request.Form.{Form}
-use Rattle.reg_words.specs.declared.request.Form.TheVariants.{Reg, Json, Csv}
+use Rattle.reg_words.specs.declared.request.Form.TheVariants.{Reg, Json, JsonLines, Csv, Html}
+use Rattle.reg_words.specs.declared.request.HiveFile.{HiveFile}
 use Rattle.reg_words.specs.declared.request.Places.{Places}
 use Rattle.reg_words.specs.declared.request.Begin.{Begin}
 use Rattle.reg_words.specs.declared.request.Begin.TheVariants.{Now, At}
 use Rattle.reg_words.specs.declared.request.StreamRequest.{StreamRequest}
 use Rattle.reg_words.specs.declared.request.Request.{Request}
-use Rattle.reg_words.specs.declared.request.Request.TheVariants.{Stream, Dump, Check, Listing, Get, Find, Diff, Export, New, Edit, Import, Change}
+use Rattle.reg_words.specs.declared.request.Request.TheVariants.{Stream, Dump, Check, Listing, Get, Find, Diff, Export, New, Edit, Import, Change, Version}
 
 -- the words of a command line, as text
 abbrev pub texts : {A : Type 0} → List (String A) → List (List ℕ)
@@ -84,48 +85,52 @@ workers_rule = record (option_rule (codes "workers")) { parser = Some (parser.Si
 abbrev pub run_command : App
 run_command = with_rule (with_rule (new_app (codes "run")) image_rule) workers_rule
 
+-- the flag `--dirty`: a file that wasn't written to its end is read as it stands
+abbrev pub dirty_rule : Rule
+dirty_rule = flag_rule (codes "dirty")
+
 -- `dump`, of a file or of the standard input
 abbrev pub dump_command : App
-dump_command = with_rule (new_app (codes "dump")) (file_rule false)
+dump_command = with_rule (with_rule (new_app (codes "dump")) (file_rule false)) dirty_rule
 
 -- `check`, of files or of the standard input
 abbrev pub check_command : App
-check_command = with_rule (new_app (codes "check")) files_rule
+check_command = with_rule (with_rule (new_app (codes "check")) files_rule) dirty_rule
+
+-- a command of that name that looks into a file, with its file
+abbrev pub looking_command : Text → App
+looking_command name = with_rule (with_rule (new_app name) (file_rule true)) dirty_rule
+
+-- one that looks for a key of a file, by a path that must be given or may be left out, and whether slashes part the names of that
+abbrev pub keyed_command : Text → (is_required : Bool) → App
+keyed_command name is_required =
+    with_rule (with_rule (looking_command name) (place_rule (codes "path") is_required)) (flag_rule (codes "slash"))
 
 -- `ls`, of a file, with a path that may be left out, whether all below it is listed, and whether the whole hive is tested first
 abbrev pub list_command : App
-list_command =
-    with_rule
-    (with_rule (with_rule (with_rule (new_app (codes "ls")) (file_rule true)) (place_rule (codes "path") false)) (flag_rule (codes "tree")))
-    (flag_rule (codes "whole"))
+list_command = with_rule (with_rule (keyed_command (codes "ls") false) (flag_rule (codes "tree"))) (flag_rule (codes "whole"))
 
 -- `get`, of a file and a path, with a value's name that may be left out, whether the value's bytes alone are written, and whether the whole
 -- hive is tested first
 abbrev pub get_command : App
 get_command =
     with_rule
-    (with_rule
-    (with_rule (with_rule (with_rule (new_app (codes "get")) (file_rule true)) (place_rule (codes "path") true)) (place_rule (codes "value") false))
-    (flag_rule (codes "raw")))
+    (with_rule (with_rule (keyed_command (codes "get") true) (place_rule (codes "value") false)) (flag_rule (codes "raw")))
     (flag_rule (codes "whole"))
 
 -- `find`, of a file and a pattern, and where it is looked for
 abbrev pub find_command : App
 find_command =
-    with_rule
-    (with_rule (with_rule (with_rule (new_app (codes "find")) (file_rule true)) (place_rule (codes "pattern") true)) (option_rule (codes "in")))
-    case_rule
+    with_rule (with_rule (with_rule (looking_command (codes "find")) (place_rule (codes "pattern") true)) (option_rule (codes "in"))) case_rule
 
 -- `diff`, of an old file and a new one
 abbrev pub diff_command : App
-diff_command = with_rule (with_rule (new_app (codes "diff")) (place_rule (codes "old") true)) (place_rule (codes "new") true)
+diff_command =
+    with_rule (with_rule (with_rule (new_app (codes "diff")) (place_rule (codes "old") true)) (place_rule (codes "new") true)) dirty_rule
 
 -- `export`, of a file, with a path that may be left out, the form to write, and whether a `.reg` text is UTF-8
 abbrev pub export_command : App
-export_command =
-    with_rule
-    (with_rule (with_rule (with_rule (new_app (codes "export")) (file_rule true)) (place_rule (codes "path") false)) (required_rule (codes "as")))
-    (flag_rule (codes "utf8"))
+export_command = with_rule (with_rule (keyed_command (codes "export") false) (required_rule (codes "as"))) (flag_rule (codes "utf8"))
 
 -- `new`, of a file, and the name of its root
 abbrev pub new_command : App
@@ -137,6 +142,10 @@ saving_command name =
     with_rule
     (with_rule (with_rule (with_rule (with_rule (new_app name) (file_rule true)) (option_rule (codes "output"))) (flag_rule (codes "now"))) at_rule)
     (flag_rule (codes "dry-run"))
+
+-- `import`, of a text that is standard input where no file is named, and what stands in it for the root
+abbrev pub import_command : App
+import_command = with_rule (with_rule (saving_command (codes "import")) (place_rule (codes "text") false)) (option_rule (codes "prefix"))
 
 -- `edit`, which saves a file, and whether it goes on after lines that fail
 abbrev pub edit_command : App
@@ -184,22 +193,23 @@ abbrev pub saving_commands : App
 saving_commands =
     with_subcommand
     (with_subcommand (with_subcommand query_commands new_command.top) edit_command.top)
-    (saving_command (codes "import")).top
+    import_command.top
 
 -- `clap`'s command `regtool`, one of whose subcommands must be there: `run` with the options `--image` of a number of 32 bits and
 -- `--workers` of one from 1 to 16, which may be left out; `dump`, which may have a file, and `check`, which may have files; `ls` with a
--- file, a path that may be left out, and the flags `--tree` and `--whole`; `get` with a file, a path, a value's name that may be left out, and the flags
--- `--raw` and `--whole`; `find` with a file, a pattern, the option `--in` and the flag `--ignore-case` or `-i`; `diff` with two files; `export` with a file, a path that may
--- be left out, the option `--as`, which must be given, and the flag `--utf8`; `new` with a file and the option `--name`; and `edit` and
--- `import`, each with a file, the options `--output` and `--at`, which is a number of 64 bits, and the flags `--now` and `--dry-run`, and
--- `edit` with the flag `--keep-going`; and, as `import`, `set` with a path, a name, a type and data that may be left out, `create` with a
--- path, and `delete` with a path and a name that may be left out, all with the flag `--slash`, the first two with `--parents`, and the last
--- with `--tree`
+-- file, a path that may be left out, and the flags `--tree` and `--whole`; `get` with a file, a path, a value's name that may be left out,
+-- and the flags `--raw` and `--whole`; `find` with a file, a pattern, the option `--in` and the flag `--ignore-case` or `-i`; `diff` with
+-- two files; `export` with a file, a path that may be left out, the option `--as`, which must be given, and the flag `--utf8`, and all
+-- these with the flag `--dirty`, `ls`, `get` and `export` with `--slash`; `new` with a file and the option `--name`; and `edit` and
+-- `import`, each with a file, the options `--output` and `--at`, which is a number of 64 bits, and the flags `--now` and `--dry-run`,
+-- `edit` with the flag `--keep-going`, `import` with a text's file that may be left out and the option `--prefix`; and with a file and
+-- what both have `set` with a path, a name, a type and data that may be left out, `create` with a path, and `delete` with a path and a name
+-- that may be left out, all with the flag `--slash`, the first two with `--parents`, and the last with `--tree`; and `version`
 unfoldable pub regtool : App
 regtool =
     with_subcommand
-    (with_subcommand (with_subcommand saving_commands set_command.top) create_command.top)
-    delete_command.top
+    (with_subcommand (with_subcommand (with_subcommand saving_commands set_command.top) create_command.top) delete_command.top)
+    (new_app (codes "version")).top
 
 -- the kinds of fault that `clap` finds in the words of a command line, the program's name first: none where it takes them
 unfoldable pub faults_in : List (List ℕ) → Kinds
@@ -214,10 +224,6 @@ pub record IsMoment (text : List ℕ) (number : ℕ) : Type 0 where
   pub numeral : IsNumeral 10 (without_leading_plus text)
   pub small : digits_value 10 (without_leading_plus text) < 18446744073709551616
   pub value : number ≡ digits_value 10 (without_leading_plus text)
-
--- the flag of that name was given
-abbrev pub IsSet : Text → List Row → Type 0
-IsSet name rows = first_of name rows ≡ Some (codes "true")
 
 -- the moment that the matches of a command that saves ask for: that of the clock, or one that is given, and then not that of the clock too
 abbrev pub AsksToBegin : List Row → Begin → Type 0
@@ -245,7 +251,23 @@ AsksForPlaces rows places = places_asked (first_of (codes "in") rows) ≡ Some p
 abbrev pub AsksForForm : List Row → Form → Type 0
 AsksForForm rows (Reg is_utf8) = (first_of (codes "as") rows ≡ Some (codes "reg")) × ((is_utf8 ≡ true) ↔ IsSet (codes "utf8") rows)
 AsksForForm rows Json = first_of (codes "as") rows ≡ Some (codes "json")
+AsksForForm rows JsonLines = first_of (codes "as") rows ≡ Some (codes "jsonl")
 AsksForForm rows Csv = first_of (codes "as") rows ≡ Some (codes "csv")
+AsksForForm rows Html = first_of (codes "as") rows ≡ Some (codes "html")
+
+-- the file that the matches of a command that looks into it name, and whether it may be one that wasn't written to its end
+abbrev pub AsksForHive : List Row → HiveFile → Type 0
+AsksForHive rows hive = (first_of (codes "file") rows ≡ Some hive.file.now) × ((hive.is_dirty ≡ true) ↔ IsSet (codes "dirty") rows)
+
+-- the path of the key that they look for: the root's where they name none
+abbrev pub AsksForPath : List Row → (path : List ℕ) → Type 0
+AsksForPath rows path =
+    (is_slash : Bool) × ((is_slash ≡ true) ↔ IsSet (codes "slash") rows)
+    × (path ≡ path_in is_slash (unwrap_or (first_of (codes "path") rows) []))
+
+-- the name of the value that they look for: the default value's where they name none
+abbrev pub AsksForValue : List Row → (name : List ℕ) → Type 0
+AsksForValue rows name = name ≡ name_in (unwrap_or (first_of (codes "value") rows) [])
 
 -- the key's path that the matches of a command that changes it name
 abbrev pub AsksForKey : List Row → (path : List ℕ) → Type 0
@@ -279,31 +301,35 @@ AsksToChange found (DeleteKey path is_tree) =
 -- what a subcommand with its matches asks for
 abbrev pub Asks : Text × List Row → Request → Type 0
 Asks found (Stream request) = AsksOfStream found request
-Asks found (Dump file) = (found.0 ≡ codes "dump") × (first_of (codes "file") found.1 ≡ Some file.now)
-Asks found (Check files) = (found.0 ≡ codes "check") × (all_of (codes "files") found.1 ≡ Some (map (λ file. file.now) files.items))
-Asks found (Listing file path is_tree is_whole) =
-    (found.0 ≡ codes "ls") × (first_of (codes "file") found.1 ≡ Some file.now) × (path.now ≡ unwrap_or (first_of (codes "path") found.1) [])
+Asks found (Dump hive) = (found.0 ≡ codes "dump") × AsksForHive found.1 hive
+Asks found (Check files is_dirty) =
+    (found.0 ≡ codes "check") × (all_of (codes "files") found.1 ≡ Some (map (λ file. file.now) files.items))
+    × ((is_dirty ≡ true) ↔ IsSet (codes "dirty") found.1)
+Asks found (Listing hive path is_tree is_whole) =
+    (found.0 ≡ codes "ls") × AsksForHive found.1 hive × AsksForPath found.1 path.items
     × ((is_tree ≡ true) ↔ IsSet (codes "tree") found.1) × ((is_whole ≡ true) ↔ IsSet (codes "whole") found.1)
-Asks found (Get file path name is_raw is_whole) =
-    (found.0 ≡ codes "get") × (first_of (codes "file") found.1 ≡ Some file.now) × (first_of (codes "path") found.1 ≡ Some path.now)
-    × (name.now ≡ unwrap_or (first_of (codes "value") found.1) []) × ((is_raw ≡ true) ↔ IsSet (codes "raw") found.1)
-    × ((is_whole ≡ true) ↔ IsSet (codes "whole") found.1)
-Asks found (Find file pattern ignores_case places) =
-    (found.0 ≡ codes "find") × (first_of (codes "file") found.1 ≡ Some file.now)
+Asks found (Get hive path name is_raw is_whole) =
+    (found.0 ≡ codes "get") × AsksForHive found.1 hive × AsksForPath found.1 path.items × AsksForValue found.1 name.items
+    × ((is_raw ≡ true) ↔ IsSet (codes "raw") found.1) × ((is_whole ≡ true) ↔ IsSet (codes "whole") found.1)
+Asks found (Find hive pattern ignores_case places) =
+    (found.0 ≡ codes "find") × AsksForHive found.1 hive
     × (first_of (codes "pattern") found.1 ≡ Some pattern.now) × AsksForPlaces found.1 places
     × ((ignores_case ≡ true) ↔ IsSet (codes "ignore-case") found.1)
-Asks found (Diff old new) =
+Asks found (Diff old new is_dirty) =
     (found.0 ≡ codes "diff") × (first_of (codes "old") found.1 ≡ Some old.now) × (first_of (codes "new") found.1 ≡ Some new.now)
-Asks found (Export file path form) =
-    (found.0 ≡ codes "export") × (first_of (codes "file") found.1 ≡ Some file.now)
-    × (path.now ≡ unwrap_or (first_of (codes "path") found.1) []) × AsksForForm found.1 form
+    × ((is_dirty ≡ true) ↔ IsSet (codes "dirty") found.1)
+Asks found (Export hive path form) =
+    (found.0 ≡ codes "export") × AsksForHive found.1 hive × AsksForPath found.1 path.items × AsksForForm found.1 form
 Asks found (New file name) =
     (found.0 ≡ codes "new") × (first_of (codes "file") found.1 ≡ Some file.now)
     × (name.now ≡ unwrap_or (first_of (codes "name") found.1) (codes "ROOT"))
 Asks found (Edit edit keeps_going) =
     (found.0 ≡ codes "edit") × AsksToEdit found.1 edit × ((keeps_going ≡ true) ↔ IsSet (codes "keep-going") found.1)
-Asks found (Import edit) = (found.0 ≡ codes "import") × AsksToEdit found.1 edit
+Asks found (Import edit text prefix) =
+    (found.0 ≡ codes "import") × AsksToEdit found.1 edit × (option_map (λ text. text.now) text ≡ first_of (codes "text") found.1)
+    × (option_map (λ prefix. prefix.now) prefix ≡ first_of (codes "prefix") found.1)
 Asks found (Change edit change) = AsksToEdit found.1 edit × AsksToChange found change
+Asks found Version = found.0 ≡ codes "version"
 
 -- what a subcommand asks for, if there is one
 abbrev pub AsksIn : Option (Text × List Row) → Request → Type 0

@@ -18,6 +18,10 @@ pub record IsHiveCount (text : List ℕ) (number : ℕ) : Type 0 where
   pub some : 1 ≤ number
   pub few : number ≤ 16
 
+-- the flag of that name was given
+abbrev pub IsSet : Text → List Row → Type 0
+IsSet name rows = first_of name rows ≡ Some (codes "true")
+
 -- the option of that name was given
 abbrev pub IsGiven : Text → List Row → Type 0
 IsGiven name rows = (text : Text) × (one_of name rows ≡ Some text)
@@ -33,7 +37,7 @@ GivesBoth None = ⊥
 
 -- what a subcommand with its matches asks for of the standard streams: `run` for the replies; or for the image with the sequence number
 -- that its one option gives; or for as many hives as its other option gives, and their sessions' replies; never for both. `dump` and
--- `check` ask for something where they name no file
+-- `check` ask for something where they name no file, and not for one that wasn't written to its end
 abbrev pub AsksOfStream : Text × List Row → StreamRequest → Type 0
 AsksOfStream found Run =
     (found.0 ≡ codes "run") × (one_of (codes "image") found.1 ≡ None) × (one_of (codes "workers") found.1 ≡ None)
@@ -43,5 +47,5 @@ AsksOfStream found (Image sequence) =
 AsksOfStream found (Workers count) =
     (found.0 ≡ codes "run") × (one_of (codes "image") found.1 ≡ None)
     × ((text : Text) × (one_of (codes "workers") found.1 ≡ Some text) × IsHiveCount text count.number)
-AsksOfStream found Dump = (found.0 ≡ codes "dump") × (first_of (codes "file") found.1 ≡ None)
-AsksOfStream found Check = (found.0 ≡ codes "check") × (all_of (codes "files") found.1 ≡ None)
+AsksOfStream found Dump = (found.0 ≡ codes "dump") × (first_of (codes "file") found.1 ≡ None) × (IsSet (codes "dirty") found.1 → ⊥)
+AsksOfStream found Check = (found.0 ≡ codes "check") × (all_of (codes "files") found.1 ≡ None) × (IsSet (codes "dirty") found.1 → ⊥)

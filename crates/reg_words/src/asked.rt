@@ -1,14 +1,16 @@
 //! What the matches of a command line ask for.
 
-ghost use Rattle.std.specs.Prelude.{◌≡◌, ◌≤◌, ◌↔◌, true, codes, Some, IfOk, MatchOption};
+ghost use Rattle.std.specs.Prelude.{◌≡◌, ◌≤◌, ◌↔◌, true, codes, Some, None, IfOk, MatchOption};
 ghost use Rattle.clap.specs.Words.{first_of, found_of, rows_of, subcommand_rows_of};
-ghost use Rattle.reg_words.specs.StreamLines.{IsGiven, AreBothGiven, GivesBoth};
-ghost use Rattle.reg_words.specs.CommandLines.{IsSet, AsksToBegin, AsksToEdit, AsksForForm, AsksForPlaces, Asks, AsksIn};
+ghost use Rattle.reg_words.specs.StreamLines.{IsGiven, IsSet, AreBothGiven, GivesBoth};
+ghost use Rattle.reg_words.specs.CommandLines.{AsksToBegin, AsksToEdit, AsksForForm, AsksForPlaces, AsksForHive, AsksForPath, AsksForValue, Asks, AsksIn};
+ghost use Rattle.reg_words.specs.declared.request.Request.TheVariants.{Stream};
 ghost use Rattle.reg_words.specs.Internal.Commands.{IsFound};
 
 use crate::changes::change_asked;
 use crate::places::read_places;
-use crate::{Begin, EditRequest, Form, HiveCount, Places, Request, StreamRequest};
+use crate::typed::{read_name, read_path};
+use crate::{Begin, EditRequest, Form, HiveCount, HiveFile, Places, Request, StreamRequest};
 use clap::ArgMatches;
 use std::alloc::{AllocError, Global};
 
@@ -86,28 +88,76 @@ fn run_asked<'a>(matches: &ArgMatches<'a>) -> Option<Request<'a>>
     }
 }
 
-/// What `dump` is asked for: a file, or standard input where there is none.
-fn dump_asked<'a>(matches: &ArgMatches<'a>) -> Request<'a>
-    ensures { Asks (codes "dump", rows_of (found_of matches.now)) result }
+/// What is asked of a file that is only looked into; `None` where there is none.
+fn hive_asked<'a>(matches: &ArgMatches<'a>) -> Option<HiveFile<'a>>
+    ensures { MatchOption result (first_of (codes "file") (rows_of (found_of matches.now)) ≡ None)
+        (λ hive. AsksForHive (rows_of (found_of matches.now)) hive) }
 {
     match matches.get_str("file") {
-        Some(file) => Request::Dump(file),
-        None => Request::Stream(StreamRequest::Dump),
+        Some(file) => Some(HiveFile {
+            file,
+            is_dirty: is_set(matches, "dirty"),
+        }),
+        None => None,
     }
 }
 
-/// What `check` is asked for: some files, or standard input where there are none.
-fn check_asked<'a>(alloc: Global, matches: &ArgMatches<'a>) -> Result<Request<'a>, AllocError>
-    ensures { IfOk result (λ request. Asks (codes "check", rows_of (found_of matches.now)) request) }
+/// What is asked of standard input, where it isn't to be one that wasn't written to its end.
+fn stream_asked<'a>(stream: StreamRequest, matches: &ArgMatches<'a>) -> Option<Request<'a>>
+    ensures { MatchOption result (IsSet (codes "dirty") (rows_of (found_of matches.now)))
+        (λ request. (request ≡ Stream stream) × (IsSet (codes "dirty") (rows_of (found_of matches.now)) → ⊥)) }
+{
+    if is_set(matches, "dirty") {
+        return None;
+    }
+    Some(Request::Stream(stream))
+}
+
+/// What `dump` is asked for: a file, or standard input where there is none; `None` where that is to be one that wasn't written to its end.
+fn dump_asked<'a>(matches: &ArgMatches<'a>) -> Option<Request<'a>>
+    ensures { IsFound (Asks (codes "dump", rows_of (found_of matches.now))) result }
+{
+    match hive_asked(matches) {
+        Some(hive) => Some(Request::Dump(hive)),
+        None => stream_asked(StreamRequest::Dump, matches),
+    }
+}
+
+/// What `check` is asked for: some files, or standard input where there are none; `None` where that is to be one that wasn't written to
+/// its end.
+fn check_asked<'a>(
+    alloc: Global,
+    matches: &ArgMatches<'a>,
+) -> Result<Option<Request<'a>>, AllocError>
+    ensures { IfOk result (λ request. IsFound (Asks (codes "check", rows_of (found_of matches.now))) request) }
 {
     match matches.get_strs("files") {
         Some(files) => {
             let mut names = Vec::new(alloc);
             names.extend_from_slice(files)?;
-            Ok(Request::Check(names))
+            Ok(Some(Request::Check {
+                files: names,
+                is_dirty: is_set(matches, "dirty"),
+            }))
         }
-        None => Ok(Request::Stream(StreamRequest::Check)),
+        None => Ok(stream_asked(StreamRequest::Check, matches)),
     }
+}
+
+/// The path of the key that is looked for; the root's where there is none.
+fn path_asked(alloc: Global, matches: &ArgMatches<'_>) -> Result<Vec<u8>, AllocError>
+    ensures { IfOk result (λ path. AsksForPath (rows_of (found_of matches.now)) path.items) }
+{
+    let word = matches.get_str("path").unwrap_or("");
+    read_path(alloc, word, is_set(matches, "slash"))
+}
+
+/// The name of the value that is looked for; the default value's where there is none.
+fn value_asked(alloc: Global, matches: &ArgMatches<'_>) -> Result<Vec<u8>, AllocError>
+    ensures { IfOk result (λ name. AsksForValue (rows_of (found_of matches.now)) name.items) }
+{
+    let word = matches.get_str("value").unwrap_or("");
+    read_name(alloc, word)
 }
 
 /// Whether a flag was given.
@@ -174,7 +224,11 @@ fn import_asked<'a>(matches: &ArgMatches<'a>) -> Option<Request<'a>>
     ensures { IsFound (Asks (codes "import", rows_of (found_of matches.now))) result }
 {
     match edit_request(matches) {
-        Some(edit) => Some(Request::Import(edit)),
+        Some(edit) => Some(Request::Import {
+            edit,
+            text: matches.get_str("text"),
+            prefix: matches.get_str("prefix"),
+        }),
         None => None,
     }
 }
@@ -196,14 +250,18 @@ fn places_asked(matches: &ArgMatches<'_>) -> Option<Places>
 }
 
 /// What `find` is asked for of a file and a pattern; `None` where the places are none.
-fn find_of<'a>(file: &'a str, pattern: &'a str, matches: &ArgMatches<'a>) -> Option<Request<'a>>
-    requires file { first_of (codes "file") (rows_of (found_of matches.now)) ≡ Some file.now }
+fn find_of<'a>(
+    hive: HiveFile<'a>,
+    pattern: &'a str,
+    matches: &ArgMatches<'a>,
+) -> Option<Request<'a>>
+    requires hive { AsksForHive (rows_of (found_of matches.now)) hive }
     requires pattern { first_of (codes "pattern") (rows_of (found_of matches.now)) ≡ Some pattern.now }
     ensures { IsFound (Asks (codes "find", rows_of (found_of matches.now))) result }
 {
     match places_asked(matches) {
         Some(places) => Some(Request::Find {
-            file,
+            hive,
             pattern,
             ignores_case: is_set(matches, "ignore-case"),
             places,
@@ -213,12 +271,12 @@ fn find_of<'a>(file: &'a str, pattern: &'a str, matches: &ArgMatches<'a>) -> Opt
 }
 
 /// What `find` is asked for of a file; `None`, too, where it has no pattern.
-fn find_in<'a>(file: &'a str, matches: &ArgMatches<'a>) -> Option<Request<'a>>
-    requires { first_of (codes "file") (rows_of (found_of matches.now)) ≡ Some file.now }
+fn find_in<'a>(hive: HiveFile<'a>, matches: &ArgMatches<'a>) -> Option<Request<'a>>
+    requires { AsksForHive (rows_of (found_of matches.now)) hive }
     ensures { IsFound (Asks (codes "find", rows_of (found_of matches.now))) result }
 {
     match matches.get_str("pattern") {
-        Some(pattern) => find_of(file, pattern, matches),
+        Some(pattern) => find_of(hive, pattern, matches),
         None => None,
     }
 }
@@ -226,8 +284,8 @@ fn find_in<'a>(file: &'a str, matches: &ArgMatches<'a>) -> Option<Request<'a>>
 fn find_asked<'a>(matches: &ArgMatches<'a>) -> Option<Request<'a>>
     ensures { IsFound (Asks (codes "find", rows_of (found_of matches.now))) result }
 {
-    match matches.get_str("file") {
-        Some(file) => find_in(file, matches),
+    match hive_asked(matches) {
+        Some(hive) => find_in(hive, matches),
         None => None,
     }
 }
@@ -238,7 +296,11 @@ fn diff_of<'a>(old: &'a str, matches: &ArgMatches<'a>) -> Option<Request<'a>>
     ensures { IsFound (Asks (codes "diff", rows_of (found_of matches.now))) result }
 {
     match matches.get_str("new") {
-        Some(new) => Some(Request::Diff { old, new }),
+        Some(new) => Some(Request::Diff {
+            old,
+            new,
+            is_dirty: is_set(matches, "dirty"),
+        }),
         None => None,
     }
 }
@@ -264,8 +326,14 @@ fn form_of(name: &str, matches: &ArgMatches<'_>) -> Option<Form>
     if name == "json" {
         return Some(Form::Json);
     }
+    if name == "jsonl" {
+        return Some(Form::JsonLines);
+    }
     if name == "csv" {
         return Some(Form::Csv);
+    }
+    if name == "html" {
+        return Some(Form::Html);
     }
     None
 }
@@ -280,67 +348,62 @@ fn form_asked(matches: &ArgMatches<'_>) -> Option<Form>
     }
 }
 
-/// What `export` is asked for of a file; `None` where the form is none.
-fn export_of<'a>(file: &'a str, matches: &ArgMatches<'a>) -> Option<Request<'a>>
-    requires { first_of (codes "file") (rows_of (found_of matches.now)) ≡ Some file.now }
+/// What `export` is asked for of a key of a file; `None` where the form is none.
+fn export_of<'a>(hive: HiveFile<'a>, path: Vec<u8>, matches: &ArgMatches<'a>) -> Option<Request<'a>>
+    requires hive { AsksForHive (rows_of (found_of matches.now)) hive }
+    requires path { AsksForPath (rows_of (found_of matches.now)) path.items }
     ensures { IsFound (Asks (codes "export", rows_of (found_of matches.now))) result }
 {
     match form_asked(matches) {
-        Some(form) => Some(Request::Export {
-            file,
-            path: matches.get_str("path").unwrap_or(""),
-            form,
-        }),
+        Some(form) => Some(Request::Export { hive, path, form }),
         None => None,
     }
 }
 
-fn export_asked<'a>(matches: &ArgMatches<'a>) -> Option<Request<'a>>
-    ensures { IsFound (Asks (codes "export", rows_of (found_of matches.now))) result }
+fn export_asked<'a>(
+    alloc: Global,
+    matches: &ArgMatches<'a>,
+) -> Result<Option<Request<'a>>, AllocError>
+    ensures { IfOk result (λ request. IsFound (Asks (codes "export", rows_of (found_of matches.now))) request) }
 {
-    match matches.get_str("file") {
-        Some(file) => export_of(file, matches),
-        None => None,
+    match hive_asked(matches) {
+        Some(hive) => {
+            let path = path_asked(alloc, matches)?;
+            Ok(export_of(hive, path, matches))
+        }
+        None => Ok(None),
     }
 }
 
-fn list_asked<'a>(matches: &ArgMatches<'a>) -> Option<Request<'a>>
-    ensures { IsFound (Asks (codes "ls", rows_of (found_of matches.now))) result }
+fn list_asked<'a>(
+    alloc: Global,
+    matches: &ArgMatches<'a>,
+) -> Result<Option<Request<'a>>, AllocError>
+    ensures { IfOk result (λ request. IsFound (Asks (codes "ls", rows_of (found_of matches.now))) request) }
 {
-    match matches.get_str("file") {
-        Some(file) => Some(Request::Listing {
-            file,
-            path: matches.get_str("path").unwrap_or(""),
+    match hive_asked(matches) {
+        Some(hive) => Ok(Some(Request::Listing {
+            hive,
+            path: path_asked(alloc, matches)?,
             is_tree: is_set(matches, "tree"),
             is_whole: is_set(matches, "whole"),
-        }),
-        None => None,
+        })),
+        None => Ok(None),
     }
 }
 
-/// What `get` is asked for of a file; `None` where it has no path, which `clap` doesn't take.
-fn get_of<'a>(file: &'a str, matches: &ArgMatches<'a>) -> Option<Request<'a>>
-    requires { first_of (codes "file") (rows_of (found_of matches.now)) ≡ Some file.now }
-    ensures { IsFound (Asks (codes "get", rows_of (found_of matches.now))) result }
+fn get_asked<'a>(alloc: Global, matches: &ArgMatches<'a>) -> Result<Option<Request<'a>>, AllocError>
+    ensures { IfOk result (λ request. IsFound (Asks (codes "get", rows_of (found_of matches.now))) request) }
 {
-    match matches.get_str("path") {
-        Some(path) => Some(Request::Get {
-            file,
-            path,
-            name: matches.get_str("value").unwrap_or(""),
+    match hive_asked(matches) {
+        Some(hive) => Ok(Some(Request::Get {
+            hive,
+            path: path_asked(alloc, matches)?,
+            name: value_asked(alloc, matches)?,
             is_raw: is_set(matches, "raw"),
             is_whole: is_set(matches, "whole"),
-        }),
-        None => None,
-    }
-}
-
-fn get_asked<'a>(matches: &ArgMatches<'a>) -> Option<Request<'a>>
-    ensures { IsFound (Asks (codes "get", rows_of (found_of matches.now))) result }
-{
-    match matches.get_str("file") {
-        Some(file) => get_of(file, matches),
-        None => None,
+        })),
+        None => Ok(None),
     }
 }
 
@@ -368,16 +431,16 @@ fn command_asked<'a>(
         return Ok(run_asked(matches));
     }
     if name == "dump" {
-        return Ok(Some(dump_asked(matches)));
+        return Ok(dump_asked(matches));
     }
     if name == "check" {
-        return Ok(Some(check_asked(alloc, matches)?));
+        return check_asked(alloc, matches);
     }
     if name == "ls" {
-        return Ok(list_asked(matches));
+        return list_asked(alloc, matches);
     }
     if name == "get" {
-        return Ok(get_asked(matches));
+        return get_asked(alloc, matches);
     }
     if name == "find" {
         return Ok(find_asked(matches));
@@ -386,7 +449,7 @@ fn command_asked<'a>(
         return Ok(diff_asked(matches));
     }
     if name == "export" {
-        return Ok(export_asked(matches));
+        return export_asked(alloc, matches);
     }
     if name == "new" {
         return Ok(new_asked(matches));
@@ -396,6 +459,9 @@ fn command_asked<'a>(
     }
     if name == "import" {
         return Ok(import_asked(matches));
+    }
+    if name == "version" {
+        return Ok(Some(Request::Version));
     }
     change_asked(alloc, name, matches)
 }

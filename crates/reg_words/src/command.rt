@@ -3,7 +3,8 @@
 ghost use Rattle.std.specs.Prelude.{◌≡◌, IfOk, Ok, codes, true, false};
 ghost use Rattle.clap.specs.Words.{AddsSubcommand, new_app, with_rule};
 ghost use Rattle.clap.specs.declared.builder.command.Command.{Command as AnyCommand};
-ghost use Rattle.reg_words.specs.CommandLines.{option_rule, required_rule, flag_rule, place_rule, file_rule, files_rule, data_rule, at_rule, image_rule, workers_rule, case_rule};
+ghost use Rattle.reg_words.specs.CommandLines.{option_rule, required_rule, flag_rule, place_rule, file_rule, files_rule, data_rule, at_rule, image_rule, workers_rule, case_rule, dirty_rule};
+ghost use Rattle.reg_words.specs.CommandLines.{looking_command as looking_shape, keyed_command as keyed_shape, import_command as import_shape};
 ghost use Rattle.reg_words.specs.CommandLines.{run_command as run_shape, edit_command as edit_shape};
 ghost use Rattle.reg_words.specs.CommandLines.{dump_command as dump_shape, check_command as check_shape, list_command as list_shape};
 ghost use Rattle.reg_words.specs.CommandLines.{get_command as get_shape, find_command as find_shape, diff_command as diff_shape};
@@ -67,15 +68,31 @@ fn file_arg<'a>(alloc: Global, is_required: bool, help: &'a str) -> Arg<'a>
 }
 
 /// A key, by its path.
-fn path_arg<'a>(alloc: Global) -> Arg<'a>
-    ensures { IsRule (place_rule (codes "path") false) result }
+fn path_arg<'a>(alloc: Global, is_required: bool) -> Arg<'a>
+    ensures { IsRule (place_rule (codes "path") is_required) result }
 {
     place_arg(
         alloc,
         "path",
-        false,
+        is_required,
         "PATH",
-        "The key, the root where none is given",
+        "The key, as it is typed: %HH stands for that byte; '' is the root",
+    )
+}
+
+fn slash_arg<'a>(alloc: Global) -> Arg<'a>
+    ensures { IsRule (flag_rule (codes "slash")) result }
+{
+    flag_arg(alloc, "slash", "Read / in PATH as a backslash")
+}
+
+fn dirty_arg<'a>(alloc: Global) -> Arg<'a>
+    ensures { IsRule dirty_rule result }
+{
+    flag_arg(
+        alloc,
+        "dirty",
+        "Read a file as it stands, too, that wasn't written to its end",
     )
 }
 
@@ -190,53 +207,62 @@ fn run_command<'a>(alloc: Global) -> Result<Command<'a>, AllocError>
 fn dump_command<'a>(alloc: Global) -> Result<Command<'a>, AllocError>
     ensures { IfOk result (λ command. IsCommand dump_shape command) }
 {
-    bare_command(alloc, "dump", "Tells the keys of a hive").arg(file_arg(
-        alloc,
-        false,
-        "The hive, in place of standard input",
-    ))
+    bare_command(alloc, "dump", "Tells the keys of a hive")
+        .arg(file_arg(alloc, false, "The hive, in place of standard input"))?
+        .arg(dirty_arg(alloc))
 }
 
 fn check_command<'a>(alloc: Global) -> Result<Command<'a>, AllocError>
     ensures { IfOk result (λ command. IsCommand check_shape command) }
 {
-    bare_command(alloc, "check", "Loads hives and counts their keys").arg(files_arg(alloc))
+    bare_command(alloc, "check", "Loads hives and counts their keys")
+        .arg(files_arg(alloc))?
+        .arg(dirty_arg(alloc))
+}
+
+/// A command that looks into a file, with its file.
+fn looking_command<'a>(
+    alloc: Global,
+    name: &'a str,
+    about: &'a str,
+) -> Result<Command<'a>, AllocError>
+    ensures { IfOk result (λ command. IsCommand (looking_shape name.now) command) }
+{
+    file_command(alloc, name, about, "The hive")?.arg(dirty_arg(alloc))
+}
+
+/// A command that looks for a key of a file, by its path.
+fn keyed_command<'a>(
+    alloc: Global,
+    name: &'a str,
+    about: &'a str,
+    is_required: bool,
+) -> Result<Command<'a>, AllocError>
+    ensures { IfOk result (λ command. IsCommand (keyed_shape name.now is_required) command) }
+{
+    looking_command(alloc, name, about)?
+        .arg(path_arg(alloc, is_required))?
+        .arg(slash_arg(alloc))
 }
 
 fn list_command<'a>(alloc: Global) -> Result<Command<'a>, AllocError>
     ensures { IfOk result (λ command. IsCommand list_shape command) }
 {
-    file_command(
-        alloc,
-        "ls",
-        "Lists the values and subkeys of a key",
-        "The hive",
-    )?
-    .arg(path_arg(alloc))?
-    .arg(flag_arg(alloc, "tree", "List all that is below it"))?
-    .arg(flag_arg(alloc, "whole", "Test the whole hive first"))
-}
-
-/// `get` with its file and its path.
-fn value_command<'a>(alloc: Global) -> Result<Command<'a>, AllocError>
-    ensures { IfOk result (λ command. IsCommand
-        (with_rule (with_rule (new_app (codes "get")) (file_rule true)) (place_rule (codes "path") true)) command) }
-{
-    file_command(alloc, "get", "Tells the data of a value", "The hive")?.arg(place_arg(
-        alloc, "path", true, "PATH", "The key",
-    ))
+    keyed_command(alloc, "ls", "Lists the values and subkeys of a key", false)?
+        .arg(flag_arg(alloc, "tree", "List all that is below it"))?
+        .arg(flag_arg(alloc, "whole", "Test the whole hive first"))
 }
 
 fn get_command<'a>(alloc: Global) -> Result<Command<'a>, AllocError>
     ensures { IfOk result (λ command. IsCommand get_shape command) }
 {
-    value_command(alloc)?
+    keyed_command(alloc, "get", "Tells the data of a value", true)?
         .arg(place_arg(
             alloc,
             "value",
             false,
             "NAME",
-            "The value, the default one where none is given",
+            "The value, as it is typed; @, or nothing, for the default one",
         ))?
         .arg(flag_arg(alloc, "raw", "Write its bytes"))?
         .arg(flag_arg(alloc, "whole", "Test the whole hive first"))
@@ -310,23 +336,35 @@ fn edit_command<'a>(alloc: Global) -> Result<Command<'a>, AllocError>
 }
 
 fn import_command<'a>(alloc: Global) -> Result<Command<'a>, AllocError>
-    ensures { IfOk result (λ command. IsCommand (saving_shape (codes "import")) command) }
+    ensures { IfOk result (λ command. IsCommand import_shape command) }
 {
     saving_command(
         alloc,
         "import",
-        "Makes the entries of a .reg text from standard input in a hive, and saves it",
-    )
+        "Makes the entries of a .reg text in a hive, and saves it",
+    )?
+    .arg(place_arg(
+        alloc,
+        "text",
+        false,
+        "TEXT",
+        "The .reg text, standard input where none is given",
+    ))?
+    .arg(option_arg(
+        alloc,
+        "prefix",
+        "FRONT",
+        "What stands in the text for the hive's root, its name where none is given",
+    ))
 }
 
 fn find_command<'a>(alloc: Global) -> Result<Command<'a>, AllocError>
     ensures { IfOk result (λ command. IsCommand find_shape command) }
 {
-    file_command(
+    looking_command(
         alloc,
         "find",
         "Tells the keys and values that a pattern matches",
-        "The hive",
     )?
     .arg(place_arg(alloc, "pattern", true, "PATTERN", "A regular expression"))?
     .arg(option_arg(
@@ -343,47 +381,33 @@ fn diff_command<'a>(alloc: Global) -> Result<Command<'a>, AllocError>
 {
     bare_command(alloc, "diff", "Tells what differs between two hives")
         .arg(place_arg(alloc, "old", true, "OLD", "A hive"))?
-        .arg(place_arg(alloc, "new", true, "NEW", "Another one"))
-}
-
-/// `export` with its file and its path.
-fn branch_command<'a>(alloc: Global) -> Result<Command<'a>, AllocError>
-    ensures { IfOk result (λ command. IsCommand
-        (with_rule (with_rule (new_app (codes "export")) (file_rule true)) (place_rule (codes "path") false)) command) }
-{
-    file_command(
-        alloc,
-        "export",
-        "Writes a key with all below it as text",
-        "The hive",
-    )?
-    .arg(path_arg(alloc))
+        .arg(place_arg(alloc, "new", true, "NEW", "Another one"))?
+        .arg(dirty_arg(alloc))
 }
 
 fn export_command<'a>(alloc: Global) -> Result<Command<'a>, AllocError>
     ensures { IfOk result (λ command. IsCommand export_shape command) }
 {
-    branch_command(alloc)?
-        .arg(required_arg(
-            alloc,
-            "as",
-            "FORM",
-            "The form of the text: reg, json or csv",
-        ))?
-        .arg(flag_arg(alloc, "utf8", "Write a .reg text in UTF-8"))
+    keyed_command(
+        alloc,
+        "export",
+        "Writes a key with all below it as text",
+        false,
+    )?
+    .arg(required_arg(
+        alloc,
+        "as",
+        "FORM",
+        "The form of the text: reg, json, jsonl, csv or html",
+    ))?
+    .arg(flag_arg(alloc, "utf8", "Write a .reg text in UTF-8"))
 }
 
 /// A command that changes a key, with its file and its path.
 fn key_command<'a>(alloc: Global, name: &'a str, about: &'a str) -> Result<Command<'a>, AllocError>
     ensures { IfOk result (λ command. IsCommand (with_rule (saving_shape name.now) (place_rule (codes "path") true)) command) }
 {
-    saving_command(alloc, name, about)?.arg(place_arg(
-        alloc,
-        "path",
-        true,
-        "PATH",
-        "The key, as it is typed: %HH stands for that byte",
-    ))
+    saving_command(alloc, name, about)?.arg(path_arg(alloc, true))
 }
 
 /// A command that changes a key, with all that these have in common.
@@ -394,7 +418,7 @@ fn changing_command<'a>(
 ) -> Result<Command<'a>, AllocError>
     ensures { IfOk result (λ command. IsCommand (changing_shape name.now) command) }
 {
-    key_command(alloc, name, about)?.arg(flag_arg(alloc, "slash", "Read / in PATH as a backslash"))
+    key_command(alloc, name, about)?.arg(slash_arg(alloc))
 }
 
 /// `set` with its file, its path, and the value's name and type.
@@ -457,6 +481,12 @@ fn delete_command<'a>(alloc: Global) -> Result<Command<'a>, AllocError>
     .arg(flag_arg(alloc, "tree", "Take all keys below it away, too"))
 }
 
+fn version_command<'a>(alloc: Global) -> Result<Command<'a>, AllocError>
+    ensures { IfOk result (λ command. IsCommand (new_app (codes "version")) command) }
+{
+    Ok(bare_command(alloc, "version", "Tells the tool's version"))
+}
+
 /// The commands that work on the standard streams.
 fn stream_commands<'a>(alloc: Global) -> Result<Command<'a>, AllocError>
     ensures { IfOk result (λ command. IsCommand stream_shape command) }
@@ -493,5 +523,6 @@ pub fn whole_command<'a>(alloc: Global) -> Result<Command<'a>, AllocError>
 {
     let setting = with_made(saving_commands(alloc)?, set_command(alloc))?;
     let creating = with_made(setting, create_command(alloc))?;
-    with_made(creating, delete_command(alloc))
+    let deleting = with_made(creating, delete_command(alloc))?;
+    with_made(deleting, version_command(alloc))
 }

@@ -4,7 +4,7 @@
 //! words, or that they ask for nothing, with the cause ([`WordsFault`]); [`read_stream_words`] does so for what is asked of the standard
 //! streams alone; [`told`] is just the line that tells a change, as `specs/ChangeLines.antt` has it. It stands on `clap`, and on reg_text,
 //! which writes names and data. Its types are [`Request`] and what that holds: [`StreamRequest`] with [`HiveCount`], [`EditRequest`] with
-//! [`Begin`], [`KeyChange`] with [`Contents`], [`Places`] and [`Form`].
+//! [`Begin`], [`HiveFile`], [`KeyChange`] with [`Contents`], [`Places`] and [`Form`].
 //!
 //! `command` is the command as `clap` reads it; `asked` and `changes` say what its matches ask for, `places` reads where a pattern is searched
 //! for, `typed` a change, and `reasons` says which word isn't understood.
@@ -32,7 +32,7 @@ use crate::reasons::reason;
 use clap::error::ErrorKind;
 use clap::{ArgMatches, Command, Error};
 pub use fault::WordsFault;
-pub use request::{Begin, EditRequest, Form, HiveCount, Places, Request, StreamRequest};
+pub use request::{Begin, EditRequest, Form, HiveCount, HiveFile, Places, Request, StreamRequest};
 use std::alloc::Global;
 pub use typed::{Contents, KeyChange, told};
 

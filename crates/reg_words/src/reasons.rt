@@ -42,7 +42,10 @@ fn command_reason(
     }
     if name == "export" {
         let form = matches.get_str("as").unwrap_or("");
-        return format!(in alloc; "'{form}' is no form: reg, json or csv");
+        return format!(in alloc; "'{form}' is no form: reg, json, jsonl, csv or html");
+    }
+    if name == "dump" || name == "check" {
+        return format!(in alloc; "--dirty goes with a file, and none is named");
     }
     saving_reason(alloc, name, matches)
 }

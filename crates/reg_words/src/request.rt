@@ -59,8 +59,20 @@ pub enum Form {
     Reg { is_utf8: bool },
     /// JSON: an array with an object for each key.
     Json,
+    /// JSON lines: an object for each key, in a line of its own.
+    JsonLines,
     /// CSV: a row for each key and each value.
     Csv,
+    /// HTML: a page that shows keys and values.
+    Html,
+}
+
+/// A hive file that is only looked into.
+#[derive(Clone, Copy, Debug, PartialEq, Eq)]
+pub struct HiveFile<'a> {
+    pub file: &'a str,
+    /// Whether it is read as it stands, too, where it wasn't written to its end.
+    pub is_dirty: bool,
 }
 
 /// What a command that saves a file is asked for of it.
@@ -80,14 +92,18 @@ pub enum Request<'a> {
     /// What is done with the standard streams alone.
     Stream(StreamRequest),
     /// The text of a file's tree.
-    Dump(&'a str),
+    Dump(HiveFile<'a>),
     /// How many keys and values each of some files has.
-    Check(Vec<&'a str>),
+    Check {
+        files: Vec<&'a str>,
+        /// Whether they are read as they stand, too, where they weren't written to their end.
+        is_dirty: bool,
+    },
     /// What is below a key of a file.
     Listing {
-        file: &'a str,
+        hive: HiveFile<'a>,
         /// The key's path; the empty one is the root's.
-        path: &'a str,
+        path: Vec<u8>,
         /// Whether all that is below it is listed, and not only what is right below.
         is_tree: bool,
         /// Whether the whole hive is tested first, and not only what is read on the way.
@@ -95,11 +111,11 @@ pub enum Request<'a> {
     },
     /// A value of a file.
     Get {
-        file: &'a str,
+        hive: HiveFile<'a>,
         /// Its key's path; the empty one is the root's.
-        path: &'a str,
+        path: Vec<u8>,
         /// Its name; the empty one is that of the default value.
-        name: &'a str,
+        name: Vec<u8>,
         /// Whether its bytes are written as they are.
         is_raw: bool,
         /// Whether the whole hive is tested first, and not only what is read on the way.
@@ -107,7 +123,7 @@ pub enum Request<'a> {
     },
     /// The keys and values of a file that a pattern matches.
     Find {
-        file: &'a str,
+        hive: HiveFile<'a>,
         /// A regular expression.
         pattern: &'a str,
         /// Whether upper and lower case are the same.
@@ -118,12 +134,14 @@ pub enum Request<'a> {
     Diff {
         old: &'a str,
         new: &'a str,
+        /// Whether they are read as they stand, too, where they weren't written to their end.
+        is_dirty: bool,
     },
     /// A key of a file with all that is below it, in another form of text.
     Export {
-        file: &'a str,
+        hive: HiveFile<'a>,
         /// The key's path; the empty one is the root's.
-        path: &'a str,
+        path: Vec<u8>,
         form: Form,
     },
     /// A fresh hive in a new file.
@@ -139,10 +157,18 @@ pub enum Request<'a> {
         keeps_going: bool,
     },
     /// The entries of a .reg text made in the hive of a file.
-    Import(EditRequest<'a>),
+    Import {
+        edit: EditRequest<'a>,
+        /// The text's file, in place of standard input.
+        text: Option<&'a str>,
+        /// What stands in the text for the hive's root, in place of the root's name.
+        prefix: Option<&'a str>,
+    },
     /// One change made in the hive of a file.
     Change {
         edit: EditRequest<'a>,
         change: KeyChange,
     },
+    /// The tool's version.
+    Version,
 }

@@ -41,3 +41,4 @@ pub record IsOther (name : List ℕ) : Type 0 where
   pub no_new_word : name ≡ codes "new" → ⊥
   pub no_edit_word : name ≡ codes "edit" → ⊥
   pub no_import_word : name ≡ codes "import" → ⊥
+  pub no_version_word : name ≡ codes "version" → ⊥

@@ -5,7 +5,12 @@ use Rattle.reg_words.proofs.AskedWords.{first_is, no_diff}
 use Rattle.reg_words.proofs.asked.diff_of.Goals as goal
 
 pub returns-in-Some : goal.returns-in-Some
-returns-in-Some c = (refl, c.requires, first_is (found_of c.args.matches.now) (codes "new") _ c.get_str.ensures ∙ ap (option_map (λ s. s.now)) c.in-Some.is)
+returns-in-Some c = (
+  refl,
+  c.requires,
+  first_is (found_of c.args.matches.now) (codes "new") _ c.get_str.ensures ∙ ap (option_map (λ s. s.now)) c.in-Some.is,
+  c.is_set.ensures,
+)
 
 pub returns-in-None : goal.returns-in-None
 returns-in-None c =

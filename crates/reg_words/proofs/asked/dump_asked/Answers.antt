@@ -1,13 +1,12 @@
-use Rattle.std.proofs.Common.{◌∙◌, ap, codes, refl}
-use Rattle.std.specs.Prelude.{option_map}
-use Rattle.clap.specs.Words.{found_of}
-use Rattle.reg_words.proofs.AskedWords.{first_is}
+use Rattle.std.proofs.Common.{refl}
+use Rattle.clap.specs.Words.{found_of, rows_of}
+use Rattle.reg_words.proofs.AskedWords.{dump_streamed, looked_at, not_looked_at}
 use Rattle.reg_words.proofs.asked.dump_asked.Goals as goal
 
 pub returns-in-Some : goal.returns-in-Some
-returns-in-Some c =
-    (refl, first_is (found_of c.args.matches.now) (codes "file") _ c.get_str.ensures ∙ ap (option_map (λ s. s.now)) c.in-Some.is)
+returns-in-Some c = (refl, looked_at _ _ c.hive_asked.result c.in-Some.hive c.in-Some.is c.hive_asked.ensures)
 
 pub returns-in-None : goal.returns-in-None
 returns-in-None c =
-    (refl, first_is (found_of c.args.matches.now) (codes "file") _ c.get_str.ensures ∙ ap (option_map (λ s. s.now)) c.in-None.is)
+    dump_streamed (rows_of (found_of c.args.matches.now)) c.stream_asked.result (not_looked_at _ _ c.hive_asked.result c.in-None.is c.hive_asked.ensures)
+    c.stream_asked.ensures

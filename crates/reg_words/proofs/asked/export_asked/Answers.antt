@@ -1,14 +1,11 @@
-use Rattle.std.proofs.Common.{◌∙◌, ap, codes, inl}
-use Rattle.std.specs.Prelude.{option_map}
+use Rattle.std.proofs.Common.{inl}
 use Rattle.clap.specs.Words.{found_of, rows_of}
-use Rattle.reg_words.proofs.AskedWords.{first_is, no_export}
+use Rattle.reg_words.proofs.AskedWords.{no_export, looked_at, not_looked_at}
 use Rattle.reg_words.proofs.asked.export_asked.Goals as goal
 
-pub export_of-requires : goal.export_of-requires
-export_of-requires c =
-    first_is (found_of c.args.matches.now) (codes "file") _ c.get_str.ensures ∙ ap (option_map (λ s. s.now)) c.in-Some.is
+pub export_of-requires-clause-hive : goal.export_of-requires-clause-hive
+export_of-requires-clause-hive c = looked_at _ _ c.hive_asked.result c.in-Some.hive c.in-Some.is c.hive_asked.ensures
 
 pub returns-in-None : goal.returns-in-None
 returns-in-None c =
-    no_export (rows_of (found_of c.args.matches.now))
-    (inl (first_is (found_of c.args.matches.now) (codes "file") _ c.get_str.ensures ∙ ap (option_map (λ s. s.now)) c.in-None.is))
+    no_export (rows_of (found_of c.args.matches.now)) (inl (not_looked_at _ _ c.hive_asked.result c.in-None.is c.hive_asked.ensures))

@@ -6,7 +6,7 @@ use Rattle.reg_words.proofs.asked.find_of.Goals as goal
 pub returns-in-Some : goal.returns-in-Some
 returns-in-Some c = (
   refl,
-  c.requires.file,
+  c.requires.hive,
   c.requires.pattern,
   found_there _ c.places_asked.result c.in-Some.places c.in-Some.is c.places_asked.ensures,
   c.is_set.ensures,

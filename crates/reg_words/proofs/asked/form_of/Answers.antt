@@ -10,3 +10,4 @@ returns-then-eq c = (c.requires ∙ ap Some (search rules), c.is_set-is_utf8.ens
 pub returns : goal.returns
 returns c =
     other_form (rows_of (found_of c.args.matches.now)) c.args.name.now c.requires (λ e. search (rules, e)) (λ e. search (rules, e)) (λ e. search (rules, e))
+    (λ e. search (rules, e)) (λ e. search (rules, e))

@@ -1,10 +1,15 @@
-use Rattle.std.proofs.Common.{refl}
+use Rattle.std.proofs.Common.{◌∙◌, codes, refl, sym}
 use Rattle.clap.specs.Words.{found_of, rows_of}
-use Rattle.reg_words.proofs.AskedWords.{no_import, found_there, never_found}
+use Rattle.reg_words.proofs.AskedWords.{first_is, no_import, found_there, never_found}
 use Rattle.reg_words.proofs.asked.import_asked.Goals as goal
 
 pub returns-in-Some : goal.returns-in-Some
-returns-in-Some c = (refl, found_there _ c.edit_request.result c.in-Some.edit c.in-Some.is c.edit_request.ensures)
+returns-in-Some c = (
+  refl,
+  found_there _ c.edit_request.result c.in-Some.edit c.in-Some.is c.edit_request.ensures,
+  sym (first_is (found_of c.args.matches.now) (codes "text") _ c.get_str.ensures),
+  sym (first_is (found_of c.args.matches.now) (codes "prefix") _ c.get_str-in-Some.ensures),
+)
 
 pub returns-in-None : goal.returns-in-None
 returns-in-None c = no_import (rows_of (found_of c.args.matches.now)) (never_found _ c.edit_request.result c.in-None.is c.edit_request.ensures)

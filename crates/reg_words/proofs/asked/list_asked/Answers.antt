@@ -1,19 +1,17 @@
-use Rattle.std.proofs.Common.{[], ◌∙◌, ap, codes, refl}
-use Rattle.std.specs.Prelude.{option_map}
+use Rattle.std.proofs.Common.{refl}
 use Rattle.clap.specs.Words.{found_of, rows_of}
-use Rattle.reg_words.proofs.AskedWords.{first_is, no_list, given_or}
+use Rattle.reg_words.proofs.AskedWords.{no_list, looked_at, not_looked_at}
 use Rattle.reg_words.proofs.asked.list_asked.Goals as goal
 
-pub returns-in-Some : goal.returns-in-Some
-returns-in-Some c = (
+pub returns-in_ok-path_asked-in-Some : goal.returns-in_ok-path_asked-in-Some
+returns-in_ok-path_asked-in-Some c = (
   refl,
-  first_is (found_of c.args.matches.now) (codes "file") _ c.get_str.ensures ∙ ap (option_map (λ s. s.now)) c.in-Some.is,
-  given_or (found_of c.args.matches.now) (codes "path") [] c.get_str-in-Some.result (λ s. s.now) _ _ c.get_str-in-Some.ensures c.unwrap_or.ensures refl,
+  looked_at _ _ c.hive_asked.result c.in-Some.hive c.in-Some.is c.hive_asked.ensures,
+  c.in_ok-path_asked-in-Some.ensures,
   c.is_set.ensures,
   c.is_set-in-Some.ensures,
 )
 
 pub returns-in-None : goal.returns-in-None
 returns-in-None c =
-    no_list (rows_of (found_of c.args.matches.now))
-    (first_is (found_of c.args.matches.now) (codes "file") _ c.get_str.ensures ∙ ap (option_map (λ s. s.now)) c.in-None.is)
+    no_list (rows_of (found_of c.args.matches.now)) (not_looked_at _ _ c.hive_asked.result c.in-None.is c.hive_asked.ensures)

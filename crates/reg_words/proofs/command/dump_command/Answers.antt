@@ -3,4 +3,6 @@ use Rattle.reg_words.proofs.CommandShapes.{with_arg}
 use Rattle.reg_words.proofs.command.dump_command.Goals as goal
 
 pub returns : goal.returns
-returns c = IfOk-weaker c.arg.result _ _ (λ r adds. with_arg _ r _ _ _ c.bare_command.ensures c.file_arg.ensures adds) c.arg.ensures
+returns c =
+    let with_file = with_arg _ _ _ _ _ c.bare_command.ensures c.file_arg.ensures c.in_ok-arg.ensures in
+    IfOk-weaker c.arg-2.result _ _ (λ r adds. with_arg _ r _ _ _ with_file c.dirty_arg.ensures adds) c.arg-2.ensures
