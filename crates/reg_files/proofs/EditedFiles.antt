@@ -1,5 +1,5 @@
 -- What an edit or an import of a file left, put together.
-use Rattle.std.proofs.Common.{◌≡◌, ℕ, Bool, false, List, Option, inl, inr}
+use Rattle.std.proofs.Common.{◌≡◌, ◌⊎◌, ℕ, Bool, false, List, Option, inl, inr, subst}
 use Rattle.reg_words.specs.declared.request.EditRequest.{EditRequest}
 use Rattle.reg_edits.specs.Edits.{Edits, EditStops}
 use Rattle.reg_edits.specs.TextImports.{Imports, ImportEnds}
@@ -7,7 +7,7 @@ use Rattle.reg_edits.specs.declared.edits.Edited.{Edited}
 use Rattle.reg_edits.specs.declared.edits.EditFault.{EditFault}
 use Rattle.reg_edits.specs.declared.importing.ImportEnd.{ImportEnd}
 use Rattle.reg_files.specs.Cuts.{is_edit_cut}
-use Rattle.reg_files.specs.Serving.{IsGiven, IsNone, EditsFile, StopsEditing, Enters, StopsImporting}
+use Rattle.reg_files.specs.Serving.{IsGiven, IsNone, EditsFile, StopsEditing, Enters, OfText, StopsImporting}
 
 module _ (edit : EditRequest) (begin : ℕ) (given : IsGiven edit.begin begin) where
   -- something ended the script
@@ -18,9 +18,9 @@ module _ (edit : EditRequest) (begin : ℕ) (given : IsGiven edit.begin begin) w
       inr (inl (fault, same, (file, file_left, (begin, given, h))))
 
   -- or the text
-  pub import_stopped : (fault : ImportEnd) (file file_left unread left : Option (List ℕ)) → ImportEnds fault begin file file_left unread left →
-      StopsImporting edit unread left
-  import_stopped fault file file_left unread left h = inr (inl (fault, (file, file_left, (begin, given, h))))
+  pub import_stopped : (front : Option (List ℕ)) (fault : ImportEnd) (file file_left unread left : Option (List ℕ)) →
+      ImportEnds fault front begin file file_left unread left → StopsImporting edit front unread left
+  import_stopped front fault file file_left unread left h = inl (fault, (file, file_left, (begin, given, h)))
 
 module _ (edit : EditRequest) (begin : ℕ) (edited : Edited) (given : IsGiven edit.begin begin) where
   module _ (keeps_going : Bool) (file file_left unread left before after : Option (List ℕ))
@@ -33,5 +33,16 @@ module _ (edit : EditRequest) (begin : ℕ) (edited : Edited) (given : IsGiven e
     pub edited_in_vain : (cut : Bool) → cut ≡ false → StopsEditing edit keeps_going cut unread left before after
     edited_in_vain cut no_cut = inr (inr (no_cut, (file, file_left, (begin, edited, given, tt, edits))))
 
-  pub entered : (file file_left unread left : Option (List ℕ)) → Imports begin edited file file_left unread left → Enters edit unread left
-  entered file file_left unread left imports = (file, file_left, (begin, edited, given, imports))
+  pub entered : (front : Option (List ℕ)) (file file_left unread left : Option (List ℕ)) → Imports front begin edited file file_left unread left →
+      Enters edit front unread left
+  entered front file file_left unread left imports = (file, file_left, (begin, edited, given, imports))
+
+-- ---- the front that stands for the root, as it is handed on
+
+module _ (given front : Option (List ℕ)) (edit : EditRequest) (is_named : Bool) (unread left : Option (List ℕ)) (same : given ≡ front) where
+  pub text_entered : OfText is_named unread left (Enters edit given) → OfText is_named unread left (Enters edit front)
+  text_entered h = subst (λ f. OfText is_named unread left (Enters edit f)) same h
+
+  pub text_stopped : ((left ≡ unread) ⊎ OfText is_named unread left (StopsImporting edit given)) →
+      (left ≡ unread) ⊎ OfText is_named unread left (StopsImporting edit front)
+  text_stopped h = subst (λ f. (left ≡ unread) ⊎ OfText is_named unread left (StopsImporting edit f)) same h

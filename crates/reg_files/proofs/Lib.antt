@@ -1,6 +1,8 @@
 mod CheckedFiles
 mod ChangedFiles
 mod EditedFiles
+mod Fronts
+mod Mending
 mod Outcomes
 mod Statuses
 mod StoppedCommands

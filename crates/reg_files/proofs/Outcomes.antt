@@ -1,14 +1,16 @@
 -- What a status says of a request, by what its call answered.
-use Rattle.std.proofs.Common.{◌≡◌, ◌≤◌, ◌∙◌, ◌++◌, ◌⊎◌, ℕ, zero, suc, Bool, true, false, ◌&&◌, List, Option, codes, refl, sym, subst, inl, inr, arith}
+use Rattle.std.proofs.Common.{◌≡◌, ◌≤◌, ◌∙◌, ◌++◌, ◌⊎◌, ℕ, zero, suc, Bool, true, false, ◌&&◌, List, [], Option, codes, refl, sym, subst, inl, inr, arith}
 use Rattle.std.specs.Prelude.{Result, Ok, Err, OnOk, OnErr, IfOk, IfErr, MatchResult, ⊤}
 use Rattle.std.specs.Io.KnownBytes.{Appends}
-use Rattle.reg_command.specs.Failures.{IsSaid}
+use Rattle.reg_command.specs.Failures.{Does, IsSaid}
 use Rattle.reg_text.specs.Texts.{line_feed}
+use Rattle.reg_words.specs.declared.request.HiveFile.{HiveFile}
 use Rattle.reg_words.specs.declared.request.Request.{Request}
 use Rattle.reg_words.specs.declared.request.StreamRequest.TheVariants as stream
-use Rattle.reg_files.specs.Serving.{Answers, AnswerStops, AreOther, AreSame, Checks, ChecksFiles, Fails, Serves, StopsDiffing, IsReported}
-use Rattle.reg_files.specs.Serving.{name_before, NameStops}
-use Rattle.reg_files.specs.Internal.Outcomes.{Outcome, Settles, status_of}
+use Rattle.reg_files.specs.Serving.{AnswerStops, AreOther, AreSame, Checks, ChecksFiles, CountStops, Fails, Serves, StopsDiffing, IsReported}
+use Rattle.reg_files.specs.Serving.{as_read, name_before, Compares, CompareFails, IsOpened, IsUnopened, LookFails, Looks, NameStops, OfImage}
+use Rattle.reg_files.specs.Internal.Counted.{IsCounted}
+use Rattle.reg_files.specs.Internal.Outcomes.{Outcome, Settles, status_of, IsSameBehind, IsOtherBehind}
 
 -- what is reported where one knows of the output whether somebody reads it
 pub reported_as : (shut closed cut : Bool) (told told_after : Option (List ℕ)) (failed now_failed : Option ℕ) → shut ≡ closed →
@@ -27,22 +29,92 @@ module _ (request : Request) (closed : Bool) (unread left before after told told
   -- it is done or not
   pub settled : {A E : Type 0} (is_cut : E → Bool) (P : Type 0) (Q : E → Type 0) (shut : Bool) (r : Result A E) (status : ℕ) →
       Settles is_cut shut r status told told_after failed now_failed → OnOk r P → IfErr r Q
-      → (P → Serves request unread left before after told told_after)
+      → (P → told_after ≡ told → Serves request unread left before after told told_after failed)
       → ((e : E) → Q e → IsReported (shut && is_cut e) told told_after failed now_failed
       → Fails request closed unread left before after told told_after failed now_failed)
       → Outcome request status closed unread left before after told told_after failed now_failed
   settled is_cut P Q shut (Ok a) status s h stops serves fails =
-      subst (λ (n : ℕ). Outcome request n closed unread left before after told told_after failed now_failed) (sym s.0) (serves h, s.1)
+      subst (λ (n : ℕ). Outcome request n closed unread left before after told told_after failed now_failed) (sym s.0) (serves h s.1)
   settled is_cut P Q shut (Err e) status s h stops serves fails =
       subst (λ (n : ℕ). Outcome request n closed unread left before after told told_after failed now_failed) (sym s.0) (fails e stops s.1)
 
   -- it may be done with two statuses
-  pub either : (status : ℕ) → status ≤ 1 → (status ≡ 0 → Serves request unread left before after told told_after × (told_after ≡ told))
+  pub either : (status : ℕ) → status ≤ 1 → (status ≡ 0 → Serves request unread left before after told told_after failed)
       → (status ≡ 1 → Fails request closed unread left before after told told_after failed now_failed)
       → Outcome request status closed unread left before after told told_after failed now_failed
   either zero small zero_is one_is = zero_is refl
   either (suc zero) small zero_is one_is = one_is refl
   either (suc (suc n)) small zero_is one_is = absurd (omega (arith, small))
+
+-- ---- files that are looked into
+
+-- what is reported of a file that wasn't opened
+pub unopened : (before told told_then told_after : Option (List ℕ)) (failed failed_then now_failed : Option ℕ) → told_then ≡ told →
+    failed_then ≡ failed → IsReported false told_then told_after failed_then now_failed →
+    IsUnopened before before told told_after failed now_failed
+unopened before told told_then told_after failed failed_then now_failed same same_failed h = (
+  refl,
+  subst (λ f. IsReported false told told_after f now_failed) same_failed
+      (subst (λ t. IsReported false t told_after failed_then now_failed) same h),
+)
+
+module _ (is_dirty : Bool) (file : List ℕ) (closed : Bool) (before after told told_after : Option (List ℕ)) (failed now_failed : Option ℕ) where
+  module _ (bytes left warned : Option (List ℕ)) (warned_failed : Option ℕ) (opened : IsOpened is_dirty file bytes told warned failed warned_failed)
+      (image : Option (List ℕ)) (is : image ≡ as_read is_dirty bytes) where
+    pub looks : (done : (unread left : Option (List ℕ)) → Type 0) → done image left → told_after ≡ warned → Looks is_dirty file told told_after failed done
+    looks done h same = (bytes, left, warned, warned_failed, opened, (subst (λ u. done u left) is h, same))
+
+    pub stopped : (stops : (cut : Bool) → (unread left : Option (List ℕ)) → Type 0) (cut : Bool) →
+        ((gone : Option (List ℕ)) × stops cut image gone) → IsReported (closed && cut) warned told_after warned_failed now_failed →
+        LookFails is_dirty file closed before after told told_after failed now_failed stops
+    stopped stops cut h reports = inr (bytes, h.0, warned, warned_failed, opened, (cut, subst (λ u. stops cut u h.0) is h.1, reports))
+
+    -- something was done with an open file, or not
+    module _ (request : Request) (unread : Option (List ℕ)) where
+      pub looked : {A E : Type 0} (is_cut : E → Bool) (done : (unread left : Option (List ℕ)) → Type 0)
+          (stops : (cut : Bool) → (unread left : Option (List ℕ)) → Type 0) (shut : Bool) → shut ≡ closed → (r : Result A E) (status : ℕ)
+          → Settles is_cut shut r status warned told_after warned_failed now_failed → OnOk r (done image left)
+          → IfErr r (λ e. (gone : Option (List ℕ)) × stops (is_cut e) image gone)
+          → (Looks is_dirty file told told_after failed done → Serves request unread unread before after told told_after failed)
+          → (LookFails is_dirty file closed before after told told_after failed now_failed stops
+          → Fails request closed unread unread before after told told_after failed now_failed)
+          → Outcome request status closed unread unread before after told told_after failed now_failed
+      looked is_cut done stops shut same (Ok a) status s h ends serves fails =
+          subst (λ (n : ℕ). Outcome request n closed unread unread before after told told_after failed now_failed) (sym s.0)
+          (serves (looks done h s.1))
+      looked is_cut done stops shut same (Err e) status s h ends serves fails =
+          subst (λ (n : ℕ). Outcome request n closed unread unread before after told told_after failed now_failed) (sym s.0)
+          (fails (stopped stops (is_cut e) ends (reported_as shut closed (is_cut e) warned told_after warned_failed now_failed same s.1)))
+
+      -- a pattern was searched for in it
+      pub searched : {E : Type 0} (is_cut : E → Bool) (finds : Bool → (unread left : Option (List ℕ)) → Type 0)
+          (stops : (cut : Bool) → (unread left : Option (List ℕ)) → Type 0) (shut : Bool) → shut ≡ closed → (r : Result Bool E) (status : ℕ)
+          → MatchResult r (λ is_found. (status ≡ status_of is_found) × (told_after ≡ warned))
+          (λ e. (status ≡ 1) × IsReported (shut && is_cut e) warned told_after warned_failed now_failed)
+          → IfOk r (λ is_found. finds is_found image left) → IfErr r (λ e. (gone : Option (List ℕ)) × stops (is_cut e) image gone)
+          → (Looks is_dirty file told told_after failed (finds true) → Serves request unread unread before after told told_after failed)
+          → ((Looks is_dirty file told told_after failed (finds false)
+          ⊎ LookFails is_dirty file closed before after told told_after failed now_failed stops)
+          → Fails request closed unread unread before after told told_after failed now_failed)
+          → Outcome request status closed unread unread before after told told_after failed now_failed
+      searched is_cut finds stops shut same (Ok true) status s h ends serves fails =
+          subst (λ (n : ℕ). Outcome request n closed unread unread before after told told_after failed now_failed) (sym s.0)
+          (serves (looks (finds true) h s.1))
+      searched is_cut finds stops shut same (Ok false) status s h ends serves fails =
+          subst (λ (n : ℕ). Outcome request n closed unread unread before after told told_after failed now_failed) (sym s.0)
+          (fails (inl (looks (finds false) h s.1)))
+      searched is_cut finds stops shut same (Err e) status s h ends serves fails =
+          subst (λ (n : ℕ). Outcome request n closed unread unread before after told told_after failed now_failed) (sym s.0)
+          (fails (inr (stopped stops (is_cut e) ends (reported_as shut closed (is_cut e) warned told_after warned_failed now_failed same s.1))))
+
+-- a file that was to be looked into wasn't opened
+pub unlooked : (request : Request) (closed : Bool) (unread before told told_then told_after : Option (List ℕ)) (failed failed_then now_failed : Option ℕ)
+    (status : ℕ) → told_then ≡ told → failed_then ≡ failed → status ≡ 1 → IsReported false told_then told_after failed_then now_failed →
+    (IsUnopened before before told told_after failed now_failed → Fails request closed unread unread before before told told_after failed now_failed) →
+    Outcome request status closed unread unread before before told told_after failed now_failed
+unlooked request closed unread before told told_then told_after failed failed_then now_failed status same same_failed one h fails =
+    subst (λ (n : ℕ). Outcome request n closed unread unread before before told told_after failed now_failed) (sym one)
+    (fails (unopened before told told_then told_after failed failed_then now_failed same same_failed h))
 
 -- of what is done nothing more may be said
 pub any_done : {A E : Type 0} (r : Result A E) → OnOk r ⊤
@@ -54,80 +126,131 @@ pub any_stop : {A E : Type 0} (r : Result A E) → OnErr r ⊤
 any_stop (Ok a) = tt
 any_stop (Err e) = tt
 
-module _ (request : Request) (closed : Bool) (unread before after told told_after : Option (List ℕ)) (failed now_failed : Option ℕ) where
-  -- some files were counted
-  pub counted : (asked texts : List (List ℕ)) (status : ℕ) → asked ≡ texts → status ≤ 1 → (status ≡ 0 → told_after ≡ told)
-      → ChecksFiles asked status closed before after told told_after failed now_failed
-      → (ChecksFiles texts 0 closed before after told told_after failed now_failed → Serves request unread unread before after told told_after)
-      → (ChecksFiles texts 1 closed before after told told_after failed now_failed
+-- ---- two files that are compared
+
+module _ (new : HiveFile) (closed : Bool) (old old_left before after told told_after : Option (List ℕ)) (failed now_failed : Option ℕ)
+    (bytes left warned : Option (List ℕ)) (warned_failed : Option ℕ)
+    (opened : IsOpened new.is_dirty new.file.now bytes told warned failed warned_failed)
+    (image : Option (List ℕ)) (is : image ≡ as_read new.is_dirty bytes) where
+  -- the new one is open, too
+  module _ {E : Type 0} (is_cut : E → Bool) (shut : Bool) (same_output : shut ≡ closed) where
+    pub same_behind : (r : Result ℕ E) (status : ℕ)
+        → MatchResult r (λ s. (status ≡ s) × (told_after ≡ warned))
+        (λ e. (status ≡ 1) × IsReported (shut && is_cut e) warned told_after warned_failed now_failed)
+        → IfOk r (λ s. s ≡ 0 → AreSame old old_left image left before after)
+        → status ≡ 0 → IsSameBehind new old old_left before after told told_after failed
+    same_behind (Ok s) status h same nil =
+        (bytes, left, warned, warned_failed, opened, (subst (λ u. AreSame old old_left u left before after) is (same (sym h.0 ∙ nil)), h.1))
+    same_behind (Err e) status h same nil = let one = h.0 in absurd (omega (arith, one, nil))
+
+    pub other_behind : (r : Result ℕ E) (status : ℕ)
+        → MatchResult r (λ s. (status ≡ s) × (told_after ≡ warned))
+        (λ e. (status ≡ 1) × IsReported (shut && is_cut e) warned told_after warned_failed now_failed)
+        → IfOk r (λ s. s ≡ 1 → AreOther old old_left image left before after)
+        → IfErr r (λ e. (gone : Option (List ℕ)) × (other_gone : Option (List ℕ)) × StopsDiffing before after (is_cut e) old gone image other_gone)
+        → status ≡ 1 → IsOtherBehind new closed old old_left before after told told_after failed now_failed
+    other_behind (Ok s) status h other stops one =
+        inl (bytes, left, warned, warned_failed, opened, (subst (λ u. AreOther old old_left u left before after) is (other (sym h.0 ∙ one)), h.1))
+    other_behind (Err e) status h other stops one =
+        inr (inr (
+          stops.0,
+          (
+            bytes,
+            stops.1,
+            warned,
+            warned_failed,
+            opened,
+            (
+              is_cut e,
+              subst (λ u. StopsDiffing before after (is_cut e) old stops.0 u stops.1) is stops.2,
+              reported_as shut closed (is_cut e) warned told_after warned_failed now_failed same_output h.1,
+            ),
+          ),
+        ))
+
+-- both were, and are the same, or not
+module _ (new : HiveFile) (old : List ℕ) (closed : Bool) (before after told told_after : Option (List ℕ)) (failed now_failed : Option ℕ)
+    (bytes left warned : Option (List ℕ)) (warned_failed : Option ℕ) (opened : IsOpened new.is_dirty old bytes told warned failed warned_failed)
+    (image : Option (List ℕ)) (is : image ≡ as_read new.is_dirty bytes) where
+  pub both_same : IsSameBehind new image left before after warned told_after warned_failed →
+      Compares new.is_dirty old new.file.now told told_after failed (λ one one_left other other_left. AreSame one one_left other other_left before after)
+  both_same h =
+      (bytes, left, warned, warned_failed, opened, subst (λ u. IsSameBehind new u left before after warned told_after warned_failed) is h)
+
+  both_read : IsOtherBehind new closed (as_read new.is_dirty bytes) left before after warned told_after warned_failed now_failed →
+      Compares new.is_dirty old new.file.now told told_after failed (λ one one_left other other_left. AreOther one one_left other other_left before after)
+      ⊎ CompareFails new.is_dirty old new.file.now closed before after told told_after failed now_failed
+  both_read (inl other) = inl (bytes, left, warned, warned_failed, opened, other)
+  both_read (inr (inl none)) = inr (inr (inl (bytes, left, warned, warned_failed, opened, none)))
+  both_read (inr (inr stops)) = inr (inr (inr (bytes, stops.0, warned, warned_failed, opened, stops.1)))
+
+  pub both_other : IsOtherBehind new closed image left before after warned told_after warned_failed now_failed →
+      Compares new.is_dirty old new.file.now told told_after failed (λ one one_left other other_left. AreOther one one_left other other_left before after)
+      ⊎ CompareFails new.is_dirty old new.file.now closed before after told told_after failed now_failed
+  both_other h = both_read (subst (λ u. IsOtherBehind new closed u left before after warned told_after warned_failed now_failed) is h)
+
+-- the status of a comparison is small
+pub compared_small : {E : Type 0} (R : E → Type 0) (Q : Type 0) (r : Result ℕ E) (status : ℕ) → MatchResult r (λ s. (status ≡ s) × Q) (λ e. (status ≡ 1) × R e)
+    → IfOk r (λ s. s ≤ 1) → status ≤ 1
+compared_small R Q (Ok s) status h small = let is = h.0 in omega (arith, is, small)
+compared_small R Q (Err e) status h small = let is = h.0 in omega (arith, is)
+
+-- ---- files that are counted
+
+-- behind a file's name its count was written
+pub behind : (is_named : Bool) (file : List ℕ) (before named after unread left told told_after : Option (List ℕ)) →
+    Appends before named (name_before is_named file) → Does stream.Check unread left named after × (told_after ≡ told) →
+    IsCounted is_named file before after unread left told told_after
+behind is_named file before named after unread left told told_after name done = (named, name, done.0, done.1)
+
+module _ (is_dirty is_named : Bool) (file : List ℕ) (closed : Bool) (before after told told_after : Option (List ℕ)) (failed now_failed : Option ℕ) where
+  module _ (bytes left warned : Option (List ℕ)) (warned_failed : Option ℕ) (opened : IsOpened is_dirty file bytes told warned failed warned_failed)
+      (image : Option (List ℕ)) (is : image ≡ as_read is_dirty bytes) where
+    -- an open file was counted, or not
+    pub counted : (status : ℕ) → status ≤ 1 → (status ≡ 0 → IsCounted is_named file before after image left warned told_after) →
+        (status ≡ 1 → CountStops is_named file closed before after told_after now_failed image left warned warned_failed) →
+        Checks is_dirty is_named file status closed before after told told_after failed now_failed
+    counted zero small counts stops =
+        let done = counts refl in
+        (done.0, done.1, (bytes, left, warned, warned_failed, opened, (subst (λ u. Does stream.Check u left done.0 after) is done.2, done.3)))
+    counted (suc zero) small counts stops =
+        inr (
+          bytes,
+          left,
+          warned,
+          warned_failed,
+          opened,
+          subst (λ u. CountStops is_named file closed before after told_after now_failed u left warned warned_failed) is (stops refl),
+        )
+    counted (suc (suc n)) small counts stops = absurd (omega (arith, small))
+
+  -- it wasn't opened
+  pub uncounted : (status : ℕ) → status ≡ 1 → IsUnopened before after told told_after failed now_failed →
+      Checks is_dirty is_named file status closed before after told told_after failed now_failed
+  uncounted status one h =
+      subst (λ (n : ℕ). Checks is_dirty is_named file n closed before after told told_after failed now_failed) (sym one) (inl h)
+
+-- a file's line wasn't begun
+pub unnamed : (is_named : Bool) (file : List ℕ) (status : ℕ) (closed shut cut : Bool) (before after told told_after unread left : Option (List ℕ))
+    (failed now_failed : Option ℕ) → NameStops cut (name_before is_named file) before after → shut ≡ closed →
+    IsReported (shut && cut) told told_after failed now_failed →
+    CountStops is_named file closed before after told_after now_failed unread left told failed
+unnamed is_named file status closed shut cut before after told told_after unread left failed now_failed stops same h =
+    inl (cut, stops, reported_as shut closed cut told told_after failed now_failed same h)
+
+-- the files of a request were counted
+module _ (request : Request) (is_dirty closed : Bool) (unread before after told told_after : Option (List ℕ)) (failed now_failed : Option ℕ) where
+  pub all_counted : (asked texts : List (List ℕ)) (status : ℕ) → asked ≡ texts → status ≤ 1
+      → ChecksFiles is_dirty asked status closed before after told told_after failed now_failed
+      → (ChecksFiles is_dirty texts 0 closed before after told told_after failed now_failed → Serves request unread unread before after told told_after failed)
+      → (ChecksFiles is_dirty texts 1 closed before after told told_after failed now_failed
       → Fails request closed unread unread before after told told_after failed now_failed)
       → Outcome request status closed unread unread before after told told_after failed now_failed
-  counted asked texts zero is small silent checks serves fails =
-      (serves (subst (λ (ts : List (List ℕ)). ChecksFiles ts 0 closed before after told told_after failed now_failed) is checks), silent refl)
-  counted asked texts (suc zero) is small silent checks serves fails =
-      fails (subst (λ (ts : List (List ℕ)). ChecksFiles ts 1 closed before after told told_after failed now_failed) is checks)
-  counted asked texts (suc (suc n)) is small silent checks serves fails = absurd (omega (arith, small))
-
-  -- two files were compared
-  pub compared : {E : Type 0} (is_cut : E → Bool) (shut : Bool) → shut ≡ closed → (r : Result ℕ E) (status : ℕ)
-      → MatchResult r (λ s. (status ≡ s) × (told_after ≡ told))
-      (λ e. (status ≡ 1) × IsReported (shut && is_cut e) told told_after failed now_failed)
-      → IfOk r (λ s. s ≤ 1) → IfOk r (λ s. s ≡ 0 → AreSame before after) → IfOk r (λ s. s ≡ 1 → AreOther before after)
-      → IfErr r (λ e. StopsDiffing (is_cut e) before after) → (AreSame before after → Serves request unread unread before after told told_after)
-      → (((AreOther before after × (told_after ≡ told))
-      ⊎ ((cut : Bool) × StopsDiffing cut before after × IsReported (closed && cut) told told_after failed now_failed))
-      → Fails request closed unread unread before after told told_after failed now_failed)
-      → Outcome request status closed unread unread before after told told_after failed now_failed
-  compared is_cut shut same_output (Ok s) status h small same other stops serves fails =
-      either request closed unread unread before after told told_after failed now_failed status (subst (λ (n : ℕ). n ≤ 1) (sym h.0) small)
-      (λ e. (serves (same (sym h.0 ∙ e)), h.1)) (λ e. fails (inl (other (sym h.0 ∙ e), h.1)))
-  compared is_cut shut same_output (Err e) status h small same other stops serves fails =
-      subst (λ (n : ℕ). Outcome request n closed unread unread before after told told_after failed now_failed) (sym h.0)
-      (fails (inr (is_cut e, stops, reported_as shut closed (is_cut e) told told_after failed now_failed same_output h.1)))
-
-  -- a pattern was searched for in a file
-  pub searched : {E : Type 0} (is_cut : E → Bool) (Finds : Bool → Type 0) (Halts : (cut : Bool) → Type 0) (shut : Bool) → shut ≡ closed
-      → (r : Result Bool E) (status : ℕ)
-      → MatchResult r (λ is_found. (status ≡ status_of is_found) × (told_after ≡ told))
-      (λ e. (status ≡ 1) × IsReported (shut && is_cut e) told told_after failed now_failed)
-      → IfOk r Finds → IfErr r (λ e. Halts (is_cut e)) → (Finds true → Serves request unread unread before after told told_after)
-      → (((Finds false × (told_after ≡ told)) ⊎ ((cut : Bool) × Halts cut × IsReported (closed && cut) told told_after failed now_failed))
-      → Fails request closed unread unread before after told told_after failed now_failed)
-      → Outcome request status closed unread unread before after told told_after failed now_failed
-  searched is_cut Finds Halts shut same_output (Ok true) status h finds halts serves fails =
-      subst (λ (n : ℕ). Outcome request n closed unread unread before after told told_after failed now_failed) (sym h.0) (serves finds, h.1)
-  searched is_cut Finds Halts shut same_output (Ok false) status h finds halts serves fails =
-      subst (λ (n : ℕ). Outcome request n closed unread unread before after told told_after failed now_failed) (sym h.0)
-      (fails (inl (finds, h.1)))
-  searched is_cut Finds Halts shut same_output (Err e) status h finds halts serves fails =
-      subst (λ (n : ℕ). Outcome request n closed unread unread before after told told_after failed now_failed) (sym h.0)
-      (fails (inr (is_cut e, halts, reported_as shut closed (is_cut e) told told_after failed now_failed same_output h.1)))
-
--- behind a file's name its count was written, or something ended that
-pub behind : (is_named : Bool) (file : List ℕ) (status : ℕ) (closed : Bool) (before named after told told_after : Option (List ℕ))
-    (failed now_failed : Option ℕ) → Appends before named (name_before is_named file) → status ≤ 1 →
-    (status ≡ 0 → Answers stream.Check named after told told_after)
-    → (status ≡ 1 → AnswerStops stream.Check closed named after told told_after failed now_failed)
-    → Checks is_named file status closed before after told told_after failed now_failed
-behind is_named file zero closed before named after told told_after failed now_failed name small answers stops = (named, name, answers refl)
-behind is_named file (suc zero) closed before named after told told_after failed now_failed name small answers stops = inr (named, name, stops refl)
-behind is_named file (suc (suc n)) closed before named after told told_after failed now_failed name small answers stops = absurd (omega (arith, small))
-
--- its line wasn't begun
-pub unnamed : (is_named : Bool) (file : List ℕ) (status : ℕ) (closed shut cut : Bool) (before after told told_after : Option (List ℕ))
-    (failed now_failed : Option ℕ) → NameStops cut (name_before is_named file) before after → status ≡ 1 → shut ≡ closed →
-    IsReported (shut && cut) told told_after failed now_failed → Checks is_named file status closed before after told told_after failed now_failed
-unnamed is_named file status closed shut cut before after told told_after failed now_failed stops one same h =
-    subst (λ (n : ℕ). Checks is_named file n closed before after told told_after failed now_failed) (sym one)
-    (inl (cut, stops, reported_as shut closed cut told told_after failed now_failed same h))
-
--- it wasn't opened
-pub unopened : (is_named : Bool) (file : List ℕ) (status : ℕ) (closed : Bool) (before told told_after : Option (List ℕ))
-    (failed now_failed : Option ℕ) → status ≡ 1 → IsReported false told told_after failed now_failed →
-    Checks is_named file status closed before before told told_after failed now_failed
-unopened is_named file status closed before told told_after failed now_failed one h =
-    subst (λ (n : ℕ). Checks is_named file n closed before before told told_after failed now_failed) (sym one)
-    (inl (false, refl, reported_always (closed && false) told told_after failed now_failed h))
+  all_counted asked texts zero is small checks serves fails =
+      serves (subst (λ (ts : List (List ℕ)). ChecksFiles is_dirty ts 0 closed before after told told_after failed now_failed) is checks)
+  all_counted asked texts (suc zero) is small checks serves fails =
+      fails (subst (λ (ts : List (List ℕ)). ChecksFiles is_dirty ts 1 closed before after told told_after failed now_failed) is checks)
+  all_counted asked texts (suc (suc n)) is small checks serves fails = absurd (omega (arith, small))
 
 -- a line of a fault was written
 pub reported : (closed : Bool) (text line what : List ℕ) (told told_after : Option (List ℕ)) (failed now_failed : Option ℕ) → text ≡ line →

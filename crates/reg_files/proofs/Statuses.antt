@@ -13,10 +13,12 @@ module _ (request : Request) (closed : Bool) (unread left before after told told
 
   module _ (words : List (List ℕ)) (command : IsCommandLine words request) (status : ℕ)
       (h : Outcome request status closed unread left before after told told_after failed now_failed) where
-    pub served : status ≡ 0 → IsServed words unread left before after told told_after
-    served e =
-        let is = subst (λ (n : ℕ). Outcome request n closed unread left before after told told_after failed now_failed) e h in
-        record { request = request; command = command; serves = is.0; silent = is.1 }
+    pub served : status ≡ 0 → IsServed words unread left before after told told_after failed
+    served e = record {
+      request = request;
+      command = command;
+      serves = subst (λ (n : ℕ). Outcome request n closed unread left before after told told_after failed now_failed) e h;
+    }
 
     pub failed_by : status ≡ 1 → IsFailed words closed unread left before after told told_after failed now_failed
     failed_by e = record {

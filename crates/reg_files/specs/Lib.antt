@@ -1,3 +1,4 @@
+pub mod Mended
 pub mod Saves
 pub mod Serving
 pub mod Moments

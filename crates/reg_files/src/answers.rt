@@ -1,23 +1,38 @@
 //! A request answered: it is done, or what hinders that is reported.
 
-ghost use Rattle.std.specs.Prelude.{ℕ, Bool, List, Option};
+ghost use Rattle.std.specs.Prelude.{◌≡◌, ◌≤◌, ℕ, Bool, List, Option, option_copied};
 ghost use Rattle.reg_words.specs.declared.request.Request.{Request};
-ghost use Rattle.reg_files.specs.Internal.Outcomes.{Outcome};
+ghost use Rattle.reg_files.specs.Internal.Fronts.{bytes_of};
+ghost use Rattle.reg_files.specs.Internal.Outcomes.{Outcome, IsSameBehind, IsOtherBehind};
 
 use crate::commands::{change_file, edit_file, import_text, new_file};
 use crate::device::Output;
+use crate::images::{Image, open_image};
 use crate::locks::Lockable;
-use crate::queries::{diff_files, export_key, find_in, get_value, list_key};
-use crate::reports::{settle, settle_diff, settle_find, settle_save};
-use crate::streams::{check_files, dump_file};
+use crate::queries::{diff_images, export_key, find_in, get_value, list_key};
+use crate::reports::{settle, settle_diff, settle_find, settle_import, settle_save};
+use crate::streams::{check_files, dump_file, write_text};
 use reg_command::serve_stream;
 use reg_text::Sink;
-use reg_words::{EditRequest, Form, KeyChange, Places, Request, StreamRequest};
+use reg_words::{EditRequest, Form, HiveFile, KeyChange, Places, Request, StreamRequest};
 use std::alloc::Global;
 use std::io::Read;
 use std::rt::{Clock, Files};
 use std::sync::Wait;
 use std::thread::Threads;
+
+/// What `version` writes: the tool's version, and that of the kit that proves and builds it.
+const VERSION: &[u8] = b"regtool 1.0.0\nrattle-kit-13f logic dac8208d650f15bf\n";
+
+/// The bytes of a front that stands for a hive's root.
+fn front_of<'a>(prefix: Option<&'a str>) -> Option<&'a [u8]>
+    ensures { option_copied result ≡ option_copied prefix.entry }
+{
+    match prefix {
+        Some(text) => Some(text.as_bytes()),
+        None => None,
+    }
+}
 
 /// `run`, and `dump` and `check` without files.
 fn stream_asked<Rt: Threads + Wait + Sync, R: Read, W: Output, E: Sink>(
@@ -39,15 +54,15 @@ fn stream_asked<Rt: Threads + Wait + Sync, R: Read, W: Output, E: Sink>(
 fn dump_asked<H: Files, W: Output, E: Sink>(
     alloc: Global,
     host: &H,
-    file: &str,
+    hive: HiveFile<'_>,
     output: &mut W,
     errors: &mut E,
 ) -> u8
-    ensures { (unread : Option (List ℕ)) → Outcome (Request.Dump file.entry) result (W.closed output.new) unread unread
+    ensures { (unread : Option (List ℕ)) → Outcome (Request.Dump hive.entry) result (W.closed output.new) unread unread
         (W.contents output.old) (W.contents output.new)
         (E.contents errors.old) (E.contents errors.new) (E.failures errors.old) (E.failures errors.new) }
 {
-    dump_file(alloc, host, file, output, errors)
+    dump_file(alloc, host, hive, output, errors)
 }
 
 /// `check FILE..`.
@@ -55,72 +70,152 @@ fn check_asked<H: Files, W: Output, E: Sink>(
     alloc: Global,
     host: &H,
     files: Vec<&str>,
+    is_dirty: bool,
     output: &mut W,
     errors: &mut E,
 ) -> u8
-    ensures { (unread : Option (List ℕ)) → Outcome (Request.Check files.entry) result (W.closed output.new) unread unread
+    ensures { (unread : Option (List ℕ)) → Outcome (Request.Check files.entry is_dirty) result (W.closed output.new) unread unread
         (W.contents output.old) (W.contents output.new)
         (E.contents errors.old) (E.contents errors.new) (E.failures errors.old) (E.failures errors.new) }
 {
-    check_files(alloc, host, files.as_slice(), output, errors)
+    check_files(alloc, host, files.as_slice(), is_dirty, output, errors)
 }
 
 /// `ls`.
 fn list_asked<H: Files, W: Output, E: Sink>(
     alloc: Global,
     host: &H,
-    file: &str,
-    path: &str,
+    hive: HiveFile<'_>,
+    path: Vec<u8>,
     is_tree: bool,
     is_whole: bool,
     output: &mut W,
     errors: &mut E,
 ) -> u8
-    ensures { (unread : Option (List ℕ)) → Outcome (Request.Listing file.entry path.entry is_tree is_whole) result (W.closed output.new) unread unread
+    ensures { (unread : Option (List ℕ)) → Outcome (Request.Listing hive.entry path is_tree is_whole) result (W.closed output.new) unread unread
         (W.contents output.old) (W.contents output.new)
         (E.contents errors.old) (E.contents errors.new) (E.failures errors.old) (E.failures errors.new) }
 {
-    let done = list_key(alloc, host, file, path, is_tree, is_whole, output);
-    settle(alloc, errors, file, output.is_closed(), done)
+    match open_image(alloc, host, hive.file, hive.is_dirty, errors) {
+        Ok(mut image) => {
+            let done = list_key(
+                alloc,
+                &mut image,
+                path.as_slice(),
+                is_tree,
+                is_whole,
+                output,
+            );
+            settle(alloc, errors, hive.file, output.is_closed(), done)
+        }
+        Err(fault) => settle(alloc, errors, hive.file, false, Err(fault)),
+    }
 }
 
 /// `get`.
 fn get_asked<H: Files, W: Output, E: Sink>(
     alloc: Global,
     host: &H,
-    file: &str,
-    path: &str,
-    name: &str,
+    hive: HiveFile<'_>,
+    path: Vec<u8>,
+    name: Vec<u8>,
     is_raw: bool,
     is_whole: bool,
     output: &mut W,
     errors: &mut E,
 ) -> u8
-    ensures { (unread : Option (List ℕ)) → Outcome (Request.Get file.entry path.entry name.entry is_raw is_whole) result (W.closed output.new) unread unread
+    ensures { (unread : Option (List ℕ)) → Outcome (Request.Get hive.entry path name is_raw is_whole) result (W.closed output.new) unread unread
         (W.contents output.old) (W.contents output.new)
         (E.contents errors.old) (E.contents errors.new) (E.failures errors.old) (E.failures errors.new) }
 {
-    let done = get_value(alloc, host, file, path, name, is_raw, is_whole, output);
-    settle(alloc, errors, file, output.is_closed(), done)
+    match open_image(alloc, host, hive.file, hive.is_dirty, errors) {
+        Ok(mut image) => {
+            let done = get_value(
+                alloc,
+                &mut image,
+                path.as_slice(),
+                name.as_slice(),
+                is_raw,
+                is_whole,
+                output,
+            );
+            settle(alloc, errors, hive.file, output.is_closed(), done)
+        }
+        Err(fault) => settle(alloc, errors, hive.file, false, Err(fault)),
+    }
 }
 
 /// `find`.
 fn find_asked<H: Files, W: Output, E: Sink>(
     alloc: Global,
     host: &H,
-    file: &str,
+    hive: HiveFile<'_>,
     pattern: &str,
     ignores_case: bool,
     places: Places,
     output: &mut W,
     errors: &mut E,
 ) -> u8
-    ensures { (unread : Option (List ℕ)) → Outcome (Request.Find file.entry pattern.entry ignores_case places) result (W.closed output.new) unread unread
+    ensures { (unread : Option (List ℕ)) → Outcome (Request.Find hive.entry pattern.entry ignores_case places) result (W.closed output.new) unread unread
         (W.contents output.old) (W.contents output.new)
         (E.contents errors.old) (E.contents errors.new) (E.failures errors.old) (E.failures errors.new) }
 {
-    let done = find_in(alloc, host, file, pattern, ignores_case, places, output);
-    settle_find(alloc, errors, file, output.is_closed(), done)
+    match open_image(alloc, host, hive.file, hive.is_dirty, errors) {
+        Ok(mut image) => {
+            let done = find_in(alloc, &mut image, pattern, ignores_case, places, output);
+            settle_find(alloc, errors, hive.file, output.is_closed(), done)
+        }
+        Err(fault) => settle(alloc, errors, hive.file, false, Err(fault)),
+    }
+}
+
+/// `export`.
+fn export_asked<H: Files, W: Output, E: Sink>(
+    alloc: Global,
+    host: &H,
+    hive: HiveFile<'_>,
+    path: Vec<u8>,
+    form: Form,
+    output: &mut W,
+    errors: &mut E,
+) -> u8
+    ensures { (unread : Option (List ℕ)) → Outcome (Request.Export hive.entry path form) result (W.closed output.new) unread unread
+        (W.contents output.old) (W.contents output.new)
+        (E.contents errors.old) (E.contents errors.new) (E.failures errors.old) (E.failures errors.new) }
+{
+    match open_image(alloc, host, hive.file, hive.is_dirty, errors) {
+        Ok(mut image) => {
+            let done = export_key(alloc, &mut image, path.as_slice(), form, output);
+            settle(alloc, errors, hive.file, output.is_closed(), done)
+        }
+        Err(fault) => settle(alloc, errors, hive.file, false, Err(fault)),
+    }
+}
+
+/// `diff`, with the old file open.
+fn diff_behind<H: Files, W: Output, E: Sink>(
+    alloc: Global,
+    host: &H,
+    old: &str,
+    image: &mut Image<H::File>,
+    new: HiveFile<'_>,
+    output: &mut W,
+    errors: &mut E,
+) -> u8
+    ensures status { result ≤ 1 }
+    ensures same { result ≡ 0 → IsSameBehind new.entry (bytes_of H.File.remaining image.old) (bytes_of H.File.remaining image.new)
+        (W.contents output.old) (W.contents output.new) (E.contents errors.old) (E.contents errors.new) (E.failures errors.old) }
+    ensures other { result ≡ 1 → IsOtherBehind new.entry (W.closed output.new) (bytes_of H.File.remaining image.old) (bytes_of H.File.remaining image.new)
+        (W.contents output.old) (W.contents output.new)
+        (E.contents errors.old) (E.contents errors.new) (E.failures errors.old) (E.failures errors.new) }
+{
+    match open_image(alloc, host, new.file, new.is_dirty, errors) {
+        Ok(mut other) => {
+            let done = diff_images(alloc, image, &mut other, output);
+            settle_diff(alloc, errors, old, new.file, output.is_closed(), done)
+        }
+        Err(fault) => settle(alloc, errors, new.file, false, Err(fault)),
+    }
 }
 
 /// `diff`.
@@ -129,33 +224,22 @@ fn diff_asked<H: Files, W: Output, E: Sink>(
     host: &H,
     old: &str,
     new: &str,
+    is_dirty: bool,
     output: &mut W,
     errors: &mut E,
 ) -> u8
-    ensures { (unread : Option (List ℕ)) → Outcome (Request.Diff old.entry new.entry) result (W.closed output.new) unread unread
+    ensures { (unread : Option (List ℕ)) → Outcome (Request.Diff old.entry new.entry is_dirty) result (W.closed output.new) unread unread
         (W.contents output.old) (W.contents output.new)
         (E.contents errors.old) (E.contents errors.new) (E.failures errors.old) (E.failures errors.new) }
 {
-    let done = diff_files(alloc, host, old, new, output);
-    settle_diff(alloc, errors, old, new, output.is_closed(), done)
-}
-
-/// `export`.
-fn export_asked<H: Files, W: Output, E: Sink>(
-    alloc: Global,
-    host: &H,
-    file: &str,
-    path: &str,
-    form: Form,
-    output: &mut W,
-    errors: &mut E,
-) -> u8
-    ensures { (unread : Option (List ℕ)) → Outcome (Request.Export file.entry path.entry form) result (W.closed output.new) unread unread
-        (W.contents output.old) (W.contents output.new)
-        (E.contents errors.old) (E.contents errors.new) (E.failures errors.old) (E.failures errors.new) }
-{
-    let done = export_key(alloc, host, file, path, form, output);
-    settle(alloc, errors, file, output.is_closed(), done)
+    let behind = HiveFile {
+        file: new,
+        is_dirty,
+    };
+    match open_image(alloc, host, old, is_dirty, errors) {
+        Ok(mut image) => diff_behind(alloc, host, old, &mut image, behind, output, errors),
+        Err(fault) => settle(alloc, errors, old, false, Err(fault)),
+    }
 }
 
 /// `new`.
@@ -198,16 +282,19 @@ fn import_asked<H: Files + Clock, R: Read, E: Sink>(
     alloc: Global,
     host: &H,
     edit: EditRequest<'_>,
+    text: Option<&str>,
+    prefix: Option<&str>,
     input: &mut R,
     errors: &mut E,
 ) -> u8
 where
     H::File: Lockable,
-    ensures { (closed : Bool) → (before : Option (List ℕ)) → Outcome (Request.Import edit.entry) result closed (R.remaining input.old)
-        (R.remaining input.new) before before (E.contents errors.old) (E.contents errors.new) (E.failures errors.old) (E.failures errors.new) }
+    ensures { (closed : Bool) → (before : Option (List ℕ)) → Outcome (Request.Import edit.entry text.entry prefix.entry) result closed
+        (R.remaining input.old) (R.remaining input.new) before before (E.contents errors.old) (E.contents errors.new)
+        (E.failures errors.old) (E.failures errors.new) }
 {
-    let done = import_text(alloc, host, edit, input);
-    settle_save(alloc, errors, &edit, false, done)
+    let done = import_text(alloc, host, edit, text, front_of(prefix), input);
+    settle_import(alloc, errors, &edit, text, done)
 }
 
 /// `set`, `create` and `delete`.
@@ -229,6 +316,16 @@ where
     settle_save(alloc, errors, &edit, output.is_closed(), done)
 }
 
+/// `version`.
+fn version_asked<W: Output, E: Sink>(alloc: Global, output: &mut W, errors: &mut E) -> u8
+    ensures { (unread : Option (List ℕ)) → Outcome Request.Version result (W.closed output.new) unread unread
+        (W.contents output.old) (W.contents output.new)
+        (E.contents errors.old) (E.contents errors.new) (E.failures errors.old) (E.failures errors.new) }
+{
+    let done = write_text(VERSION, output);
+    settle(alloc, errors, "", output.is_closed(), done)
+}
+
 /// Does what was asked for, and answers the status.
 pub fn answer<Rt: Threads + Wait + Sync, H: Files + Clock, R: Read, W: Output, E: Sink>(
     rt: &Rt,
@@ -247,49 +344,56 @@ where
 {
     match request {
         Request::Stream(stream) => stream_asked(rt, alloc, stream, input, output, errors),
-        Request::Dump(file) => dump_asked(alloc, host, file, output, errors),
-        Request::Check(files) => check_asked(alloc, host, files, output, errors),
+        Request::Dump(hive) => dump_asked(alloc, host, hive, output, errors),
+        Request::Check { files, is_dirty } => {
+            check_asked(alloc, host, files, is_dirty, output, errors)
+        }
         Request::Listing {
-            file,
+            hive,
             path,
             is_tree,
             is_whole,
-        } => list_asked(alloc, host, file, path, is_tree, is_whole, output, errors),
+        } => list_asked(alloc, host, hive, path, is_tree, is_whole, output, errors),
         Request::Get {
-            file,
+            hive,
             path,
             name,
             is_raw,
             is_whole,
         } => get_asked(
-            alloc, host, file, path, name, is_raw, is_whole, output, errors,
+            alloc, host, hive, path, name, is_raw, is_whole, output, errors,
         ),
         Request::Find {
-            file,
+            hive,
             pattern,
             ignores_case,
             places,
         } => find_asked(
             alloc,
             host,
-            file,
+            hive,
             pattern,
             ignores_case,
             places,
             output,
             errors,
         ),
-        Request::Diff { old, new } => diff_asked(alloc, host, old, new, output, errors),
-        Request::Export { file, path, form } => {
-            export_asked(alloc, host, file, path, form, output, errors)
+        Request::Diff { old, new, is_dirty } => {
+            diff_asked(alloc, host, old, new, is_dirty, output, errors)
+        }
+        Request::Export { hive, path, form } => {
+            export_asked(alloc, host, hive, path, form, output, errors)
         }
         Request::New { file, name } => new_asked(alloc, host, file, name, errors),
         Request::Edit { edit, keeps_going } => {
             edit_asked(alloc, host, edit, keeps_going, input, output, errors)
         }
-        Request::Import(edit) => import_asked(alloc, host, edit, input, errors),
+        Request::Import { edit, text, prefix } => {
+            import_asked(alloc, host, edit, text, prefix, input, errors)
+        }
         Request::Change { edit, change } => {
             change_asked(alloc, host, edit, change, output, errors)
         }
+        Request::Version => version_asked(alloc, output, errors),
     }
 }

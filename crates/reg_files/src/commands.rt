@@ -1,11 +1,11 @@
 //! The commands that save files.
 
-ghost use Rattle.std.specs.Prelude.{◌≡◌, ◌&&◌, true, string_bytes, OnOk, OnErr, IfOk, IfErr};
+ghost use Rattle.std.specs.Prelude.{◌≡◌, ◌⊎◌, ◌&&◌, true, is_some, option_copied, string_bytes, OnOk, OnErr, IfOk, IfErr};
 ghost use Rattle.reg_calls.specs.HiveView.{view_of};
 ghost use Rattle.reg_tree_image.specs.FreeBytes.{are_sparse};
 ghost use Rattle.reg_files.specs.Saves.{is_saved, IsToSave, IsToMake, IsNotRebuilt};
 ghost use Rattle.reg_words.specs.ChangeLines.{told as told_of};
-ghost use Rattle.reg_files.specs.Serving.{IsGiven, IsNone, EditsFile, StopsEditing, Enters, StopsImporting};
+ghost use Rattle.reg_files.specs.Serving.{IsGiven, IsNone, OfFile, OfText, EditsFile, StopsEditing, Enters, StopsImporting};
 ghost use Rattle.reg_files.specs.Serving.{IsCutShort, Tells, ChangesFile, StopsChanging};
 ghost use Rattle.reg_files.specs.Internal.Cuts.{is_save_end_cut};
 
@@ -21,6 +21,7 @@ use reg_calls::Hive;
 use reg_edits::{Edited, change, edit, fresh_hive, import};
 use reg_words::{Begin, EditRequest, KeyChange, told};
 use std::alloc::Global;
+use std::fs::File;
 use std::io::{Read, Write};
 use std::rt::{Clock, Files};
 
@@ -143,21 +144,23 @@ where
     Ok(())
 }
 
-/// Makes the entries of a .reg text in the hive of a file and saves it, as an edit does.
-pub fn import_text<H: Files + Clock, R: Read>(
+/// Makes the entries of the .reg text on an input in the hive of a file and saves it, as an edit does.
+fn import_from<H: Files + Clock, R: Read>(
     alloc: Global,
     host: &H,
     request: EditRequest<'_>,
+    front: Option<&[u8]>,
     input: &mut R,
 ) -> Result<(), SaveEnd>
 where
     H::File: Lockable,
-    ensures ok { OnOk result (Enters request.entry (R.remaining input.old) (R.remaining input.new)) }
-    ensures err { OnErr result (StopsImporting request.entry (R.remaining input.old) (R.remaining input.new)) }
+    ensures ok { OnOk result (Enters request.entry (option_copied front.entry) (R.remaining input.old) (R.remaining input.new)) }
+    ensures err { OnErr result ((R.remaining input.new ≡ R.remaining input.old)
+        ⊎ StopsImporting request.entry (option_copied front.entry) (R.remaining input.old) (R.remaining input.new)) }
 {
     let begin = begin_at(host, request.begin)?;
     let mut opened = open_for(alloc, host, request)?;
-    let imported = match import(alloc, &mut opened.file, begin, input) {
+    let imported = match import(alloc, &mut opened.file, front, begin, input) {
         Ok(imported) => imported,
         Err(fault) => {
             let fault = Fault::from(fault).of_file(&mut opened.file);
@@ -166,6 +169,45 @@ where
     };
     save(alloc, host, request, opened.path.as_str(), &imported)?;
     Ok(())
+}
+
+/// Makes the entries of the .reg text in a file in the hive of another.
+fn import_file<H: Files + Clock>(
+    alloc: Global,
+    host: &H,
+    request: EditRequest<'_>,
+    text: &str,
+    front: Option<&[u8]>,
+) -> Result<(), SaveEnd>
+where
+    H::File: Lockable,
+    ensures { OnOk result (OfFile (Enters request.entry (option_copied front.entry))) }
+{
+    match taken(Step::Open, File::open(host, text)) {
+        Ok(mut input) => import_from(alloc, host, request, front, &mut input),
+        Err(fault) => Err(SaveEnd::Text(fault)),
+    }
+}
+
+/// Makes the entries of a .reg text, of a file or of the input, in the hive of a file and saves it, as an edit does.
+pub fn import_text<H: Files + Clock, R: Read>(
+    alloc: Global,
+    host: &H,
+    request: EditRequest<'_>,
+    text: Option<&str>,
+    front: Option<&[u8]>,
+    input: &mut R,
+) -> Result<(), SaveEnd>
+where
+    H::File: Lockable,
+    ensures ok { OnOk result (OfText (is_some text.entry) (R.remaining input.old) (R.remaining input.new) (Enters request.entry (option_copied front.entry))) }
+    ensures err { OnErr result ((R.remaining input.new ≡ R.remaining input.old)
+        ⊎ OfText (is_some text.entry) (R.remaining input.old) (R.remaining input.new) (StopsImporting request.entry (option_copied front.entry))) }
+{
+    match text {
+        Some(text) => import_file(alloc, host, request, text, front),
+        None => import_from(alloc, host, request, front, input),
+    }
 }
 
 /// The line of a change.

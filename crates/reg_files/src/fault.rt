@@ -8,6 +8,7 @@ ghost use Rattle.reg_files.specs.Cuts.{is_dump_cut, is_path_cut, is_query_cut, i
 ghost use Rattle.reg_files.specs.Internal.Cuts.{is_cut, is_diff_end_cut, IsOfStep};
 
 use crate::device::Device;
+use crate::images::Image;
 use reg_dotreg_import::ImportFault;
 use reg_dotreg_reader::ReadFault;
 use reg_dotreg_writer::ExportFault;
@@ -130,7 +131,7 @@ pub enum Fault {
     /// A name can't be written: of the key to which these names lead, or of one of its values.
     #[error("a name has a line break")]
     LineBreak(Vec<u8>),
-    /// Standard input can't be read.
+    /// The input, or a text's file, can't be read.
     #[error("{0}")]
     Input(io::Error),
     /// A text isn't read.
@@ -289,6 +290,8 @@ impl From<DiffFault> for DiffEnd {
 pub enum SaveEnd {
     /// The image doesn't load, or what was to be made of its hive was ended, or lines of the script failed.
     Hive(Fault),
+    /// The file of a text can't be opened.
+    Text(Fault),
     /// A step on the files, or the clock, was refused, or memory for it: before the image was read, or as it was saved; or the hive can't
     /// be built anew.
     Files(Fault),
@@ -356,6 +359,20 @@ impl Fault {
                 error: file.take_error(),
             },
             fault => fault,
+        }
+    }
+
+    /// The fault of a call that looked into a file: where a read failed, with the system's error.
+    pub fn of_image<F>(self, image: &mut Image<F>) -> Fault
+        ensures other { self ≢ Fault.Load LoadFault.Read → result ≡ self }
+        ensures cut { is_cut result ≡ is_cut self }
+    {
+        match self {
+            Fault::Load(LoadFault::Read) => Fault::Step {
+                step: Step::Read,
+                error: image.take_error(),
+            },
+            other => other,
         }
     }
 }

@@ -3,20 +3,25 @@
 ghost use Rattle.std.specs.Prelude.{◌≡◌, ◌≤◌, ◌||◌, ℕ, List, Option, false, IfOk, IfErr, OnOk};
 ghost use Rattle.reg_queries.specs.KeyQueries.{Lists};
 ghost use Rattle.reg_queries.specs.Queries.{is_look, Gets};
-ghost use Rattle.reg_files.specs.Serving.{scope_of, FindsIn, AreSame, AreOther, WritesAs};
-ghost use Rattle.reg_files.specs.Serving.{StopsListing, StopsGetting, StopsFinding, StopsDiffing, WriteStops, StopsWriting};
+ghost use Rattle.reg_queries.specs.Finds.{Finds};
+ghost use Rattle.reg_files.specs.Serving.{scope_of, AreSame, AreOther, WritesAs};
+ghost use Rattle.reg_files.specs.Serving.{StopsListing, StopsGetting, StopsFinding, StopsDiffing, WriteStops};
 ghost use Rattle.reg_files.specs.Internal.Cuts.{is_cut, is_diff_end_cut};
+ghost use Rattle.reg_files.specs.Internal.Fronts.{bytes_of};
 
 use crate::device::Device;
 use crate::fault::{DiffEnd, Fault, Step, taken};
+use crate::images::Image;
 use crate::streams::write_text;
 use reg_find::Scope;
-use reg_queries::{diff, export, export_csv, export_json, find, get, list};
+use reg_queries::{
+    diff, export, export_csv, export_html, export_json, export_jsonl, find, get, list,
+};
 use reg_text::Source;
 use reg_words::{Form, Places};
 use std::alloc::Global;
 use std::fs::File;
-use std::io::Write;
+use std::io::{Read, Write};
 use std::rt::Files;
 
 /// What `diff` writes where two hives are the same.
@@ -30,80 +35,60 @@ pub fn open<H: Files>(host: &H, file: &str) -> Result<Device<H::File>, Fault>
 }
 
 /// Lists a key of a file's hive, by its path, with all below it or without; with `is_whole` the hive is loaded first.
-pub fn list_key<H: Files, W: Write>(
+pub fn list_key<F: Read, W: Write>(
     alloc: Global,
-    host: &H,
-    file: &str,
-    path: &str,
+    image: &mut Image<F>,
+    path: &[u8],
     is_tree: bool,
     is_whole: bool,
     output: &mut W,
 ) -> Result<(), Fault>
-    ensures ok { OnOk result ((unread : Option (List ℕ)) × (left : Option (List ℕ))
-        × Lists (is_look (is_tree || is_whole) path.now) unread left path.now is_tree (W.contents output.old) (W.contents output.new)) }
-    ensures err { IfErr result (λ fault. StopsListing (is_cut fault) (is_look (is_tree || is_whole) path.now) path.now is_tree
-        (W.contents output.old) (W.contents output.new)) }
+    ensures ok { OnOk result (Lists (is_look (is_tree || is_whole) path.now) (bytes_of F.remaining image.old) (bytes_of F.remaining image.new)
+        path.now is_tree (W.contents output.old) (W.contents output.new)) }
+    ensures err { IfErr result (λ fault. (left : Option (List ℕ)) × StopsListing (is_look (is_tree || is_whole) path.now) path.now is_tree
+        (W.contents output.old) (W.contents output.new) (is_cut fault) (bytes_of F.remaining image.old) left) }
 {
-    let mut image = open(host, file)?;
-    match list(
-        alloc,
-        &mut image,
-        path.as_bytes(),
-        is_tree,
-        is_whole,
-        output,
-    ) {
+    match list(alloc, image, path, is_tree, is_whole, output) {
         Ok(()) => Ok(()),
-        Err(fault) => Err(Fault::from(fault).of_file(&mut image)),
+        Err(fault) => Err(Fault::from(fault).of_image(image)),
     }
 }
 
 /// Writes a value of a file's hive, by its key's path and its name; with `is_whole` the hive is loaded first.
-pub fn get_value<H: Files, W: Write>(
+pub fn get_value<F: Read, W: Write>(
     alloc: Global,
-    host: &H,
-    file: &str,
-    path: &str,
-    name: &str,
+    image: &mut Image<F>,
+    path: &[u8],
+    name: &[u8],
     is_raw: bool,
     is_whole: bool,
     output: &mut W,
 ) -> Result<(), Fault>
-    ensures ok { OnOk result ((unread : Option (List ℕ)) × (left : Option (List ℕ))
-        × Gets (is_look is_whole path.now) unread left path.now name.now is_raw (W.contents output.old) (W.contents output.new)) }
-    ensures err { IfErr result (λ fault. StopsGetting (is_cut fault) (is_look is_whole path.now) path.now name.now is_raw
-        (W.contents output.old) (W.contents output.new)) }
+    ensures ok { OnOk result (Gets (is_look is_whole path.now) (bytes_of F.remaining image.old) (bytes_of F.remaining image.new)
+        path.now name.now is_raw (W.contents output.old) (W.contents output.new)) }
+    ensures err { IfErr result (λ fault. (left : Option (List ℕ)) × StopsGetting (is_look is_whole path.now) path.now name.now is_raw
+        (W.contents output.old) (W.contents output.new) (is_cut fault) (bytes_of F.remaining image.old) left) }
 {
-    let mut image = open(host, file)?;
-    match get(
-        alloc,
-        &mut image,
-        path.as_bytes(),
-        name.as_bytes(),
-        is_raw,
-        is_whole,
-        output,
-    ) {
+    match get(alloc, image, path, name, is_raw, is_whole, output) {
         Ok(()) => Ok(()),
-        Err(fault) => Err(Fault::from(fault).of_file(&mut image)),
+        Err(fault) => Err(Fault::from(fault).of_image(image)),
     }
 }
 
 /// Writes what a pattern finds in a file's hive, and answers whether it finds anything.
-pub fn find_in<H: Files, W: Write>(
+pub fn find_in<F: Read, W: Write>(
     alloc: Global,
-    host: &H,
-    file: &str,
+    image: &mut Image<F>,
     pattern: &str,
     ignores_case: bool,
     places: Places,
     output: &mut W,
 ) -> Result<bool, Fault>
-    ensures ok { IfOk result (λ is_found. FindsIn pattern.now ignores_case (scope_of places) is_found (W.contents output.old) (W.contents output.new)) }
-    ensures err { IfErr result (λ fault. StopsFinding (is_cut fault) pattern.now ignores_case (scope_of places)
-        (W.contents output.old) (W.contents output.new)) }
+    ensures ok { IfOk result (λ is_found. Finds (bytes_of F.remaining image.old) (bytes_of F.remaining image.new) pattern.now ignores_case
+        (scope_of places) is_found (W.contents output.old) (W.contents output.new)) }
+    ensures err { IfErr result (λ fault. (left : Option (List ℕ)) × StopsFinding pattern.now ignores_case (scope_of places)
+        (W.contents output.old) (W.contents output.new) (is_cut fault) (bytes_of F.remaining image.old) left) }
 {
-    let mut image = open(host, file)?;
     let scope = Scope {
         keys: places.keys,
         names: places.names,
@@ -111,9 +96,9 @@ pub fn find_in<H: Files, W: Write>(
         paths: places.paths,
         bytes: places.bytes,
     };
-    match find(alloc, &mut image, pattern, ignores_case, scope, output) {
+    match find(alloc, image, pattern, ignores_case, scope, output) {
         Ok(is_found) => Ok(is_found),
-        Err(fault) => Err(Fault::from(fault).of_file(&mut image)),
+        Err(fault) => Err(Fault::from(fault).of_image(image)),
     }
 }
 
@@ -127,34 +112,35 @@ fn export_as<R: Source, W: Write>(
 ) -> Result<(), Fault>
     ensures ok { OnOk result (WritesAs form (R.remaining image.old) (R.remaining image.new) path.now (W.contents output.old)
         (W.contents output.new)) }
-    ensures err { IfErr result (λ fault. WriteStops form (is_cut fault) (R.remaining image.old) (R.remaining image.new) path.now
-        (W.contents output.old) (W.contents output.new)) }
+    ensures err { IfErr result (λ fault. WriteStops form path.now (W.contents output.old) (W.contents output.new) (is_cut fault)
+        (R.remaining image.old) (R.remaining image.new)) }
 {
     match form {
         Form::Reg { is_utf8 } => export(alloc, image, path, is_utf8, output)?,
         Form::Json => export_json(alloc, image, path, output)?,
+        Form::JsonLines => export_jsonl(alloc, image, path, output)?,
         Form::Csv => export_csv(alloc, image, path, output)?,
+        Form::Html => export_html(alloc, image, path, output)?,
     }
     Ok(())
 }
 
 /// Writes a key of a file's hive with all below it in another form of text.
-pub fn export_key<H: Files, W: Write>(
+pub fn export_key<F: Read, W: Write>(
     alloc: Global,
-    host: &H,
-    file: &str,
-    path: &str,
+    image: &mut Image<F>,
+    path: &[u8],
     form: Form,
     output: &mut W,
 ) -> Result<(), Fault>
-    ensures ok { OnOk result ((unread : Option (List ℕ)) × (left : Option (List ℕ))
-        × WritesAs form unread left path.now (W.contents output.old) (W.contents output.new)) }
-    ensures err { IfErr result (λ fault. StopsWriting form (is_cut fault) path.now (W.contents output.old) (W.contents output.new)) }
+    ensures ok { OnOk result (WritesAs form (bytes_of F.remaining image.old) (bytes_of F.remaining image.new) path.now (W.contents output.old)
+        (W.contents output.new)) }
+    ensures err { IfErr result (λ fault. (left : Option (List ℕ)) × WriteStops form path.now (W.contents output.old) (W.contents output.new)
+        (is_cut fault) (bytes_of F.remaining image.old) left) }
 {
-    let mut image = open(host, file)?;
-    match export_as(alloc, &mut image, path.as_bytes(), form, output) {
+    match export_as(alloc, image, path, form, output) {
         Ok(()) => Ok(()),
-        Err(fault) => Err(fault.of_file(&mut image)),
+        Err(fault) => Err(fault.of_image(image)),
     }
 }
 
@@ -166,9 +152,12 @@ fn compare<R: Source, S: Source, W: Write>(
     output: &mut W,
 ) -> Result<u8, DiffEnd>
     ensures status { IfOk result (λ status. status ≤ 1) }
-    ensures same { IfOk result (λ status. status ≡ 0 → AreSame (W.contents output.old) (W.contents output.new)) }
-    ensures other { IfOk result (λ status. status ≡ 1 → AreOther (W.contents output.old) (W.contents output.new)) }
-    ensures err { IfErr result (λ end. StopsDiffing (is_diff_end_cut end) (W.contents output.old) (W.contents output.new)) }
+    ensures same { IfOk result (λ status. status ≡ 0 → AreSame (R.remaining old.old) (R.remaining old.new) (S.remaining new.old)
+        (S.remaining new.new) (W.contents output.old) (W.contents output.new)) }
+    ensures other { IfOk result (λ status. status ≡ 1 → AreOther (R.remaining old.old) (R.remaining old.new) (S.remaining new.old)
+        (S.remaining new.new) (W.contents output.old) (W.contents output.new)) }
+    ensures err { IfErr result (λ end. StopsDiffing (W.contents output.old) (W.contents output.new) (is_diff_end_cut end)
+        (R.remaining old.old) (R.remaining old.new) (S.remaining new.old) (S.remaining new.new)) }
 {
     match diff(alloc, old, new, output) {
         Ok(true) => match write_text(SAME, output) {
@@ -181,29 +170,23 @@ fn compare<R: Source, S: Source, W: Write>(
 }
 
 /// Writes how the hives of two files differ, or that they are the same, and answers which: 0 where they are, else 1.
-pub fn diff_files<H: Files, W: Write>(
+pub fn diff_images<F: Read, W: Write>(
     alloc: Global,
-    host: &H,
-    old: &str,
-    new: &str,
+    old: &mut Image<F>,
+    new: &mut Image<F>,
     output: &mut W,
 ) -> Result<u8, DiffEnd>
     ensures status { IfOk result (λ status. status ≤ 1) }
-    ensures same { IfOk result (λ status. status ≡ 0 → AreSame (W.contents output.old) (W.contents output.new)) }
-    ensures other { IfOk result (λ status. status ≡ 1 → AreOther (W.contents output.old) (W.contents output.new)) }
-    ensures err { IfErr result (λ end. StopsDiffing (is_diff_end_cut end) (W.contents output.old) (W.contents output.new)) }
+    ensures same { IfOk result (λ status. status ≡ 0 → AreSame (bytes_of F.remaining old.old) (bytes_of F.remaining old.new)
+        (bytes_of F.remaining new.old) (bytes_of F.remaining new.new) (W.contents output.old) (W.contents output.new)) }
+    ensures other { IfOk result (λ status. status ≡ 1 → AreOther (bytes_of F.remaining old.old) (bytes_of F.remaining old.new)
+        (bytes_of F.remaining new.old) (bytes_of F.remaining new.new) (W.contents output.old) (W.contents output.new)) }
+    ensures err { IfErr result (λ end. (left : Option (List ℕ)) × (other_left : Option (List ℕ)) × StopsDiffing (W.contents output.old)
+        (W.contents output.new) (is_diff_end_cut end) (bytes_of F.remaining old.old) left (bytes_of F.remaining new.old) other_left) }
 {
-    let mut old = match open(host, old) {
-        Ok(old) => old,
-        Err(fault) => return Err(DiffEnd::Old(fault)),
-    };
-    let mut new = match open(host, new) {
-        Ok(new) => new,
-        Err(fault) => return Err(DiffEnd::New(fault)),
-    };
-    match compare(alloc, &mut old, &mut new, output) {
+    match compare(alloc, old, new, output) {
         Ok(status) => Ok(status),
-        Err(DiffEnd::Old(fault)) => Err(DiffEnd::Old(fault.of_file(&mut old))),
-        Err(DiffEnd::New(fault)) => Err(DiffEnd::New(fault.of_file(&mut new))),
+        Err(DiffEnd::Old(fault)) => Err(DiffEnd::Old(fault.of_image(old))),
+        Err(DiffEnd::New(fault)) => Err(DiffEnd::New(fault.of_image(new))),
     }
 }

@@ -20,6 +20,9 @@ use reg_words::EditRequest;
 use std::alloc::{AllocError, Global};
 use std::slice::from_ref;
 
+/// How standard input is named.
+const STANDARD_INPUT: &str = "standard input";
+
 /// How many bytes of a line of a script are reported.
 const LINE_FRONT: usize = 100;
 
@@ -58,9 +61,9 @@ fn push_front(text: &mut String, line: &[u8]) -> Result<(), AllocError> {
 }
 
 /// What is reported of a line of a script that failed: its number, its call, and why.
-fn failed_line_text(alloc: Global, line: &FailedLine) -> Result<String, AllocError> {
+fn failed_line_text(alloc: Global, input: &str, line: &FailedLine) -> Result<String, AllocError> {
     let number = line.number;
-    let mut text = format!(in alloc; "line {number} of standard input: ")?;
+    let mut text = format!(in alloc; "line {number} of {input}: ")?;
     let front = LINE_FRONT.min(line.text.len());
     push_front(&mut text, &line.text.as_slice()[..front])?;
     text.push_str(if front < line.text.len() { " .. " } else { " " })?;
@@ -75,8 +78,18 @@ fn failed_line_text(alloc: Global, line: &FailedLine) -> Result<String, AllocErr
     Ok(text)
 }
 
-/// What is reported of what ended a command on a file, without its `error`.
-fn fault_text(alloc: Global, file: &str, fault: &Fault) -> Result<String, AllocError> {
+/// What is reported of a text that isn't read.
+fn text_text(alloc: Global, input: &str, fault: ReadFault) -> Result<String, AllocError> {
+    match fault {
+        ReadFault::Line(line) => {
+            format!(in alloc; "line {line} of {input}: it isn't understood")
+        }
+        fault => format!(in alloc; "{input}: {fault}"),
+    }
+}
+
+/// What is reported of what ended a command on a file, which read an input, without its `error`.
+fn fault_text(alloc: Global, file: &str, input: &str, fault: &Fault) -> Result<String, AllocError> {
     match fault {
         Fault::Load(LoadFault::Memory) | Fault::Memory => format!(in alloc; "8"),
         Fault::Busy => format!(in alloc; "busy {file}"),
@@ -92,8 +105,8 @@ fn fault_text(alloc: Global, file: &str, fault: &Fault) -> Result<String, AllocE
             let number = fault.number();
             format!(in alloc; "script {number}: {fault}")
         }
-        Fault::Line(line) => failed_line_text(alloc, line),
-        Fault::Failed(count) => format!(in alloc; "lines of standard input that failed: {count}"),
+        Fault::Line(line) => failed_line_text(alloc, input, line),
+        Fault::Failed(count) => format!(in alloc; "lines of {input} that failed: {count}"),
         Fault::NoKey | Fault::NoValue | Fault::NoParent => {
             format!(in alloc; "missing {file}: {fault}")
         }
@@ -103,14 +116,11 @@ fn fault_text(alloc: Global, file: &str, fault: &Fault) -> Result<String, AllocE
             format!(in alloc; "change {file}: refused with status {status}{name}")
         }
         Fault::LineBreak(key) => line_break_text(alloc, file, key.as_slice()),
-        Fault::Input(error) => format!(in alloc; "read standard input: {error}"),
-        Fault::Text(ReadFault::Line(line)) => {
-            format!(in alloc; "line {line} of standard input: it isn't understood")
-        }
-        Fault::Text(fault) => format!(in alloc; "standard input: {fault}"),
+        Fault::Input(error) => format!(in alloc; "read {input}: {error}"),
+        Fault::Text(fault) => text_text(alloc, input, *fault),
         Fault::Refused { line, status } => {
             let name = status_name(*status);
-            format!(in alloc; "line {line} of standard input: refused with status {status}{name}")
+            format!(in alloc; "line {line} of {input}: refused with status {status}{name}")
         }
         Fault::Pattern(fault) => format!(in alloc; "pattern: {fault}"),
         Fault::Cut(written) => format!(in alloc; "1013 written {written}"),
@@ -118,18 +128,18 @@ fn fault_text(alloc: Global, file: &str, fault: &Fault) -> Result<String, AllocE
 }
 
 /// The line that reports what ended a command on a file.
-fn fault_line(alloc: Global, file: &str, fault: &Fault) -> Result<String, AllocError>
+fn fault_line(alloc: Global, file: &str, input: &str, fault: &Fault) -> Result<String, AllocError>
     ensures { IfOk result (λ line. (what : List ℕ) × (string_bytes line ≡ codes "error " ++ (what ++ line_feed))) }
 {
-    let what = fault_text(alloc, file, fault)?;
+    let what = fault_text(alloc, file, input, fault)?;
     format!(in alloc; "error {what}\n")
 }
 
-/// Reports what ended a command on a file.
-fn report<E: Sink>(alloc: Global, errors: &mut E, file: &str, fault: &Fault)
+/// Reports what ended a command on a file, which read an input.
+fn report<E: Sink>(alloc: Global, errors: &mut E, file: &str, input: &str, fault: &Fault)
     ensures { IsReported false (E.contents errors.old) (E.contents errors.new) (E.failures errors.old) (E.failures errors.new) }
 {
-    match fault_line(alloc, file, fault) {
+    match fault_line(alloc, file, input, fault) {
         Ok(line) => say(errors, line.as_bytes()),
         Err(_) => say(errors, b"error 8\n"),
     }
@@ -150,7 +160,7 @@ pub fn settle<E: Sink>(
         Ok(()) => 0,
         Err(Fault::Cut(_)) if is_closed => 1,
         Err(fault) => {
-            report(alloc, errors, file, &fault);
+            report(alloc, errors, file, STANDARD_INPUT, &fault);
             1
         }
     }
@@ -180,8 +190,34 @@ pub fn settle_save<E: Sink>(
         Ok(()) => 0,
         Err(SaveEnd::Hive(Fault::Script(ScriptFault::Write { .. }))) if is_closed => 1,
         Err(SaveEnd::Hive(Fault::Cut(_))) if is_closed => 1,
+        Err(SaveEnd::Hive(fault)) | Err(SaveEnd::Text(fault)) | Err(SaveEnd::Files(fault)) => {
+            report(alloc, errors, blamed(edit, &fault), STANDARD_INPUT, &fault);
+            1
+        }
+    }
+}
+
+/// Ends an import, and answers its status. What ended it early is reported of the file that it is about: the text's, where that can't be
+/// opened, or else the hive's; the text is named by its file, or as standard input.
+pub fn settle_import<E: Sink>(
+    alloc: Global,
+    errors: &mut E,
+    edit: &EditRequest<'_>,
+    text: Option<&str>,
+    done: Result<(), SaveEnd>,
+) -> u8
+    ensures { Settles is_save_end_cut false done result (E.contents errors.old) (E.contents errors.new)
+        (E.failures errors.old) (E.failures errors.new) }
+{
+    let input = text.unwrap_or(STANDARD_INPUT);
+    match done {
+        Ok(()) => 0,
+        Err(SaveEnd::Text(fault)) => {
+            report(alloc, errors, input, input, &fault);
+            1
+        }
         Err(SaveEnd::Hive(fault)) | Err(SaveEnd::Files(fault)) => {
-            report(alloc, errors, blamed(edit, &fault), &fault);
+            report(alloc, errors, blamed(edit, &fault), input, &fault);
             1
         }
     }

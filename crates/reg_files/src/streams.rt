@@ -2,20 +2,24 @@
 
 ghost use Rattle.std.specs.Prelude.{◌≡◌, ◌≤◌, true, MatchResult, map};
 ghost use Rattle.std.specs.Io.KnownBytes.{Appends};
-ghost use Rattle.reg_files.specs.Serving.{IsCutShort, name_before, NameStops, Answers, AnswerStops, StopReported, DumpStops};
-ghost use Rattle.reg_files.specs.Serving.{Checks, ChecksEach, ChecksFiles};
+ghost use Rattle.reg_command.specs.Failures.{Does};
+ghost use Rattle.reg_files.specs.Serving.{IsCutShort, name_before, NameStops, AnswerStops, CountStops, StopReported, DumpStops};
+ghost use Rattle.reg_files.specs.Serving.{Looks, Checks, ChecksEach, ChecksFiles};
 ghost use Rattle.reg_text.specs.Failures.{Stays, Fails};
+ghost use Rattle.reg_files.specs.Internal.Counted.{IsCounted};
 ghost use Rattle.reg_files.specs.Internal.Cuts.{is_cut, CutBlames};
+ghost use Rattle.reg_files.specs.Internal.Fronts.{bytes_of};
 ghost use Rattle.reg_words.specs.declared.request.StreamRequest.{StreamRequest};
 
 use crate::device::Output;
 use crate::fault::Fault;
-use crate::queries::open;
+use crate::images::{Image, open_image};
 use crate::reports::settle;
 use reg_command::{Stop, check_image, dump_image, report_stop};
 use reg_text::{Sink, write_counted};
+use reg_words::HiveFile;
 use std::alloc::Global;
-use std::io::{Read, Write};
+use std::io::Read;
 use std::rt::Files;
 
 /// Reports what ended a request early, save that a write failed since nobody reads the output any more.
@@ -35,15 +39,16 @@ fn settle_stop<E: Sink>(alloc: Global, errors: &mut E, is_closed: bool, stop: St
 /// Writes the text of the tree of an open file, and answers the status.
 fn dump_in<F: Read, W: Output, E: Sink>(
     alloc: Global,
-    image: &mut F,
+    image: &mut Image<F>,
     output: &mut W,
     errors: &mut E,
 ) -> u8
     ensures status { result ≤ 1 }
-    ensures answers { result ≡ 0 → Answers StreamRequest.Dump (W.contents output.old) (W.contents output.new)
-        (E.contents errors.old) (E.contents errors.new) }
+    ensures answers { result ≡ 0 → Does StreamRequest.Dump (bytes_of F.remaining image.old) (bytes_of F.remaining image.new)
+        (W.contents output.old) (W.contents output.new) × (E.contents errors.new ≡ E.contents errors.old) }
     ensures stops { result ≡ 1 → AnswerStops StreamRequest.Dump (W.closed output.new) (W.contents output.old) (W.contents output.new)
-        (E.contents errors.old) (E.contents errors.new) (E.failures errors.old) (E.failures errors.new) }
+        (E.contents errors.new) (E.failures errors.new) (bytes_of F.remaining image.old) (bytes_of F.remaining image.new)
+        (E.contents errors.old) (E.failures errors.old) }
 {
     match dump_image(alloc, image, output) {
         Ok(()) => 0,
@@ -57,15 +62,16 @@ fn dump_in<F: Read, W: Output, E: Sink>(
 /// Writes how many keys and values an open file has, and answers the status.
 fn check_in<F: Read, W: Output, E: Sink>(
     alloc: Global,
-    image: &mut F,
+    image: &mut Image<F>,
     output: &mut W,
     errors: &mut E,
 ) -> u8
     ensures status { result ≤ 1 }
-    ensures answers { result ≡ 0 → Answers StreamRequest.Check (W.contents output.old) (W.contents output.new)
-        (E.contents errors.old) (E.contents errors.new) }
+    ensures answers { result ≡ 0 → Does StreamRequest.Check (bytes_of F.remaining image.old) (bytes_of F.remaining image.new)
+        (W.contents output.old) (W.contents output.new) × (E.contents errors.new ≡ E.contents errors.old) }
     ensures stops { result ≡ 1 → AnswerStops StreamRequest.Check (W.closed output.new) (W.contents output.old) (W.contents output.new)
-        (E.contents errors.old) (E.contents errors.new) (E.failures errors.old) (E.failures errors.new) }
+        (E.contents errors.new) (E.failures errors.new) (bytes_of F.remaining image.old) (bytes_of F.remaining image.new)
+        (E.contents errors.old) (E.failures errors.old) }
 {
     match check_image(alloc, image, output) {
         Ok(()) => 0,
@@ -80,19 +86,19 @@ fn check_in<F: Read, W: Output, E: Sink>(
 pub fn dump_file<H: Files, W: Output, E: Sink>(
     alloc: Global,
     host: &H,
-    file: &str,
+    hive: HiveFile<'_>,
     output: &mut W,
     errors: &mut E,
 ) -> u8
     ensures status { result ≤ 1 }
-    ensures answers { result ≡ 0 → Answers StreamRequest.Dump (W.contents output.old) (W.contents output.new)
-        (E.contents errors.old) (E.contents errors.new) }
-    ensures stops { result ≡ 1 → DumpStops (W.closed output.new) (W.contents output.old) (W.contents output.new)
+    ensures answers { result ≡ 0 → Looks hive.entry.is_dirty hive.entry.file.now (E.contents errors.old) (E.contents errors.new) (E.failures errors.old)
+        (λ unread left. Does StreamRequest.Dump unread left (W.contents output.old) (W.contents output.new)) }
+    ensures stops { result ≡ 1 → DumpStops hive.entry.is_dirty hive.entry.file.now (W.closed output.new) (W.contents output.old) (W.contents output.new)
         (E.contents errors.old) (E.contents errors.new) (E.failures errors.old) (E.failures errors.new) }
 {
-    match open(host, file) {
+    match open_image(alloc, host, hive.file, hive.is_dirty, errors) {
         Ok(mut image) => dump_in(alloc, &mut image, output, errors),
-        Err(fault) => settle(alloc, errors, file, false, Err(fault)),
+        Err(fault) => settle(alloc, errors, hive.file, false, Err(fault)),
     }
 }
 
@@ -136,14 +142,16 @@ fn count_in<F: Read, W: Output, E: Sink>(
     alloc: Global,
     file: &str,
     is_named: bool,
-    image: &mut F,
+    image: &mut Image<F>,
     output: &mut W,
     errors: &mut E,
 ) -> u8
     ensures status { result ≤ 1 }
-    ensures silent { result ≡ 0 → E.contents errors.new ≡ E.contents errors.old }
-    ensures checks { Checks is_named file.now result (W.closed output.new) (W.contents output.old) (W.contents output.new)
-        (E.contents errors.old) (E.contents errors.new) (E.failures errors.old) (E.failures errors.new) }
+    ensures counted { result ≡ 0 → IsCounted is_named file.now (W.contents output.old) (W.contents output.new)
+        (bytes_of F.remaining image.old) (bytes_of F.remaining image.new) (E.contents errors.old) (E.contents errors.new) }
+    ensures stops { result ≡ 1 → CountStops is_named file.now (W.closed output.new) (W.contents output.old) (W.contents output.new)
+        (E.contents errors.new) (E.failures errors.new) (bytes_of F.remaining image.old) (bytes_of F.remaining image.new)
+        (E.contents errors.old) (E.failures errors.old) }
 {
     match write_name(alloc, file, is_named, output) {
         Ok(()) => check_in(alloc, image, output, errors),
@@ -155,19 +163,18 @@ fn count_in<F: Read, W: Output, E: Sink>(
 fn count_file<H: Files, W: Output, E: Sink>(
     alloc: Global,
     host: &H,
-    file: &str,
+    hive: HiveFile<'_>,
     is_named: bool,
     output: &mut W,
     errors: &mut E,
 ) -> u8
     ensures status { result ≤ 1 }
-    ensures silent { result ≡ 0 → E.contents errors.new ≡ E.contents errors.old }
-    ensures checks { Checks is_named file.now result (W.closed output.new) (W.contents output.old) (W.contents output.new)
+    ensures checks { Checks hive.entry.is_dirty is_named hive.entry.file.now result (W.closed output.new) (W.contents output.old) (W.contents output.new)
         (E.contents errors.old) (E.contents errors.new) (E.failures errors.old) (E.failures errors.new) }
 {
-    match open(host, file) {
-        Ok(mut image) => count_in(alloc, file, is_named, &mut image, output, errors),
-        Err(fault) => settle(alloc, errors, file, false, Err(fault)),
+    match open_image(alloc, host, hive.file, hive.is_dirty, errors) {
+        Ok(mut image) => count_in(alloc, hive.file, is_named, &mut image, output, errors),
+        Err(fault) => settle(alloc, errors, hive.file, false, Err(fault)),
     }
 }
 
@@ -176,18 +183,22 @@ fn count_all<H: Files, W: Output, E: Sink>(
     alloc: Global,
     host: &H,
     files: &[&str],
+    is_dirty: bool,
     is_named: bool,
     output: &mut W,
     errors: &mut E,
 ) -> u8
     ensures status { result ≤ 1 }
-    ensures silent { result ≡ 0 → E.contents errors.new ≡ E.contents errors.old }
-    ensures checks { ChecksEach is_named (map (λ file. file.now) files.now) result (W.closed output.new) (W.contents output.old)
+    ensures checks { ChecksEach is_dirty is_named (map (λ file. file.now) files.now) result (W.closed output.new) (W.contents output.old)
         (W.contents output.new) (E.contents errors.old) (E.contents errors.new) (E.failures errors.old) (E.failures errors.new) }
 {
     let mut status = 0;
     for file in files {
-        status = count_file(alloc, host, file, is_named, output, errors).max(status);
+        let hive = HiveFile {
+            file: *file,
+            is_dirty,
+        };
+        status = count_file(alloc, host, hive, is_named, output, errors).max(status);
         if output.is_closed() {
             return 1;
         }
@@ -200,13 +211,21 @@ pub fn check_files<H: Files, W: Output, E: Sink>(
     alloc: Global,
     host: &H,
     files: &[&str],
+    is_dirty: bool,
     output: &mut W,
     errors: &mut E,
 ) -> u8
     ensures status { result ≤ 1 }
-    ensures silent { result ≡ 0 → E.contents errors.new ≡ E.contents errors.old }
-    ensures checks { ChecksFiles (map (λ file. file.now) files.now) result (W.closed output.new) (W.contents output.old)
+    ensures checks { ChecksFiles is_dirty (map (λ file. file.now) files.now) result (W.closed output.new) (W.contents output.old)
         (W.contents output.new) (E.contents errors.old) (E.contents errors.new) (E.failures errors.old) (E.failures errors.new) }
 {
-    count_all(alloc, host, files, files.len() > 1, output, errors)
+    count_all(
+        alloc,
+        host,
+        files,
+        is_dirty,
+        files.len() > 1,
+        output,
+        errors,
+    )
 }

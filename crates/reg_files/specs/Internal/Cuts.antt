@@ -24,6 +24,7 @@ is_diff_end_cut (diff.New ended) = is_cut ended
 -- of a command that saves: never in a step on the files
 abbrev pub is_save_end_cut : SaveEnd → Bool
 is_save_end_cut (save.Hive ended) = is_cut ended
+is_save_end_cut (save.Text ended) = false
 is_save_end_cut (save.Files ended) = false
 
 -- just one call of the output failed where its write was cut short, and else none

@@ -5,5 +5,5 @@ use Rattle.reg_files.proofs.answers.dump_asked.Goals as goal
 
 pub returns : goal.returns
 returns g c =
-    λ unread. either (Dump c.args.file) _ unread unread _ _ _ _ _ _ c.dump_file.result c.dump_file.ensures.status
-    (λ e. let done = c.dump_file.ensures.answers e in ((refl, done), done.3)) (λ e. (refl, c.dump_file.ensures.stops e))
+    λ unread. either (Dump c.args.hive) _ unread unread _ _ _ _ _ _ c.dump_file.result c.dump_file.ensures.status
+    (λ e. (refl, c.dump_file.ensures.answers e)) (λ e. (refl, c.dump_file.ensures.stops e))

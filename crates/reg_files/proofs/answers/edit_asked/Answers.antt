@@ -9,5 +9,5 @@ returns g c =
     (g.W.Write.contents c.args.output.now) (g.W.Write.contents c.edit_file-done.new.output)
     (g.E.Sink.contents c.args.errors.now) (g.E.Sink.contents c.settle_save.new.errors)
     (g.E.Sink.failures c.args.errors.now) (g.E.Sink.failures c.settle_save.new.errors) is_save_end_cut _ _ c.is_closed.result c.edit_file-done.result
-    c.settle_save.result c.settle_save.ensures c.edit_file-done.ensures.ok c.edit_file-done.ensures.err (λ done. done)
+    c.settle_save.result c.settle_save.ensures c.edit_file-done.ensures.ok c.edit_file-done.ensures.err (λ done told. (done, told))
     (λ end stops told. (is_save_end_cut end, stops, reported_as _ _ _ _ _ _ _ c.is_closed.ensures told))

@@ -1,4 +1,5 @@
-use Rattle.reg_files.proofs.StoppedCommands.{stops_diffing, same_cut_short}
+use Rattle.std.proofs.Common.{inl}
+use Rattle.reg_files.proofs.StoppedCommands.{same_cut_short}
 use Rattle.reg_files.proofs.queries.compare.Goals as goal
 
 pub returns-in-Err-write_text-clause-err : goal.returns-in-Err-write_text-clause-err
@@ -6,4 +7,4 @@ returns-in-Err-write_text-clause-err g c =
     same_cut_short _ _ _ _ _ _ _ _ _ c.in-Ok-true.field-0-test c.in-Ok-true.ensures.ok c.in-Err-write_text.ensures.written
 
 pub returns-in-Err-clause-err : goal.returns-in-Err-clause-err
-returns-in-Err-clause-err g c = stops_diffing _ _ _ _ _ _ _ c.in-Err.fault c.from.ensures c.in-Err.ensures.err
+returns-in-Err-clause-err g c = inl (c.in-Err.fault, c.from.ensures, c.in-Err.ensures.err)

@@ -3,8 +3,8 @@ use Rattle.reg_files.proofs.StreamStops.{stop_reported_as}
 use Rattle.reg_files.proofs.streams.check_in.Goals as goal
 
 pub returns-in-Ok-clause-answers : goal.returns-in-Ok-clause-answers
-returns-in-Ok-clause-answers g c = λ _. (_, _, c.in-Ok.ensures.ok, refl)
+returns-in-Ok-clause-answers g c = λ _. (c.in-Ok.ensures.ok, refl)
 
 pub returns-in-Err-clause-stops : goal.returns-in-Err-clause-stops
 returns-in-Err-clause-stops g c =
-    λ _. (_, _, c.in-Err.stop, c.in-Err.ensures.err, stop_reported_as _ _ c.in-Err.stop _ _ _ _ c.is_closed.ensures c.settle_stop.ensures)
+    λ _. (c.in-Err.stop, c.in-Err.ensures.err, stop_reported_as _ _ c.in-Err.stop _ _ _ _ c.is_closed.ensures c.settle_stop.ensures)

@@ -1,13 +1,19 @@
+use Rattle.std.proofs.Common.{arith, inr}
 use Rattle.reg_files.specs.Internal.Cuts.{is_cut}
 use Rattle.reg_files.proofs.Outcomes.{behind, unnamed}
 use Rattle.reg_files.proofs.streams.count_in.Goals as goal
 
-pub returns-in-Ok-clause-checks : goal.returns-in-Ok-clause-checks
-returns-in-Ok-clause-checks g c =
-    behind c.args.is_named c.args.file.now c.check_in.result _ _ _ _ _ _ _ _ c.in-Ok.ensures.written c.check_in.ensures.status
-    c.check_in.ensures.answers c.check_in.ensures.stops
+pub returns-in-Ok-clause-counted : goal.returns-in-Ok-clause-counted
+returns-in-Ok-clause-counted g c =
+    λ e. behind c.args.is_named c.args.file.now _ _ _ _ _ _ _ c.in-Ok.ensures.written (c.check_in.ensures.answers e)
 
-pub returns-in-Err-clause-checks : goal.returns-in-Err-clause-checks
-returns-in-Err-clause-checks g c =
-    unnamed c.args.is_named c.args.file.now c.settle.result _ c.is_closed.result (is_cut c.in-Err.fault) _ _ _ _ _ _ c.in-Err.ensures.written c.settle.ensures.0
+pub returns-in-Ok-clause-stops : goal.returns-in-Ok-clause-stops
+returns-in-Ok-clause-stops g c = λ e. inr (_, c.in-Ok.ensures.written, c.check_in.ensures.stops e)
+
+pub returns-in-Err-clause-counted : goal.returns-in-Err-clause-counted
+returns-in-Err-clause-counted g c = λ nil. let one = c.settle.ensures.0 in absurd (omega (arith, one, nil))
+
+pub returns-in-Err-clause-stops : goal.returns-in-Err-clause-stops
+returns-in-Err-clause-stops g c =
+    λ _. unnamed c.args.is_named c.args.file.now c.settle.result _ c.is_closed.result (is_cut c.in-Err.fault) _ _ _ _ _ _ _ _ c.in-Err.ensures.written
     c.is_closed.ensures c.settle.ensures.1
