@@ -1,6 +1,6 @@
 -- What a command line asks to change.
-use Rattle.std.proofs.Common.{◌≡◌, ◌∙◌, List, [], ℕ, Bool, true, false, codes, sym, refl, ap, subst}
-use Rattle.std.specs.Prelude.{◌↔◌, Option, Some, None, MatchOption, option_map, unwrap_or}
+use Rattle.std.proofs.Common.{◌≡◌, ◌∙◌, List, [], ℕ, codes, sym, refl, ap, subst}
+use Rattle.std.specs.Prelude.{Option, Some, None, MatchOption, option_map, unwrap_or}
 use Rattle.std.proofs.lemmas.Option.{same_Some}
 use Rattle.clap.specs.Words.{Row, Text, all_of, first_of}
 use Rattle.reg_words.specs.ChangeWords.{value_in}

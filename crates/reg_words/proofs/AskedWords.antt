@@ -12,11 +12,14 @@ use Rattle.clap.proofs.WalkLemmas.{first_value-rows, one_text-rows, raw_values-r
 use Rattle.reg_words.specs.StreamLines.{AreBothGiven, AsksOfStream, IsGiven, IsSet, IsHiveCount, IsNumber}
 use Rattle.reg_words.specs.declared.typed.change.KeyChange.{KeyChange}
 use Rattle.reg_words.specs.declared.typed.change.KeyChange.TheVariants.{CreateKey, SetValue, DeleteValue, DeleteKey}
-use Rattle.reg_words.specs.CommandLines.{IsMoment, Asks, AsksToBegin, AsksToEdit, AsksToChange, AsksForForm, AsksForPlaces, places_asked}
+use Rattle.reg_words.specs.CommandLines.{Asks, AsksToBegin, AsksToEdit, AsksToChange, AsksToWait, AsksForData, AsksForDifferences, AsksForForm, AsksForPlaces, places_asked}
+use Rattle.reg_words.specs.Moments.{IsMoment}
+use Rattle.reg_words.specs.declared.request.DataForm.{DataForm}
+use Rattle.reg_words.specs.declared.request.DiffForm.{DiffForm}
 use Rattle.reg_words.specs.Internal.Commands.{IsFound, IsOther}
 use Rattle.reg_words.proofs.StreamWords.{apart, stream_word, stream_named, stream_apart, other_stream, no_running, no_stream_of_both, no_working, no_dirty_dump, no_dirty_check}
 use Rattle.reg_words.specs.declared.request.Request.{Request}
-use Rattle.reg_words.specs.declared.request.Request.TheVariants.{Stream, Dump, Check, Listing, Get, Find, Diff, Export, New, Edit, Import, Change, Version}
+use Rattle.reg_words.specs.declared.request.Request.TheVariants.{Stream, Dump, Check, Listing, Get, Find, Diff, Export, Timeline, New, Edit, Import, Change, Manual, Completions, Version}
 use Rattle.reg_words.specs.declared.request.EditRequest.{EditRequest}
 use Rattle.reg_words.specs.declared.request.Form.{Form}
 use Rattle.reg_words.specs.declared.request.Form.TheVariants.{Reg, Json, JsonLines, Csv, Html}
@@ -124,30 +127,36 @@ abbrev pub word_of : Request → List ℕ
 word_of (Stream request) = stream_word request
 word_of (Dump hive) = codes "dump"
 word_of (Check files is_dirty) = codes "check"
-word_of (Listing hive path is_tree is_whole) = codes "ls"
-word_of (Get hive path name is_raw is_whole) = codes "get"
+word_of (Listing hive path is_tree is_whole columns) = codes "ls"
+word_of (Get hive path name form is_whole) = codes "get"
 word_of (Find hive pattern ignores_case places) = codes "find"
-word_of (Diff old new is_dirty) = codes "diff"
+word_of (Diff old new is_dirty form) = codes "diff"
 word_of (Export hive path form) = codes "export"
+word_of (Timeline files is_dirty from to form) = codes "timeline"
 word_of (New file name) = codes "new"
 word_of (Edit edit keeps_going) = codes "edit"
-word_of (Import edit text prefix) = codes "import"
+word_of (Import edit text prefix tells_all) = codes "import"
 word_of (Change edit change) = change_word change
+word_of Manual = codes "manual"
+word_of (Completions shell) = codes "completions"
 word_of Version = codes "version"
 
 pub named : (found : Text × List Row) (request : Request) → Asks found request → found.0 ≡ word_of request
 named found (Stream request) h = stream_named found request h
 named found (Dump hive) h = h.0
 named found (Check files is_dirty) h = h.0
-named found (Listing hive path is_tree is_whole) h = h.0
-named found (Get hive path name is_raw is_whole) h = h.0
+named found (Listing hive path is_tree is_whole columns) h = h.0
+named found (Get hive path name form is_whole) h = h.0
 named found (Find hive pattern ignores_case places) h = h.0
-named found (Diff old new is_dirty) h = h.0
+named found (Diff old new is_dirty form) h = h.0
 named found (Export hive path form) h = h.0
+named found (Timeline files is_dirty from to form) h = h.0
 named found (New file name) h = h.0
 named found (Edit edit keeps_going) h = h.0
-named found (Import edit text prefix) h = h.0
+named found (Import edit text prefix tells_all) h = h.0
 named found (Change edit change) h = change_named found change h.1
+named found Manual h = h
+named found (Completions shell) h = h.0
 named found Version h = h
 
 -- another subcommand was named
@@ -156,7 +165,7 @@ module _ (word : Text) (rows : List Row) (request : Request) (same : bytes_eq wo
   other differ h = apart word (word_of request) differ same (named (word, rows) request h)
 
 -- another one than those that ask for a change
-other_change : (word : Text) (rows : List Row) (edit : EditRequest) (change : KeyChange) → bytes_eq word word ≡ true →
+pub other_change : (word : Text) (rows : List Row) (edit : EditRequest) (change : KeyChange) → bytes_eq word word ≡ true →
     bytes_eq word (codes "create") ≡ false → bytes_eq word (codes "set") ≡ false → bytes_eq word (codes "delete") ≡ false →
     Asks (word, rows) (Change edit change) → ⊥
 other_change word rows edit (CreateKey path makes_parents) same create set delete h =
@@ -180,15 +189,19 @@ none_asked name rows none never (Stream request) h =
     stream_apart (name, rows) request none.no_run_word none.no_dump_word none.no_check_word h
 none_asked name rows none never (Dump hive) h = none.no_dump_word (named (name, rows) (Dump hive) h)
 none_asked name rows none never (Check files is_dirty) h = none.no_check_word (named (name, rows) (Check files is_dirty) h)
-none_asked name rows none never (Listing hive path is_tree is_whole) h = none.no_ls_word (named (name, rows) (Listing hive path is_tree is_whole) h)
-none_asked name rows none never (Get hive path value is_raw is_whole) h = none.no_get_word (named (name, rows) (Get hive path value is_raw is_whole) h)
+none_asked name rows none never (Listing hive path is_tree is_whole columns) h = none.no_ls_word (named (name, rows) (Listing hive path is_tree is_whole columns) h)
+none_asked name rows none never (Get hive path value form is_whole) h = none.no_get_word (named (name, rows) (Get hive path value form is_whole) h)
 none_asked name rows none never (Find hive pattern ignores_case places) h = none.no_find_word (named (name, rows) (Find hive pattern ignores_case places) h)
-none_asked name rows none never (Diff old new is_dirty) h = none.no_diff_word (named (name, rows) (Diff old new is_dirty) h)
+none_asked name rows none never (Diff old new is_dirty form) h = none.no_diff_word (named (name, rows) (Diff old new is_dirty form) h)
 none_asked name rows none never (Export hive path form) h = none.no_export_word (named (name, rows) (Export hive path form) h)
+none_asked name rows none never (Timeline files is_dirty from to form) h =
+    none.no_timeline_word (named (name, rows) (Timeline files is_dirty from to form) h)
 none_asked name rows none never (New file value) h = none.no_new_word (named (name, rows) (New file value) h)
 none_asked name rows none never (Edit edit keeps_going) h = none.no_edit_word (named (name, rows) (Edit edit keeps_going) h)
-none_asked name rows none never (Import edit text prefix) h = none.no_import_word (named (name, rows) (Import edit text prefix) h)
+none_asked name rows none never (Import edit text prefix tells_all) h = none.no_import_word (named (name, rows) (Import edit text prefix tells_all) h)
 none_asked name rows none never (Change edit change) h = never edit change h
+none_asked name rows none never Manual h = none.no_manual_word (named (name, rows) Manual h)
+none_asked name rows none never (Completions shell) h = none.no_completions_word (named (name, rows) (Completions shell) h)
 none_asked name rows none never Version h = none.no_version_word (named (name, rows) Version h)
 
 -- what is there is none
@@ -230,13 +243,15 @@ module _ (rows : List Row) where
   no_check e dirty request h = other (codes "check") rows request refl refl h
 
   pub no_list : first_of (codes "file") rows ≡ None → (request : Request) → Asks (codes "ls", rows) request → ⊥
-  no_list e (Listing hive path is_tree is_whole) h = none_there _ hive.file.now e h.1.0
+  no_list e (Listing hive path is_tree is_whole columns) h = none_there _ hive.file.now e h.1.0
   no_list e (Stream request) h = other_stream (codes "ls", rows) (codes "ls") request refl refl refl refl refl h
   no_list e (Change edit change) h = other_change (codes "ls") rows edit change refl refl refl refl h
   no_list e request h = other (codes "ls") rows request refl refl h
 
-  pub no_get : first_of (codes "file") rows ≡ None → (request : Request) → Asks (codes "get", rows) request → ⊥
-  no_get e (Get hive path value is_raw is_whole) h = none_there _ hive.file.now e h.1.0
+  pub no_get : ((first_of (codes "file") rows ≡ None) ⊎ ((form : DataForm) → AsksForData rows form → ⊥)) → (request : Request) →
+      Asks (codes "get", rows) request → ⊥
+  no_get (inl e) (Get hive path value form is_whole) h = none_there _ hive.file.now e h.1.0
+  no_get (inr never) (Get hive path value form is_whole) h = never form h.4
   no_get e (Stream request) h = other_stream (codes "get", rows) (codes "get") request refl refl refl refl refl h
   no_get e (Change edit change) h = other_change (codes "get") rows edit change refl refl refl refl h
   no_get e request h = other (codes "get") rows request refl refl h
@@ -250,10 +265,11 @@ module _ (rows : List Row) where
   no_find e (Change edit change) h = other_change (codes "find") rows edit change refl refl refl refl h
   no_find e request h = other (codes "find") rows request refl refl h
 
-  pub no_diff : ((first_of (codes "old") rows ≡ None) ⊎ (first_of (codes "new") rows ≡ None)) → (request : Request) →
-      Asks (codes "diff", rows) request → ⊥
-  no_diff (inl e) (Diff old new is_dirty) h = none_there _ old.now e h.1
-  no_diff (inr e) (Diff old new is_dirty) h = none_there _ new.now e h.2
+  pub no_diff : ((first_of (codes "old") rows ≡ None) ⊎ ((first_of (codes "new") rows ≡ None)
+      ⊎ ((form : DiffForm) → AsksForDifferences rows form → ⊥))) → (request : Request) → Asks (codes "diff", rows) request → ⊥
+  no_diff (inl e) (Diff old new is_dirty form) h = none_there _ old.now e h.1
+  no_diff (inr (inl e)) (Diff old new is_dirty form) h = none_there _ new.now e h.2
+  no_diff (inr (inr never)) (Diff old new is_dirty form) h = never form h.4
   no_diff e (Stream request) h = other_stream (codes "diff", rows) (codes "diff") request refl refl refl refl refl h
   no_diff e (Change edit change) h = other_change (codes "diff") rows edit change refl refl refl refl h
   no_diff e request h = other (codes "diff") rows request refl refl h
@@ -273,7 +289,7 @@ module _ (rows : List Row) where
   no_edit never request h = other (codes "edit") rows request refl refl h
 
   pub no_import : ((edit : EditRequest) → AsksToEdit rows edit → ⊥) → (request : Request) → Asks (codes "import", rows) request → ⊥
-  no_import never (Import edit text prefix) h = never edit h.1
+  no_import never (Import edit text prefix tells_all) h = never edit h.1
   no_import never (Stream request) h = other_stream (codes "import", rows) (codes "import") request refl refl refl refl refl h
   no_import never (Change edit change) h = other_change (codes "import") rows edit change refl refl refl refl h
   no_import never request h = other (codes "import") rows request refl refl h
@@ -296,10 +312,11 @@ none_of_both found both (Change edit change) h = not_run_change found edit chang
 none_of_both found both request h = not_run found request refl both h
 
 -- no file is saved
-pub no_saving : (rows : List Row) → ((first_of (codes "file") rows ≡ None) ⊎ ((begin : Begin) → AsksToBegin rows begin → ⊥)) →
-    (edit : EditRequest) → AsksToEdit rows edit → ⊥
+pub no_saving : (rows : List Row) → ((first_of (codes "file") rows ≡ None) ⊎ (((begin : Begin) → AsksToBegin rows begin → ⊥)
+    ⊎ ((seconds : ℕ) → AsksToWait rows seconds → ⊥))) → (edit : EditRequest) → AsksToEdit rows edit → ⊥
 no_saving rows (inl e) edit h = none_there _ edit.file.now e h.file
-no_saving rows (inr never) edit h = never edit.begin h.begin
+no_saving rows (inr (inl never)) edit h = never edit.begin h.begin
+no_saving rows (inr (inr never)) edit h = never edit.wait h.wait
 
 -- the places that were read are those that are asked for
 exactly : (rows : List Row) (asked result : Option Places) → asked ≡ result → IsFound (λ places. asked ≡ Some places) result
@@ -330,6 +347,9 @@ module _ (rows : List Row) (name : Text) (e : first_of (codes "as") rows ≡ Som
 -- something was found, or nothing
 pub found_there : {A : Type 0} (P : A → Type 0) (r : Option A) (a : A) → r ≡ Some a → IsFound P r → P a
 found_there P r a e h = subst (IsFound P) e h
+
+pub nothing_found : {A : Type 0} (P : A → Type 0) (r : Option A) → r ≡ None → ((a : A) → P a → ⊥) → IsFound P r
+nothing_found P r e never = subst (IsFound P) (sym e) never
 
 pub never_found : {A : Type 0} (P : A → Type 0) (r : Option A) → r ≡ None → IsFound P r → (a : A) → P a → ⊥
 never_found P r e h = subst (IsFound P) e h

@@ -1,13 +1,17 @@
 pub mod AskedChanges
+pub mod AskedForms
 pub mod AskedWords
 pub mod CommandLineRows
 pub mod CommandShapes
 pub mod Digits
 pub mod EscapedWords
+pub mod FieldLemmas
+pub mod MomentLemmas
 pub mod Pieces
 pub mod PlaceLemmas
 pub mod StreamRequests
 pub mod StreamWords
 pub mod ToldOptions
+pub mod ToldPieces
 pub mod TurnedWords
 pub mod WideTexts

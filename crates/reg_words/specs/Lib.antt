@@ -3,5 +3,10 @@ pub mod ChangeWords
 pub mod StreamLines
 pub mod CommandLines
 pub mod WordsFaults
+pub mod Settings
+pub mod Manuals
+pub mod Completions
 pub mod PlaceLists
+pub mod FieldLists
+pub mod Moments
 pub mod Internal

@@ -1,16 +1,23 @@
 //! What the matches of a command line ask for.
 
-ghost use Rattle.std.specs.Prelude.{◌≡◌, ◌≤◌, ◌↔◌, true, codes, Some, None, IfOk, MatchOption};
-ghost use Rattle.clap.specs.Words.{first_of, found_of, rows_of, subcommand_rows_of};
+ghost use Rattle.std.specs.Prelude.{◌≡◌, ◌≤◌, ◌↔◌, true, codes, Some, None, IfOk, MatchOption, map};
+ghost use Rattle.clap.specs.Words.{all_of, first_of, found_of, rows_of, subcommand_rows_of};
 ghost use Rattle.reg_words.specs.StreamLines.{IsGiven, IsSet, AreBothGiven, GivesBoth};
-ghost use Rattle.reg_words.specs.CommandLines.{AsksToBegin, AsksToEdit, AsksForForm, AsksForPlaces, AsksForHive, AsksForPath, AsksForValue, Asks, AsksIn};
+ghost use Rattle.reg_words.specs.CommandLines.{AsksToBegin, AsksToEdit, AsksForForm, AsksForPlaces, AsksForHive, AsksForPath, AsksForValue, AsksForDifferences, AsksForMoment, AsksForTimeline, Asks, AsksIn};
 ghost use Rattle.reg_words.specs.declared.request.Request.TheVariants.{Stream};
 ghost use Rattle.reg_words.specs.Internal.Commands.{IsFound};
 
 use crate::changes::change_asked;
+use crate::forms::{
+    columns_asked, data_asked, differences_asked, moment_asked, shell_asked, timeline_form,
+    wait_asked,
+};
 use crate::places::read_places;
 use crate::typed::{read_name, read_path};
-use crate::{Begin, EditRequest, Form, HiveCount, HiveFile, Places, Request, StreamRequest};
+use crate::{
+    Begin, DiffForm, EditRequest, Form, HiveCount, HiveFile, Places, Request, StreamRequest,
+    TimelineForm,
+};
 use clap::ArgMatches;
 use std::alloc::{AllocError, Global};
 
@@ -145,7 +152,7 @@ fn check_asked<'a>(
 }
 
 /// The path of the key that is looked for; the root's where there is none.
-fn path_asked(alloc: Global, matches: &ArgMatches<'_>) -> Result<Vec<u8>, AllocError>
+pub fn path_asked(alloc: Global, matches: &ArgMatches<'_>) -> Result<Vec<u8>, AllocError>
     ensures { IfOk result (λ path. AsksForPath (rows_of (found_of matches.now)) path.items) }
 {
     let word = matches.get_str("path").unwrap_or("");
@@ -182,20 +189,20 @@ pub fn begin_asked(matches: &ArgMatches<'_>) -> Option<Begin>
     }
 }
 
-/// What is asked of a file that is saved; `None` where it is to begin at two moments.
+/// What is asked of a file that is saved; `None` where it is to begin at two moments, or where its wait is none.
 fn edit_of<'a>(file: &'a str, matches: &ArgMatches<'a>) -> Option<EditRequest<'a>>
     requires { first_of (codes "file") (rows_of (found_of matches.now)) ≡ Some file.now }
     ensures { IsFound (AsksToEdit (rows_of (found_of matches.now))) result }
 {
-    match begin_asked(matches) {
-        Some(begin) => Some(EditRequest {
-            file,
-            output: matches.get_str("output"),
-            begin,
-            dry_run: is_set(matches, "dry-run"),
-        }),
-        None => None,
-    }
+    let begin = begin_asked(matches)?;
+    let wait = wait_asked(matches)?;
+    Some(EditRequest {
+        file,
+        output: matches.get_str("output"),
+        begin,
+        wait,
+        dry_run: is_set(matches, "dry-run"),
+    })
 }
 
 /// What is asked of the file that is to be saved; `None`, too, where there is none.
@@ -228,6 +235,7 @@ fn import_asked<'a>(matches: &ArgMatches<'a>) -> Option<Request<'a>>
             edit,
             text: matches.get_str("text"),
             prefix: matches.get_str("prefix"),
+            tells_all: is_set(matches, "all-errors"),
         }),
         None => None,
     }
@@ -290,9 +298,10 @@ fn find_asked<'a>(matches: &ArgMatches<'a>) -> Option<Request<'a>>
     }
 }
 
-/// What `diff` is asked for of a file; `None` where there is no other one.
-fn diff_of<'a>(old: &'a str, matches: &ArgMatches<'a>) -> Option<Request<'a>>
-    requires { first_of (codes "old") (rows_of (found_of matches.now)) ≡ Some old.now }
+/// What `diff` is asked for of a file in some form; `None` where there is no other one.
+fn diff_of<'a>(old: &'a str, form: DiffForm, matches: &ArgMatches<'a>) -> Option<Request<'a>>
+    requires old { first_of (codes "old") (rows_of (found_of matches.now)) ≡ Some old.now }
+    requires form { AsksForDifferences (rows_of (found_of matches.now)) form }
     ensures { IsFound (Asks (codes "diff", rows_of (found_of matches.now))) result }
 {
     match matches.get_str("new") {
@@ -300,16 +309,115 @@ fn diff_of<'a>(old: &'a str, matches: &ArgMatches<'a>) -> Option<Request<'a>>
             old,
             new,
             is_dirty: is_set(matches, "dirty"),
+            form,
         }),
         None => None,
     }
 }
 
-fn diff_asked<'a>(matches: &ArgMatches<'a>) -> Option<Request<'a>>
-    ensures { IsFound (Asks (codes "diff", rows_of (found_of matches.now))) result }
+/// What `diff` is asked for of a file; `None` where the form isn't understood, or where there is no other file.
+fn diff_in<'a>(
+    alloc: Global,
+    old: &'a str,
+    matches: &ArgMatches<'a>,
+) -> Result<Option<Request<'a>>, AllocError>
+    requires { first_of (codes "old") (rows_of (found_of matches.now)) ≡ Some old.now }
+    ensures { IfOk result (λ request. IsFound (Asks (codes "diff", rows_of (found_of matches.now))) request) }
+{
+    match differences_asked(alloc, matches)? {
+        Some(form) => Ok(diff_of(old, form, matches)),
+        None => Ok(None),
+    }
+}
+
+fn diff_asked<'a>(
+    alloc: Global,
+    matches: &ArgMatches<'a>,
+) -> Result<Option<Request<'a>>, AllocError>
+    ensures { IfOk result (λ request. IsFound (Asks (codes "diff", rows_of (found_of matches.now))) request) }
 {
     match matches.get_str("old") {
-        Some(old) => diff_of(old, matches),
+        Some(old) => diff_in(alloc, old, matches),
+        None => Ok(None),
+    }
+}
+
+/// What `timeline` is asked for of some files from a moment on, in some form; `None` where the last moment isn't understood.
+fn timeline_from<'a>(
+    alloc: Global,
+    files: Vec<&'a str>,
+    form: TimelineForm,
+    from: u64,
+    matches: &ArgMatches<'a>,
+) -> Result<Option<Request<'a>>, AllocError>
+    requires files { all_of (codes "files") (rows_of (found_of matches.now)) ≡ Some (map (λ file. file.now) files.items) }
+    requires form { AsksForTimeline (rows_of (found_of matches.now)) form }
+    requires from { AsksForMoment (codes "from") 0 (rows_of (found_of matches.now)) from }
+    ensures { IfOk result (λ request. IsFound (Asks (codes "timeline", rows_of (found_of matches.now))) request) }
+{
+    match moment_asked(alloc, "to", u64::MAX, matches)? {
+        Some(to) => Ok(Some(Request::Timeline {
+            files,
+            is_dirty: is_set(matches, "dirty"),
+            from,
+            to,
+            form,
+        })),
+        None => Ok(None),
+    }
+}
+
+/// What `timeline` is asked for of some files in some form; `None` where a moment isn't understood.
+fn timeline_of<'a>(
+    alloc: Global,
+    files: &[&'a str],
+    form: TimelineForm,
+    matches: &ArgMatches<'a>,
+) -> Result<Option<Request<'a>>, AllocError>
+    requires files { all_of (codes "files") (rows_of (found_of matches.now)) ≡ Some (map (λ file. file.now) files.now) }
+    requires form { AsksForTimeline (rows_of (found_of matches.now)) form }
+    ensures { IfOk result (λ request. IsFound (Asks (codes "timeline", rows_of (found_of matches.now))) request) }
+{
+    let mut names = Vec::new(alloc);
+    names.extend_from_slice(files)?;
+    match moment_asked(alloc, "from", 0, matches)? {
+        Some(from) => timeline_from(alloc, names, form, from, matches),
+        None => Ok(None),
+    }
+}
+
+/// What `timeline` is asked for of some files; `None` where the form isn't understood, or a moment.
+fn timeline_in<'a>(
+    alloc: Global,
+    files: &[&'a str],
+    matches: &ArgMatches<'a>,
+) -> Result<Option<Request<'a>>, AllocError>
+    requires { all_of (codes "files") (rows_of (found_of matches.now)) ≡ Some (map (λ file. file.now) files.now) }
+    ensures { IfOk result (λ request. IsFound (Asks (codes "timeline", rows_of (found_of matches.now))) request) }
+{
+    match timeline_form(matches) {
+        Some(form) => timeline_of(alloc, files, form, matches),
+        None => Ok(None),
+    }
+}
+
+fn timeline_asked<'a>(
+    alloc: Global,
+    matches: &ArgMatches<'a>,
+) -> Result<Option<Request<'a>>, AllocError>
+    ensures { IfOk result (λ request. IsFound (Asks (codes "timeline", rows_of (found_of matches.now))) request) }
+{
+    match matches.get_strs("files") {
+        Some(files) => timeline_in(alloc, files, matches),
+        None => Ok(None),
+    }
+}
+
+fn completions_asked<'a>(matches: &ArgMatches<'a>) -> Option<Request<'a>>
+    ensures { IsFound (Asks (codes "completions", rows_of (found_of matches.now))) result }
+{
+    match shell_asked(matches) {
+        Some(shell) => Some(Request::Completions(shell)),
         None => None,
     }
 }
@@ -387,6 +495,28 @@ fn list_asked<'a>(
             path: path_asked(alloc, matches)?,
             is_tree: is_set(matches, "tree"),
             is_whole: is_set(matches, "whole"),
+            columns: columns_asked(matches),
+        })),
+        None => Ok(None),
+    }
+}
+
+/// What `get` is asked for of a file; `None` where its data are asked for in two ways.
+fn get_in<'a>(
+    alloc: Global,
+    hive: HiveFile<'a>,
+    matches: &ArgMatches<'a>,
+) -> Result<Option<Request<'a>>, AllocError>
+    requires { AsksForHive (rows_of (found_of matches.now)) hive }
+    ensures { IfOk result (λ request. IsFound (Asks (codes "get", rows_of (found_of matches.now))) request) }
+{
+    match data_asked(matches) {
+        Some(form) => Ok(Some(Request::Get {
+            hive,
+            path: path_asked(alloc, matches)?,
+            name: value_asked(alloc, matches)?,
+            form,
+            is_whole: is_set(matches, "whole"),
         })),
         None => Ok(None),
     }
@@ -396,13 +526,7 @@ fn get_asked<'a>(alloc: Global, matches: &ArgMatches<'a>) -> Result<Option<Reque
     ensures { IfOk result (λ request. IsFound (Asks (codes "get", rows_of (found_of matches.now))) request) }
 {
     match hive_asked(matches) {
-        Some(hive) => Ok(Some(Request::Get {
-            hive,
-            path: path_asked(alloc, matches)?,
-            name: value_asked(alloc, matches)?,
-            is_raw: is_set(matches, "raw"),
-            is_whole: is_set(matches, "whole"),
-        })),
+        Some(hive) => get_in(alloc, hive, matches),
         None => Ok(None),
     }
 }
@@ -446,10 +570,13 @@ fn command_asked<'a>(
         return Ok(find_asked(matches));
     }
     if name == "diff" {
-        return Ok(diff_asked(matches));
+        return diff_asked(alloc, matches);
     }
     if name == "export" {
         return export_asked(alloc, matches);
+    }
+    if name == "timeline" {
+        return timeline_asked(alloc, matches);
     }
     if name == "new" {
         return Ok(new_asked(matches));
@@ -459,6 +586,12 @@ fn command_asked<'a>(
     }
     if name == "import" {
         return Ok(import_asked(matches));
+    }
+    if name == "manual" {
+        return Ok(Some(Request::Manual));
+    }
+    if name == "completions" {
+        return Ok(completions_asked(matches));
     }
     if name == "version" {
         return Ok(Some(Request::Version));

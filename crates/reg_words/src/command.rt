@@ -3,12 +3,14 @@
 ghost use Rattle.std.specs.Prelude.{◌≡◌, IfOk, Ok, codes, true, false};
 ghost use Rattle.clap.specs.Words.{AddsSubcommand, new_app, with_rule};
 ghost use Rattle.clap.specs.declared.builder.command.Command.{Command as AnyCommand};
-ghost use Rattle.reg_words.specs.CommandLines.{option_rule, required_rule, flag_rule, place_rule, file_rule, files_rule, data_rule, at_rule, image_rule, workers_rule, case_rule, dirty_rule};
+ghost use Rattle.reg_words.specs.CommandLines.{option_rule, required_rule, flag_rule, short_rule, place_rule, file_rule, files_rule, hives_rule, data_rule, at_rule, wait_rule, image_rule, workers_rule, case_rule, dirty_rule};
 ghost use Rattle.reg_words.specs.CommandLines.{looking_command as looking_shape, keyed_command as keyed_shape, import_command as import_shape};
 ghost use Rattle.reg_words.specs.CommandLines.{run_command as run_shape, edit_command as edit_shape};
 ghost use Rattle.reg_words.specs.CommandLines.{dump_command as dump_shape, check_command as check_shape, list_command as list_shape};
 ghost use Rattle.reg_words.specs.CommandLines.{get_command as get_shape, find_command as find_shape, diff_command as diff_shape};
 ghost use Rattle.reg_words.specs.CommandLines.{export_command as export_shape, new_command as new_shape, saving_command as saving_shape};
+ghost use Rattle.reg_words.specs.CommandLines.{listing_command as listing_shape, comparing_command as comparing_shape, timeline_command as timeline_shape};
+ghost use Rattle.reg_words.specs.CommandLines.{completions_command as completions_shape, changing_commands as changed_shape};
 ghost use Rattle.reg_words.specs.CommandLines.{changing_command as changing_shape, set_command as set_shape, create_command as create_shape};
 ghost use Rattle.reg_words.specs.CommandLines.{delete_command as delete_shape, stream_commands as stream_shape, query_commands as query_shape};
 ghost use Rattle.reg_words.specs.CommandLines.{saving_commands as saved_shape, regtool as regtool_shape};
@@ -107,6 +109,18 @@ fn files_arg<'a>(alloc: Global) -> Arg<'a>
         .help("The hives, in place of standard input")
 }
 
+/// Files that must be given, by their places.
+fn hives_arg<'a>(alloc: Global) -> Arg<'a>
+    ensures { IsRule hives_rule result }
+{
+    Arg::new(alloc, "files")
+        .value_name("FILE")
+        .action(ArgAction::Append)
+        .num_args(1..)
+        .required(true)
+        .help("The hives")
+}
+
 /// The data of a value, by their places.
 fn data_arg<'a>(alloc: Global) -> Arg<'a>
     ensures { IsRule data_rule result }
@@ -154,10 +168,28 @@ fn at_arg<'a>(alloc: Global) -> Arg<'a>
     .value_parser(clap::value_parser!(u64))
 }
 
+fn wait_arg<'a>(alloc: Global) -> Arg<'a>
+    ensures { IsRule wait_rule result }
+{
+    option_arg(
+        alloc,
+        "wait",
+        "SECONDS",
+        "Wait so long for a file that somebody else edits",
+    )
+    .value_parser(clap::value_parser!(u32))
+}
+
 fn case_arg<'a>(alloc: Global) -> Arg<'a>
     ensures { IsRule case_rule result }
 {
     flag_arg(alloc, "ignore-case", "Pass over upper and lower case").short('i')
+}
+
+fn long_arg<'a>(alloc: Global) -> Arg<'a>
+    ensures { IsRule (short_rule (codes "long") 108) result }
+{
+    flag_arg(alloc, "long", "Tell the data of values, too").short('l')
 }
 
 /// A command without arguments.
@@ -245,12 +277,23 @@ fn keyed_command<'a>(
         .arg(slash_arg(alloc))
 }
 
-fn list_command<'a>(alloc: Global) -> Result<Command<'a>, AllocError>
-    ensures { IfOk result (λ command. IsCommand list_shape command) }
+/// `ls`, without what it tells beside names.
+fn listing_command<'a>(alloc: Global) -> Result<Command<'a>, AllocError>
+    ensures { IfOk result (λ command. IsCommand listing_shape command) }
 {
     keyed_command(alloc, "ls", "Lists the values and subkeys of a key", false)?
         .arg(flag_arg(alloc, "tree", "List all that is below it"))?
         .arg(flag_arg(alloc, "whole", "Test the whole hive first"))
+}
+
+fn list_command<'a>(alloc: Global) -> Result<Command<'a>, AllocError>
+    ensures { IfOk result (λ command. IsCommand list_shape command) }
+{
+    listing_command(alloc)?
+        .arg(long_arg(alloc))?
+        .arg(flag_arg(alloc, "time", "Tell when keys were last written"))?
+        .arg(flag_arg(alloc, "security", "Tell the descriptors of keys"))?
+        .arg(flag_arg(alloc, "null", "End each line by a zero"))
 }
 
 fn get_command<'a>(alloc: Global) -> Result<Command<'a>, AllocError>
@@ -265,6 +308,11 @@ fn get_command<'a>(alloc: Global) -> Result<Command<'a>, AllocError>
             "The value, as it is typed; @, or nothing, for the default one",
         ))?
         .arg(flag_arg(alloc, "raw", "Write its bytes"))?
+        .arg(flag_arg(
+            alloc,
+            "type",
+            "Tell its type, and the form of its data, too",
+        ))?
         .arg(flag_arg(alloc, "whole", "Test the whole hive first"))
 }
 
@@ -317,7 +365,8 @@ fn saving_command<'a>(
             "Begin at the moment of the clock, as without --at",
         ))?
         .arg(at_arg(alloc))?
-        .arg(flag_arg(alloc, "dry-run", "Save nothing"))
+        .arg(flag_arg(alloc, "dry-run", "Save nothing"))?
+        .arg(wait_arg(alloc))
 }
 
 fn edit_command<'a>(alloc: Global) -> Result<Command<'a>, AllocError>
@@ -355,6 +404,11 @@ fn import_command<'a>(alloc: Global) -> Result<Command<'a>, AllocError>
         "prefix",
         "FRONT",
         "What stands in the text for the hive's root, its name where none is given",
+    ))?
+    .arg(flag_arg(
+        alloc,
+        "all-errors",
+        "Tell all lines that aren't understood, and save nothing where there are any",
     ))
 }
 
@@ -376,13 +430,60 @@ fn find_command<'a>(alloc: Global) -> Result<Command<'a>, AllocError>
     .arg(case_arg(alloc))
 }
 
-fn diff_command<'a>(alloc: Global) -> Result<Command<'a>, AllocError>
-    ensures { IfOk result (λ command. IsCommand diff_shape command) }
+/// `diff`, with the two files and the path.
+fn comparing_command<'a>(alloc: Global) -> Result<Command<'a>, AllocError>
+    ensures { IfOk result (λ command. IsCommand comparing_shape command) }
 {
     bare_command(alloc, "diff", "Tells what differs between two hives")
         .arg(place_arg(alloc, "old", true, "OLD", "A hive"))?
         .arg(place_arg(alloc, "new", true, "NEW", "Another one"))?
-        .arg(dirty_arg(alloc))
+        .arg(dirty_arg(alloc))?
+        .arg(path_arg(alloc, false))?
+        .arg(slash_arg(alloc))
+}
+
+fn diff_command<'a>(alloc: Global) -> Result<Command<'a>, AllocError>
+    ensures { IfOk result (λ command. IsCommand diff_shape command) }
+{
+    comparing_command(alloc)?
+        .arg(option_arg(
+            alloc,
+            "ignore",
+            "FIELDS",
+            "Pass over these, parted by commas: time, security, order, class, marks",
+        ))?
+        .arg(option_arg(
+            alloc,
+            "as",
+            "FORM",
+            "reg: write a .reg text that makes NEW of OLD",
+        ))?
+        .arg(flag_arg(alloc, "utf8", "Write a .reg text in UTF-8"))
+}
+
+fn timeline_command<'a>(alloc: Global) -> Result<Command<'a>, AllocError>
+    ensures { IfOk result (λ command. IsCommand timeline_shape command) }
+{
+    bare_command(
+        alloc,
+        "timeline",
+        "Tells keys by when they were last written",
+    )
+    .arg(hives_arg(alloc))?
+    .arg(dirty_arg(alloc))?
+    .arg(option_arg(
+        alloc,
+        "from",
+        "TIME",
+        "From this moment on: 2022-06-18T04:26:40Z, a date, or units of 100 ns since 1601",
+    ))?
+    .arg(option_arg(alloc, "to", "TIME", "Up to this moment"))?
+    .arg(option_arg(
+        alloc,
+        "as",
+        "FORM",
+        "The form of the text: text, csv or bodyfile",
+    ))
 }
 
 fn export_command<'a>(alloc: Global) -> Result<Command<'a>, AllocError>
@@ -481,6 +582,24 @@ fn delete_command<'a>(alloc: Global) -> Result<Command<'a>, AllocError>
     .arg(flag_arg(alloc, "tree", "Take all keys below it away, too"))
 }
 
+fn completions_command<'a>(alloc: Global) -> Result<Command<'a>, AllocError>
+    ensures { IfOk result (λ command. IsCommand completions_shape command) }
+{
+    bare_command(alloc, "completions", "Writes the completions of a shell").arg(place_arg(
+        alloc,
+        "shell",
+        true,
+        "SHELL",
+        "bash, zsh or fish",
+    ))
+}
+
+fn manual_command<'a>(alloc: Global) -> Result<Command<'a>, AllocError>
+    ensures { IfOk result (λ command. IsCommand (new_app (codes "manual")) command) }
+{
+    Ok(bare_command(alloc, "manual", "Writes the manual page"))
+}
+
 fn version_command<'a>(alloc: Global) -> Result<Command<'a>, AllocError>
     ensures { IfOk result (λ command. IsCommand (new_app (codes "version")) command) }
 {
@@ -505,7 +624,8 @@ fn query_commands<'a>(alloc: Global) -> Result<Command<'a>, AllocError>
     let getting = with_made(listing, get_command(alloc))?;
     let finding = with_made(getting, find_command(alloc))?;
     let comparing = with_made(finding, diff_command(alloc))?;
-    with_made(comparing, export_command(alloc))
+    let exporting = with_made(comparing, export_command(alloc))?;
+    with_made(exporting, timeline_command(alloc))
 }
 
 /// These with those that make a file or save one, whatever is changed.
@@ -517,12 +637,20 @@ fn saving_commands<'a>(alloc: Global) -> Result<Command<'a>, AllocError>
     with_made(editing, import_command(alloc))
 }
 
+/// These with those that make one change.
+fn changing_commands<'a>(alloc: Global) -> Result<Command<'a>, AllocError>
+    ensures { IfOk result (λ command. IsCommand changed_shape command) }
+{
+    let setting = with_made(saving_commands(alloc)?, set_command(alloc))?;
+    let creating = with_made(setting, create_command(alloc))?;
+    with_made(creating, delete_command(alloc))
+}
+
 /// The whole command.
 pub fn whole_command<'a>(alloc: Global) -> Result<Command<'a>, AllocError>
     ensures { IfOk result (λ command. IsCommand regtool_shape command) }
 {
-    let setting = with_made(saving_commands(alloc)?, set_command(alloc))?;
-    let creating = with_made(setting, create_command(alloc))?;
-    let deleting = with_made(creating, delete_command(alloc))?;
-    with_made(deleting, version_command(alloc))
+    let telling = with_made(changing_commands(alloc)?, manual_command(alloc))?;
+    let completing = with_made(telling, completions_command(alloc))?;
+    with_made(completing, version_command(alloc))
 }

@@ -4,19 +4,26 @@
 //! words, or that they ask for nothing, with the cause ([`WordsFault`]); [`read_stream_words`] does so for what is asked of the standard
 //! streams alone; [`told`] is just the line that tells a change, as `specs/ChangeLines.antt` has it. It stands on `clap`, and on reg_text,
 //! which writes names and data. Its types are [`Request`] and what that holds: [`StreamRequest`] with [`HiveCount`], [`EditRequest`] with
-//! [`Begin`], [`HiveFile`], [`KeyChange`] with [`Contents`], [`Places`] and [`Form`].
+//! [`Begin`], [`HiveFile`], [`KeyChange`] with [`Contents`], [`Places`], [`Form`], [`Columns`], [`DataForm`], [`DiffForm`] with [`Ignored`],
+//! [`TimelineForm`] and [`Shell`].
 //!
-//! `command` is the command as `clap` reads it; `asked` and `changes` say what its matches ask for, `places` reads where a pattern is searched
-//! for, `typed` a change, and `reasons` says which word isn't understood.
+//! `command` is the command as `clap` reads it; `asked`, `forms` and `changes` say what its matches ask for, `places` reads where a pattern is
+//! searched for, `fields` what `diff` passes over, `moments` a moment, `typed` a change, and `reasons` says which word isn't understood.
 #![tactic(auto)]
 
 mod asked;
 mod changes;
 mod command;
 mod fault;
+mod fields;
+mod forms;
+mod moments;
+mod page;
 mod places;
 mod reasons;
 mod request;
+mod scripts;
+mod settings;
 mod typed;
 
 ghost use Rattle.std.specs.Prelude.{◌≡◌, IfOk, IfErr};
@@ -32,7 +39,12 @@ use crate::reasons::reason;
 use clap::error::ErrorKind;
 use clap::{ArgMatches, Command, Error};
 pub use fault::WordsFault;
-pub use request::{Begin, EditRequest, Form, HiveCount, HiveFile, Places, Request, StreamRequest};
+pub use page::manual;
+pub use request::{
+    Begin, Columns, DataForm, DiffForm, EditRequest, Form, HiveCount, HiveFile, Ignored, Places,
+    Request, Shell, StreamRequest, TimelineForm,
+};
+pub use scripts::completions;
 use std::alloc::Global;
 pub use typed::{Contents, KeyChange, told};
 

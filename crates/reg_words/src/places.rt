@@ -72,7 +72,7 @@ fn first_comma(text: &[u8]) -> Option<usize>
 }
 
 /// Where the first part of a text ends, if there are others behind it.
-fn comma_in(text: &[u8]) -> Option<usize>
+pub fn comma_in(text: &[u8]) -> Option<usize>
     ensures { MatchOption result (parts_of text.now ≡ text.now ∷ [])
         (λ at. (at < length text.now) × (parts_of text.now ≡ take at text.now ∷ parts_of (drop (at + 1) text.now))) }
 {

@@ -1,6 +1,9 @@
 //! Which of the words isn't understood, where `clap` takes them though they ask for nothing.
 
 use crate::asked::begin_asked;
+use crate::fields::wrong_field;
+use crate::forms::timeline_form;
+use crate::moments::read_moment;
 use crate::places::wrong_word;
 use crate::typed::value_fault;
 use clap::ArgMatches;
@@ -30,6 +33,34 @@ fn saving_reason(
     format!(in alloc; "a value has no keys below it: --tree goes with a key alone")
 }
 
+/// Of `diff`.
+fn diff_reason(alloc: Global, matches: &ArgMatches<'_>) -> Result<String, AllocError> {
+    let Some(form) = matches.get_str("as") else {
+        let word = wrong_field(matches.get_str("ignore").unwrap_or(""));
+        return format!(in alloc; "'{word}' is not one of time, security, order, class, marks");
+    };
+    if form != "reg" {
+        return format!(in alloc; "'{form}' is no form: reg");
+    }
+    format!(in alloc; "--as reg tells all that differs: neither PATH nor --ignore goes with it")
+}
+
+/// Of `timeline`.
+fn timeline_reason(alloc: Global, matches: &ArgMatches<'_>) -> Result<String, AllocError> {
+    if timeline_form(matches).is_none() {
+        let form = matches.get_str("as").unwrap_or("");
+        return format!(in alloc; "'{form}' is no form: text, csv or bodyfile");
+    }
+    let from = matches.get_str("from").unwrap_or("0");
+    let word = match read_moment(alloc, from)? {
+        Some(_) => matches.get_str("to").unwrap_or(""),
+        None => from,
+    };
+    format!(in alloc;
+        "'{word}' is no moment: 2022-06-18T04:26:40Z, 2022-06-18 or a number of 100 ns since 1601"
+    )
+}
+
 /// Of a subcommand.
 fn command_reason(
     alloc: Global,
@@ -43,6 +74,19 @@ fn command_reason(
     if name == "export" {
         let form = matches.get_str("as").unwrap_or("");
         return format!(in alloc; "'{form}' is no form: reg, json, jsonl, csv or html");
+    }
+    if name == "get" {
+        return format!(in alloc; "--raw and --type ask for data in two ways");
+    }
+    if name == "diff" {
+        return diff_reason(alloc, matches);
+    }
+    if name == "timeline" {
+        return timeline_reason(alloc, matches);
+    }
+    if name == "completions" {
+        let shell = matches.get_str("shell").unwrap_or("");
+        return format!(in alloc; "'{shell}' is no shell: bash, zsh or fish");
     }
     if name == "dump" || name == "check" {
         return format!(in alloc; "--dirty goes with a file, and none is named");

@@ -67,6 +67,79 @@ pub enum Form {
     Html,
 }
 
+/// How the keys of a timeline are written.
+#[derive(Clone, Copy, Debug, PartialEq, Eq)]
+pub enum TimelineForm {
+    /// A line for each key.
+    Text,
+    /// CSV: a row for each key.
+    Csv,
+    /// A body file of The Sleuth Kit.
+    Bodyfile,
+}
+
+/// What a listing tells of keys and values beside their names.
+#[derive(Clone, Copy, Debug, PartialEq, Eq)]
+pub struct Columns {
+    /// The data of values.
+    pub data: bool,
+    /// When keys were last written.
+    pub times: bool,
+    /// The descriptors of keys.
+    pub securities: bool,
+    /// Whether each line ends by a zero, in place of a line feed.
+    pub ends_by_zero: bool,
+}
+
+/// How a value's data are written.
+#[derive(Clone, Copy, Debug, PartialEq, Eq)]
+pub enum DataForm {
+    /// As text.
+    Told,
+    /// As text, behind the type and which form of text it is.
+    Typed,
+    /// Its bytes as they are.
+    Raw,
+}
+
+/// What `diff` passes over of a key that both hives have.
+#[derive(Clone, Copy, Debug, PartialEq, Eq)]
+pub struct Ignored {
+    /// When it was last written.
+    pub time: bool,
+    /// Its descriptor.
+    pub security: bool,
+    /// The order of its values.
+    pub order: bool,
+    /// Its class.
+    pub class: bool,
+    /// Its marks.
+    pub marks: bool,
+}
+
+/// How `diff` writes what differs.
+#[derive(Debug, Drop)]
+pub enum DiffForm {
+    /// A line for each difference of a key and of those below it.
+    Lines {
+        /// The key's path; the empty one is the root's.
+        path: Vec<u8>,
+        ignored: Ignored,
+    },
+    /// A .reg text that makes the new hive's keys and values of the old one's, in UTF-16LE or in UTF-8.
+    Reg {
+        is_utf8: bool,
+    },
+}
+
+/// A shell whose completions are written.
+#[derive(Clone, Copy, Debug, PartialEq, Eq)]
+pub enum Shell {
+    Bash,
+    Zsh,
+    Fish,
+}
+
 /// A hive file that is only looked into.
 #[derive(Clone, Copy, Debug, PartialEq, Eq)]
 pub struct HiveFile<'a> {
@@ -82,6 +155,8 @@ pub struct EditRequest<'a> {
     /// A file to be made, in which to save in place of that one.
     pub output: Option<&'a str>,
     pub begin: Begin,
+    /// How many seconds to wait for a file that is locked.
+    pub wait: u32,
     /// Whether nothing is to be saved.
     pub dry_run: bool,
 }
@@ -108,6 +183,7 @@ pub enum Request<'a> {
         is_tree: bool,
         /// Whether the whole hive is tested first, and not only what is read on the way.
         is_whole: bool,
+        columns: Columns,
     },
     /// A value of a file.
     Get {
@@ -116,8 +192,7 @@ pub enum Request<'a> {
         path: Vec<u8>,
         /// Its name; the empty one is that of the default value.
         name: Vec<u8>,
-        /// Whether its bytes are written as they are.
-        is_raw: bool,
+        form: DataForm,
         /// Whether the whole hive is tested first, and not only what is read on the way.
         is_whole: bool,
     },
@@ -136,6 +211,7 @@ pub enum Request<'a> {
         new: &'a str,
         /// Whether they are read as they stand, too, where they weren't written to their end.
         is_dirty: bool,
+        form: DiffForm,
     },
     /// A key of a file with all that is below it, in another form of text.
     Export {
@@ -143,6 +219,17 @@ pub enum Request<'a> {
         /// The key's path; the empty one is the root's.
         path: Vec<u8>,
         form: Form,
+    },
+    /// The keys of some files, by when they were last written.
+    Timeline {
+        files: Vec<&'a str>,
+        /// Whether they are read as they stand, too, where they weren't written to their end.
+        is_dirty: bool,
+        /// The first moment, in units of 100 ns since 1601.
+        from: u64,
+        /// The last one.
+        to: u64,
+        form: TimelineForm,
     },
     /// A fresh hive in a new file.
     New {
@@ -163,12 +250,18 @@ pub enum Request<'a> {
         text: Option<&'a str>,
         /// What stands in the text for the hive's root, in place of the root's name.
         prefix: Option<&'a str>,
+        /// Whether all lines that aren't understood are told, and then nothing is made.
+        tells_all: bool,
     },
     /// One change made in the hive of a file.
     Change {
         edit: EditRequest<'a>,
         change: KeyChange,
     },
+    /// The tool's manual page.
+    Manual,
+    /// The completions of a shell.
+    Completions(Shell),
     /// The tool's version.
     Version,
 }

@@ -1,5 +1,7 @@
 -- `clap`'s commands as they are put together, and what is read of their matches (this project's own).
-use Rattle.std.specs.Prelude.{◌≡◌, ℕ, List, codes, false, Option, Some, None}
+use Rattle.jiff.specs.declared.timestamp.Timestamp.{Timestamp}
+use Rattle.jiff_core.specs.declared.error.Error.{Error}
+use Rattle.std.specs.Prelude.{◌≡◌, ℕ, ℤ, List, codes, false, Option, Some, None, Result, Ok, Err}
 use Rattle.clap.specs.Words.{App, Rule, app_of, rule_of}
 use Rattle.clap.specs.declared.builder.command.Command.TheViews.{out-Command}
 use Rattle.clap.specs.declared.builder.arg.Arg.{Arg}
@@ -23,6 +25,11 @@ abbrev pub IsFound : {A : Type 0} → (A → Type 0) → Option A → Type 0
 IsFound P (Some a) = P a
 IsFound {A} P None = (a : A) → P a → ⊥
 
+-- the instant that a reading gives, or none where it fails
+abbrev pub Tries : Option Timestamp → Result ℤ Error → Type 0
+Tries (Some instant) r = r ≡ Ok instant.nanosecond
+Tries None r = (e : Error) × (r ≡ Err e)
+
 -- what is asked of the standard streams, if anything is
 abbrev pub stream_of : Request → Option StreamRequest
 stream_of (Stream stream) = Some stream
@@ -41,4 +48,7 @@ pub record IsOther (name : List ℕ) : Type 0 where
   pub no_new_word : name ≡ codes "new" → ⊥
   pub no_edit_word : name ≡ codes "edit" → ⊥
   pub no_import_word : name ≡ codes "import" → ⊥
+  pub no_timeline_word : name ≡ codes "timeline" → ⊥
+  pub no_manual_word : name ≡ codes "manual" → ⊥
+  pub no_completions_word : name ≡ codes "completions" → ⊥
   pub no_version_word : name ≡ codes "version" → ⊥

@@ -2,7 +2,7 @@ use Rattle.std.proofs.Common.{◌≡◌, ap, ◌∙◌, codes, true, rules}
 use Rattle.std.specs.Prelude.{Ok, Err, Some, None}
 use Rattle.std.specs.Str.Parse.{ParsesUnsigned, ExplainsUnsignedError, HasUnsignedDigitsIfOk}
 use Rattle.clap.specs.Words.{found_of, rows_of}
-use Rattle.reg_words.specs.CommandLines.{IsMoment}
+use Rattle.reg_words.specs.Moments.{IsMoment}
 use Rattle.reg_words.proofs.AskedWords.{asked_at, moment_read, option_asked, two_moments, no_moment}
 use Rattle.reg_words.proofs.asked.begin_asked.Goals as goal
 

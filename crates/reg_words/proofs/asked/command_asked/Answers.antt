@@ -29,7 +29,9 @@ pub returns-then-eq-6 : goal.returns-then-eq-6
 returns-then-eq-6 c = named_so c.args.name.now (codes "find") (rows_of (found_of c.args.matches.now)) c.find_asked.result (search rules) c.find_asked.ensures
 
 pub returns-then-eq-7 : goal.returns-then-eq-7
-returns-then-eq-7 c = named_so c.args.name.now (codes "diff") (rows_of (found_of c.args.matches.now)) c.diff_asked.result (search rules) c.diff_asked.ensures
+returns-then-eq-7 c =
+    let is : c.args.name.now ≡ codes "diff" = search rules in
+    IfOk-weaker c.diff_asked.result _ _ (λ r h. named_so c.args.name.now (codes "diff") (rows_of (found_of c.args.matches.now)) r is h) c.diff_asked.ensures
 
 pub returns-then-eq-8 : goal.returns-then-eq-8
 returns-then-eq-8 c =
@@ -37,13 +39,21 @@ returns-then-eq-8 c =
     IfOk-weaker c.export_asked.result _ _ (λ r h. named_so c.args.name.now (codes "export") (rows_of (found_of c.args.matches.now)) r is h) c.export_asked.ensures
 
 pub returns-then-eq-9 : goal.returns-then-eq-9
-returns-then-eq-9 c = named_so c.args.name.now (codes "new") (rows_of (found_of c.args.matches.now)) c.new_asked.result (search rules) c.new_asked.ensures
+returns-then-eq-9 c =
+    let is : c.args.name.now ≡ codes "timeline" = search rules in
+    IfOk-weaker c.timeline_asked.result _ _ (λ r h. named_so c.args.name.now (codes "timeline") (rows_of (found_of c.args.matches.now)) r is h) c.timeline_asked.ensures
 
 pub returns-then-eq-10 : goal.returns-then-eq-10
-returns-then-eq-10 c = named_so c.args.name.now (codes "edit") (rows_of (found_of c.args.matches.now)) c.edit_asked.result (search rules) c.edit_asked.ensures
+returns-then-eq-10 c = named_so c.args.name.now (codes "new") (rows_of (found_of c.args.matches.now)) c.new_asked.result (search rules) c.new_asked.ensures
 
 pub returns-then-eq-11 : goal.returns-then-eq-11
-returns-then-eq-11 c = named_so c.args.name.now (codes "import") (rows_of (found_of c.args.matches.now)) c.import_asked.result (search rules) c.import_asked.ensures
+returns-then-eq-11 c = named_so c.args.name.now (codes "edit") (rows_of (found_of c.args.matches.now)) c.edit_asked.result (search rules) c.edit_asked.ensures
+
+pub returns-then-eq-12 : goal.returns-then-eq-12
+returns-then-eq-12 c = named_so c.args.name.now (codes "import") (rows_of (found_of c.args.matches.now)) c.import_asked.result (search rules) c.import_asked.ensures
+
+pub returns-then-eq-14 : goal.returns-then-eq-14
+returns-then-eq-14 c = named_so c.args.name.now (codes "completions") (rows_of (found_of c.args.matches.now)) c.completions_asked.result (search rules) c.completions_asked.ensures
 
 pub change_asked-requires : goal.change_asked-requires
 change_asked-requires c = record {
@@ -55,8 +65,11 @@ change_asked-requires c = record {
   no_find_word = λ e. search (rules, e);
   no_diff_word = λ e. search (rules, e);
   no_export_word = λ e. search (rules, e);
+  no_timeline_word = λ e. search (rules, e);
   no_new_word = λ e. search (rules, e);
   no_edit_word = λ e. search (rules, e);
   no_import_word = λ e. search (rules, e);
+  no_manual_word = λ e. search (rules, e);
+  no_completions_word = λ e. search (rules, e);
   no_version_word = λ e. search (rules, e);
 }

@@ -4,8 +4,8 @@ use Rattle.clap.specs.Words.{found_of, rows_of}
 use Rattle.reg_words.proofs.AskedWords.{first_is, no_diff}
 use Rattle.reg_words.proofs.asked.diff_asked.Goals as goal
 
-pub diff_of-requires : goal.diff_of-requires
-diff_of-requires c = first_is (found_of c.args.matches.now) (codes "old") _ c.get_str.ensures ∙ ap (option_map (λ s. s.now)) c.in-Some.is
+pub diff_in-requires : goal.diff_in-requires
+diff_in-requires c = first_is (found_of c.args.matches.now) (codes "old") _ c.get_str.ensures ∙ ap (option_map (λ s. s.now)) c.in-Some.is
 
 pub returns-in-None : goal.returns-in-None
 returns-in-None c =

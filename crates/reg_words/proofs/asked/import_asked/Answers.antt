@@ -1,4 +1,4 @@
-use Rattle.std.proofs.Common.{◌∙◌, codes, refl, sym}
+use Rattle.std.proofs.Common.{codes, refl, sym}
 use Rattle.clap.specs.Words.{found_of, rows_of}
 use Rattle.reg_words.proofs.AskedWords.{first_is, no_import, found_there, never_found}
 use Rattle.reg_words.proofs.asked.import_asked.Goals as goal
@@ -9,6 +9,7 @@ returns-in-Some c = (
   found_there _ c.edit_request.result c.in-Some.edit c.in-Some.is c.edit_request.ensures,
   sym (first_is (found_of c.args.matches.now) (codes "text") _ c.get_str.ensures),
   sym (first_is (found_of c.args.matches.now) (codes "prefix") _ c.get_str-in-Some.ensures),
+  c.is_set.ensures,
 )
 
 pub returns-in-None : goal.returns-in-None

@@ -10,6 +10,7 @@ returns-in_ok-path_asked-in-Some c = (
   c.in_ok-path_asked-in-Some.ensures,
   c.is_set.ensures,
   c.is_set-in-Some.ensures,
+  c.columns_asked.ensures,
 )
 
 pub returns-in-None : goal.returns-in-None

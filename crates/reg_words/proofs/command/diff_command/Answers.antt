@@ -4,6 +4,6 @@ use Rattle.reg_words.proofs.command.diff_command.Goals as goal
 
 pub returns : goal.returns
 returns c =
-    let with_old = with_arg _ _ _ _ _ c.bare_command.ensures c.place_arg.ensures c.in_ok-arg.ensures in
-    let with_new = with_arg _ _ _ _ _ with_old c.place_arg-2.ensures c.in_ok-arg-2.ensures in
-    IfOk-weaker c.arg-3.result _ _ (λ r adds. with_arg _ r _ _ _ with_new c.dirty_arg.ensures adds) c.arg-3.ensures
+    let with_1 = with_arg _ _ _ _ _ c.in_ok-comparing_command.ensures c.option_arg.ensures c.in_ok-arg.ensures in
+    let with_2 = with_arg _ _ _ _ _ with_1 c.option_arg-2.ensures c.in_ok-arg-2.ensures in
+    IfOk-weaker c.arg-3.result _ _ (λ r adds. with_arg _ r _ _ _ with_2 c.flag_arg.ensures adds) c.arg-3.ensures

@@ -4,6 +4,7 @@ use Rattle.reg_words.proofs.command.get_command.Goals as goal
 
 pub returns : goal.returns
 returns c =
-    let with_name = with_arg _ _ _ _ _ c.in_ok-keyed_command.ensures c.place_arg.ensures c.in_ok-arg.ensures in
-    let with_raw = with_arg _ _ _ _ _ with_name c.flag_arg.ensures c.in_ok-arg-2.ensures in
-    IfOk-weaker c.arg-3.result _ _ (λ r adds. with_arg _ r _ _ _ with_raw c.flag_arg-2.ensures adds) c.arg-3.ensures
+    let with_1 = with_arg _ _ _ _ _ c.in_ok-keyed_command.ensures c.place_arg.ensures c.in_ok-arg.ensures in
+    let with_2 = with_arg _ _ _ _ _ with_1 c.flag_arg.ensures c.in_ok-arg-2.ensures in
+    let with_3 = with_arg _ _ _ _ _ with_2 c.flag_arg-2.ensures c.in_ok-arg-3.ensures in
+    IfOk-weaker c.arg-4.result _ _ (λ r adds. with_arg _ r _ _ _ with_3 c.flag_arg-3.ensures adds) c.arg-4.ensures

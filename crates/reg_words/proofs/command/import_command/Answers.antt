@@ -4,5 +4,6 @@ use Rattle.reg_words.proofs.command.import_command.Goals as goal
 
 pub returns : goal.returns
 returns c =
-    let with_text = with_arg _ _ _ _ _ c.in_ok-saving_command.ensures c.place_arg.ensures c.in_ok-arg.ensures in
-    IfOk-weaker c.arg-2.result _ _ (λ r adds. with_arg _ r _ _ _ with_text c.option_arg.ensures adds) c.arg-2.ensures
+    let with_1 = with_arg _ _ _ _ _ c.in_ok-saving_command.ensures c.place_arg.ensures c.in_ok-arg.ensures in
+    let with_2 = with_arg _ _ _ _ _ with_1 c.option_arg.ensures c.in_ok-arg-2.ensures in
+    IfOk-weaker c.arg-3.result _ _ (λ r adds. with_arg _ r _ _ _ with_2 c.flag_arg.ensures adds) c.arg-3.ensures

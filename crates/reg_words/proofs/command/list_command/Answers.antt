@@ -4,5 +4,7 @@ use Rattle.reg_words.proofs.command.list_command.Goals as goal
 
 pub returns : goal.returns
 returns c =
-    let with_tree = with_arg _ _ _ _ _ c.in_ok-keyed_command.ensures c.flag_arg.ensures c.in_ok-arg.ensures in
-    IfOk-weaker c.arg-2.result _ _ (λ r adds. with_arg _ r _ _ _ with_tree c.flag_arg-2.ensures adds) c.arg-2.ensures
+    let with_1 = with_arg _ _ _ _ _ c.in_ok-listing_command.ensures c.long_arg.ensures c.in_ok-arg.ensures in
+    let with_2 = with_arg _ _ _ _ _ with_1 c.flag_arg.ensures c.in_ok-arg-2.ensures in
+    let with_3 = with_arg _ _ _ _ _ with_2 c.flag_arg-2.ensures c.in_ok-arg-3.ensures in
+    IfOk-weaker c.arg-4.result _ _ (λ r adds. with_arg _ r _ _ _ with_3 c.flag_arg-3.ensures adds) c.arg-4.ensures

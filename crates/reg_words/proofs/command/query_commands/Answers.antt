@@ -8,4 +8,5 @@ returns c =
     let getting = with_sub _ _ _ _ _ listing c.get_command.ensures c.in_ok-getting.ensures in
     let finding = with_sub _ _ _ _ _ getting c.find_command.ensures c.in_ok-finding.ensures in
     let comparing = with_sub _ _ _ _ _ finding c.diff_command.ensures c.in_ok-comparing.ensures in
-    IfOk-weaker c.with_made-5.result _ _ (λ r made. with_sub _ r _ _ _ comparing c.export_command.ensures made) c.with_made-5.ensures
+    let exporting = with_sub _ _ _ _ _ comparing c.export_command.ensures c.in_ok-exporting.ensures in
+    IfOk-weaker c.with_made-6.result _ _ (λ r made. with_sub _ r _ _ _ exporting c.timeline_command.ensures made) c.with_made-6.ensures

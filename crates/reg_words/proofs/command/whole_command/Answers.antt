@@ -6,7 +6,6 @@ use Rattle.reg_words.proofs.command.whole_command.Goals as goal
 pub returns : goal.returns
 unfolding regtool
 returns c =
-    let setting = with_sub _ _ _ _ _ c.in_ok-saving_commands.ensures c.set_command.ensures c.in_ok-setting.ensures in
-    let creating = with_sub _ _ _ _ _ setting c.create_command.ensures c.in_ok-creating.ensures in
-    let deleting = with_sub _ _ _ _ _ creating c.delete_command.ensures c.in_ok-deleting.ensures in
-    IfOk-weaker c.with_made-4.result _ _ (λ r made. with_sub _ r _ _ _ deleting c.version_command.ensures made) c.with_made-4.ensures
+    let telling = with_sub _ _ _ _ _ c.in_ok-changing_commands.ensures c.manual_command.ensures c.in_ok-telling.ensures in
+    let completing = with_sub _ _ _ _ _ telling c.completions_command.ensures c.in_ok-completing.ensures in
+    IfOk-weaker c.with_made-3.result _ _ (λ r made. with_sub _ r _ _ _ completing c.version_command.ensures made) c.with_made-3.ensures

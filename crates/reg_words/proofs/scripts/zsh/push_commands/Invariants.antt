@@ -1,0 +1,8 @@
+use Rattle.std.proofs.Common.{◌≡◌, ◌++◌, drop, string_bytes}
+use Rattle.std.specs.Prelude.{flat_map}
+use Rattle.reg_words.specs.Completions.{zsh_command}
+use Rattle.reg_words.proofs.scripts.zsh.push_commands.Given as goal
+
+abbrev pub invariant-loop-command : goal.invariant-loop-command
+invariant-loop-command l =
+    string_bytes l.text ++ flat_map zsh_command (drop l.command-index l.commands) ≡ string_bytes l.initial.text ++ flat_map zsh_command l.commands
