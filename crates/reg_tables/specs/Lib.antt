@@ -4,4 +4,7 @@ pub mod FormsTold
 pub mod SecurityTexts
 pub mod Tables
 pub mod Pages
+pub mod Timelines
+pub mod TypedValues
+pub mod LongListings
 pub mod Internal
