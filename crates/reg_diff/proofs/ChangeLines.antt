@@ -1,9 +1,9 @@
 -- Lines as they are told part by part.
-use Rattle.std.proofs.Common.{◌≡◌, ◌≢◌, ℕ, ◌+◌, ◌<◌, ◌==◌, Bool, true, false, cond, List, [], ◌++◌, length, drop, get_or, refl, sym, ap, ◌∙◌}
+use Rattle.std.proofs.Common.{◌≡◌, ℕ, ◌+◌, ◌<◌, ◌==◌, ◌||◌, Bool, true, false, cond, List, [], ◌++◌, length, drop, get_or, refl, sym, ap, ◌∙◌}
 use Rattle.std.specs.Prelude.{bytes_eq, codes, flat_map}
 use Rattle.std.proofs.lemmas.List.{drop_more}
 use Rattle.std.specs.Fmt.{decimal}
-use Rattle.std.proofs.lemmas.Bool.{eq-eqb, ne_eqb, false≢true}
+use Rattle.std.proofs.lemmas.Bool.{false≢true}
 use Rattle.reg_heap.specs.Paths.{Member}
 use Rattle.reg_text.specs.Texts.{line_feed, escaped, digits_text}
 use Rattle.reg_tree_text.specs.Internal.Gathered.{WriterState, IsSoFar}
@@ -43,27 +43,28 @@ module _ (path was is : List ℕ) (b : Bool) (eq : b ≡ bytes_eq was is) where
   unfolding name_change
   name-told e = if-not (bytes_eq was is) _ (sym eq ∙ e)
 
-  pub bytes-alike : (what : List ℕ) → b ≡ true → bytes_change what path was is ≡ []
+  pub bytes-alike : (is_ignored : Bool) (what : List ℕ) → (is_ignored || b) ≡ true → bytes_change is_ignored what path was is ≡ []
   unfolding bytes_change
-  bytes-alike what e = if-so (bytes_eq was is) _ (sym eq ∙ e)
+  bytes-alike is_ignored what e = if-so (is_ignored || bytes_eq was is) _ (ap (λ (t : Bool). is_ignored || t) (sym eq) ∙ e)
 
-  pub bytes-told : (what : List ℕ) → b ≡ false →
+  pub bytes-told : (is_ignored : Bool) (what : List ℕ) → (is_ignored || b) ≡ false →
       codes "changed "
       ++ (what ++ (codes " =" ++ (escaped path ++ (codes " from x" ++ (digits_text was ++ (codes " to x" ++ (digits_text is ++ line_feed)))))))
-      ≡ bytes_change what path was is
+      ≡ bytes_change is_ignored what path was is
   unfolding bytes_change
-  bytes-told what e = if-not (bytes_eq was is) _ (sym eq ∙ e)
+  bytes-told is_ignored what e = if-not (is_ignored || bytes_eq was is) _ (ap (λ (t : Bool). is_ignored || t) (sym eq) ∙ e)
 
-pub number-alike : (what path : List ℕ) (was is : ℕ) → was ≡ is → number_change what path was is ≡ []
+pub number-alike : (is_ignored : Bool) (what path : List ℕ) (was is : ℕ) → (is_ignored || (was == is)) ≡ true →
+    number_change is_ignored what path was is ≡ []
 unfolding number_change
-number-alike what path was is e = if-so (was == is) _ (eq-eqb was is e)
+number-alike is_ignored what path was is e = if-so (is_ignored || (was == is)) _ e
 
-pub number-told : (what path : List ℕ) (was is : ℕ) → was ≢ is →
+pub number-told : (is_ignored : Bool) (what path : List ℕ) (was is : ℕ) → (is_ignored || (was == is)) ≡ false →
     codes "changed "
     ++ (what ++ (codes " =" ++ (escaped path ++ (codes " from " ++ (decimal was ++ (codes " to " ++ (decimal is ++ line_feed)))))))
-    ≡ number_change what path was is
+    ≡ number_change is_ignored what path was is
 unfolding number_change
-number-told what path was is e = if-not (was == is) _ (ne_eqb was is e)
+number-told is_ignored what path was is e = if-not (is_ignored || (was == is)) _ e
 
 -- ---- values
 

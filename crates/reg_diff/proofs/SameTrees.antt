@@ -1,23 +1,25 @@
--- Two trees are equal just where no line is told of how they differ.
-use Rattle.std.proofs.Common.{◌≡◌, ℕ, ◌==◌, Bool, true, false, cond, List, [], ◌∷◌, ◌++◌, map, Option, Some, None, refl, sym, ap, ◌∙◌, subst}
+-- At a path and below it two trees are alike, but for what is ignored, just where no line is told of how they differ there.
+use Rattle.std.proofs.Common.{◌≡◌, ℕ, ◌==◌, Bool, true, false, cond, List, [], ◌∷◌, ◌++◌, map, Option, Some, None, IsSome, refl, sym, ap, ◌∙◌, subst}
 use Rattle.std.specs.Prelude.{bytes_eq, codes}
-use Rattle.std.specs.FinMap.{get, same_map, slice_cmp-IsAntisymmetric, nat_cmp-IsAntisymmetric}
+use Rattle.std.specs.FinMap.{get}
 use Rattle.std.specs.List.{AllByRecursion}
-use Rattle.std.specs.Cmp.Lexicographic.{lists_total, nat_list_cmp_total}
 use Rattle.std.proofs.lemmas.Bool.{false≢true}
 use Rattle.std.proofs.lemmas.Bool.Decides.{Decides-eqb}
 use Rattle.std.proofs.lemmas.Slice.Eq.{bytes_eq-Decides}
 use Rattle.reg_names.specs.Names.{folded, text_of}
-use Rattle.reg_heap.specs.Paths.{Path, Tree, Rec, Member}
+use Rattle.reg_heap.specs.Paths.{Path, Tree, Rec}
 use Rattle.reg_heap.specs.Trees.{IsTree, IsWithinLimits, NamesDiffer}
-use Rattle.reg_tree_text.specs.DumpTexts.{Told, keys_told}
+use Rattle.reg_tree_text.specs.DumpTexts.{Told}
+use Rattle.reg_diff.specs.declared.ignored.Ignored.{Ignored}
 use Rattle.reg_diff.specs.declared.side.Side.{Side}
 use Rattle.reg_diff.specs.declared.side.Side.TheVariants.{Old, New}
+use Rattle.reg_diff.specs.Alike.{Unless, IsAlike, IsAlikeThere, AreAlike}
+use Rattle.reg_diff.specs.Branches.{keys_from}
 use Rattle.reg_diff.specs.Differences.{key_line, whole_key, name_change, number_change, bytes_change, field_changes}
 use Rattle.reg_diff.specs.Differences.{value_changes, key_changes, told_changes, side_text, diff_text}
 use Rattle.reg_diff.specs.Internal.Parts.{is_nothing}
 use Rattle.reg_diff.proofs.ToldKeys.{IsToldIn, all-told, keys-there}
-use Rattle.reg_diff.proofs.SameValues.{nothing-both, none_told, each_none, values-none, values-same}
+use Rattle.reg_diff.proofs.SameValues.{nothing-both, nothing-joined, none_told, each_none, values-none, values-alike, values-ordered}
 
 -- ---- one field
 
@@ -29,133 +31,155 @@ name-same : (path was is : List ℕ) → name_change path was is ≡ [] → was 
 unfolding name_change
 name-same path was is e = (bytes_eq-Decides was is).0 (if-none (bytes_eq was is) _ refl e)
 
-number-same : (what path : List ℕ) (was is : ℕ) → number_change what path was is ≡ [] → was ≡ is
+number-same : (is_ignored : Bool) (what path : List ℕ) (was is : ℕ) → number_change is_ignored what path was is ≡ [] →
+    Unless is_ignored (was ≡ is)
 unfolding number_change
-number-same what path was is e = (Decides-eqb was is).0 (if-none (was == is) _ refl e)
+number-same true what path was is e = tt
+number-same false what path was is e = (Decides-eqb was is).0 (if-none (was == is) _ refl e)
 
-bytes-same : (what path was is : List ℕ) → bytes_change what path was is ≡ [] → was ≡ is
+bytes-same : (is_ignored : Bool) (what path was is : List ℕ) → bytes_change is_ignored what path was is ≡ [] → Unless is_ignored (was ≡ is)
 unfolding bytes_change
-bytes-same what path was is e = (bytes_eq-Decides was is).0 (if-none (bytes_eq was is) _ refl e)
+bytes-same true what path was is e = tt
+bytes-same false what path was is e = (bytes_eq-Decides was is).0 (if-none (bytes_eq was is) _ refl e)
 
 if-so : (b : Bool) (line : List ℕ) → b ≡ true → cond b [] line ≡ []
 if-so true line e = refl
 if-so false line e = absurd (false≢true e)
 
-name-none : (path was : List ℕ) → name_change path was was ≡ []
+name-none : (path was is : List ℕ) → was ≡ is → name_change path was is ≡ []
 unfolding name_change
-name-none path was = if-so (bytes_eq was was) _ ((bytes_eq-Decides was was).1 refl)
+name-none path was is e = if-so (bytes_eq was is) _ ((bytes_eq-Decides was is).1 e)
 
-number-none : (what path : List ℕ) (was : ℕ) → number_change what path was was ≡ []
+number-none : (is_ignored : Bool) (what path : List ℕ) (was is : ℕ) → Unless is_ignored (was ≡ is) →
+    number_change is_ignored what path was is ≡ []
 unfolding number_change
-number-none what path was = if-so (was == was) _ ((Decides-eqb was was).1 refl)
+number-none true what path was is e = refl
+number-none false what path was is e = if-so (was == is) _ ((Decides-eqb was is).1 e)
 
-bytes-none : (what path was : List ℕ) → bytes_change what path was was ≡ []
+bytes-none : (is_ignored : Bool) (what path was is : List ℕ) → Unless is_ignored (was ≡ is) → bytes_change is_ignored what path was is ≡ []
 unfolding bytes_change
-bytes-none what path was = if-so (bytes_eq was was) _ ((bytes_eq-Decides was was).1 refl)
+bytes-none true what path was is e = refl
+bytes-none false what path was is e = if-so (bytes_eq was is) _ ((bytes_eq-Decides was is).1 e)
 
 -- ---- one key
 
-record-same : (a b : Rec) → a.name ≡ b.name → a.marks ≡ b.marks → a.class ≡ b.class → a.descriptor ≡ b.descriptor → a.time ≡ b.time →
-    a.values ≡ b.values → a ≡ b
-record-same a b n m c d t v =
-    ap (λ (x : List ℕ). record { name = x; marks = a.marks; class = a.class; descriptor = a.descriptor; time = a.time; values = a.values }) n
-    ∙ (ap (λ (x : ℕ). record { name = b.name; marks = x; class = a.class; descriptor = a.descriptor; time = a.time; values = a.values }) m
-    ∙ (ap (λ (x : List ℕ). record { name = b.name; marks = b.marks; class = x; descriptor = a.descriptor; time = a.time; values = a.values }) c
-    ∙ (ap (λ (x : List ℕ). record { name = b.name; marks = b.marks; class = b.class; descriptor = x; time = a.time; values = a.values }) d
-    ∙ (ap (λ (x : ℕ). record { name = b.name; marks = b.marks; class = b.class; descriptor = b.descriptor; time = x; values = a.values }) t
-    ∙ ap (λ (x : List Member).
-    record { name = b.name; marks = b.marks; class = b.class; descriptor = b.descriptor; time = b.time; values = x }) v))))
+module _ (ignored : Ignored) (path : List ℕ) (was is : Rec) where
+  key-alike : field_changes ignored path was is ++ value_changes ignored.order path was.values is.values ≡ [] → IsAlike ignored was is
+  unfolding field_changes
+  key-alike e =
+      let a = nothing-both (field_changes ignored path was is) (value_changes ignored.order path was.values is.values) e in
+      let n = nothing-both (name_change path was.name is.name) _ a.0 in
+      let m = nothing-both (number_change ignored.marks (codes "marks") path was.marks is.marks) _ n.1 in
+      let c = nothing-both (bytes_change ignored.class (codes "class") path was.class is.class) _ m.1 in
+      let d = nothing-both (bytes_change ignored.security (codes "security") path was.descriptor is.descriptor) _ c.1 in
+      record {
+        name = name-same _ _ _ n.0;
+        marks = number-same ignored.marks _ _ _ _ m.0;
+        class = bytes-same ignored.class _ _ _ _ c.0;
+        security = bytes-same ignored.security _ _ _ _ d.0;
+        time = number-same ignored.time _ _ _ _ d.1;
+        values = values-alike ignored.order path was.values is.values a.1;
+        order = values-ordered ignored.order path was.values is.values a.1;
+      }
 
-key-same : (path : List ℕ) (was is : Rec) → field_changes path was is ++ value_changes path was.values is.values ≡ [] → was ≡ is
-unfolding field_changes
-key-same path was is e =
-    let a = nothing-both (field_changes path was is) (value_changes path was.values is.values) e in
-    let n = nothing-both (name_change path was.name is.name) _ a.0 in
-    let m = nothing-both (number_change (codes "marks") path was.marks is.marks) _ n.1 in
-    let c = nothing-both (bytes_change (codes "class") path was.class is.class) _ m.1 in
-    let d = nothing-both (bytes_change (codes "security") path was.descriptor is.descriptor) _ c.1 in
-    record-same was is (name-same _ _ _ n.0) (number-same _ _ _ _ m.0) (bytes-same _ _ _ _ c.0) (bytes-same _ _ _ _ d.0)
-    (number-same _ _ _ _ d.1) (values-same path was.values is.values a.1)
-
-key-none : (path : List ℕ) (key : Rec) → NamesDiffer key.values → field_changes path key key ++ value_changes path key.values key.values ≡ []
-unfolding field_changes
-key-none path key differ =
-    ap (λ (t : List ℕ). t ++ value_changes path key.values key.values)
-    (ap (λ (t : List ℕ). t ++ (number_change (codes "marks") path key.marks key.marks ++ (bytes_change (codes "class") path key.class key.class
-    ++ (bytes_change (codes "security") path key.descriptor key.descriptor ++ number_change (codes "time") path key.time key.time))))
-    (name-none path key.name)
-    ∙ (ap (λ (t : List ℕ). t ++ (bytes_change (codes "class") path key.class key.class
-    ++ (bytes_change (codes "security") path key.descriptor key.descriptor ++ number_change (codes "time") path key.time key.time)))
-    (number-none (codes "marks") path key.marks)
-    ∙ (ap (λ (t : List ℕ). t ++ (bytes_change (codes "security") path key.descriptor key.descriptor
-    ++ number_change (codes "time") path key.time key.time)) (bytes-none (codes "class") path key.class)
-    ∙ (ap (λ (t : List ℕ). t ++ number_change (codes "time") path key.time key.time) (bytes-none (codes "security") path key.descriptor)
-    ∙ number-none (codes "time") path key.time))))
-    ∙ values-none path key.values differ
+  key-none : IsAlike ignored was is → NamesDiffer was.values → NamesDiffer is.values →
+      field_changes ignored path was is ++ value_changes ignored.order path was.values is.values ≡ []
+  unfolding field_changes
+  key-none a apart apart_too =
+      nothing-joined _ _
+      (nothing-joined _ _ (name-none path was.name is.name a.name)
+      (nothing-joined _ _ (number-none ignored.marks (codes "marks") path was.marks is.marks a.marks)
+      (nothing-joined _ _ (bytes-none ignored.class (codes "class") path was.class is.class a.class)
+      (nothing-joined _ _ (bytes-none ignored.security (codes "security") path was.descriptor is.descriptor a.security)
+      (number-none ignored.time (codes "time") path was.time is.time a.time)))))
+      (values-none path was.values is.values apart apart_too a.values ignored.order a.order)
 
 alone : (side : Side) (path : List ℕ) (key : Rec) → whole_key side path key ≡ [] → ⊥
 unfolding key_line
 alone Old path key e = false≢true (ap is_nothing e)
 alone New path key e = false≢true (ap is_nothing e)
 
--- where nothing is told of an old key, the new tree has it
-old-same : (path : List ℕ) (key : Rec) (found : Option Rec) → key_changes Old path key found ≡ [] → found ≡ Some key
-old-same path key None e = absurd (alone Old path key e)
-old-same path key (Some other) e = ap (λ (r : Rec). Some r) (sym (key-same path key other e))
+-- where nothing is told of an old key, the new tree has one like it
+old-alike : (ignored : Ignored) (path : List ℕ) (key : Rec) (found : Option Rec) → key_changes ignored Old path key found ≡ [] →
+    IsAlikeThere ignored (Some key) found
+old-alike ignored path key None e = absurd (alone Old path key e)
+old-alike ignored path key (Some other) e = key-alike ignored path key other e
 
 -- where nothing is told of a new key, the old tree has one there
-new-none : (path : List ℕ) (key : Rec) (found : Option Rec) → key_changes New path key found ≡ [] → found ≡ None → ⊥
-new-none path key None e none = alone New path key e
-new-none path key (Some other) e none = cc
+new-none : (ignored : Ignored) (path : List ℕ) (key : Rec) (found : Option Rec) → key_changes ignored New path key found ≡ [] → found ≡ None → ⊥
+new-none ignored path key None e none = alone New path key e
+new-none ignored path key (Some other) e none = cc
 
--- ---- whole trees
+-- nothing is told of keys that are alike
+alike-none : (ignored : Ignored) (side : Side) (path : List ℕ) (key : Rec) (found : Option Rec) → NamesDiffer key.values →
+    ((other : Rec) → found ≡ Some other → NamesDiffer other.values) → IsAlikeThere ignored (Some key) found →
+    key_changes ignored side path key found ≡ []
+alike-none ignored side path key None apart all a = absurd a
+alike-none ignored Old path key (Some other) apart all a = key-none ignored path key other a apart (all other refl)
+alike-none ignored New path key (Some other) apart all a = refl
 
-module _ (old new : Tree) (i : IsTree old) (w : IsWithinLimits old) (j : IsTree new) (v : IsWithinLimits new) where
-  module _ (none : diff_text old new ≡ []) where
-    both : (side_text Old old new ≡ []) × (side_text New new old ≡ [])
+there-none : (ignored : Ignored) (path : List ℕ) (key : Rec) (found : Option Rec) → IsAlikeThere ignored found (Some key) →
+    key_changes ignored New path key found ≡ []
+there-none ignored path key None a = absurd a
+there-none ignored path key (Some other) a = refl
+
+-- ---- a key with all below it
+
+module _ (ignored : Ignored) (old new : Tree) (i : IsTree old) (w : IsWithinLimits old) (j : IsTree new) (v : IsWithinLimits new) (path : Path) where
+  module _ (none : diff_text ignored old new path ≡ []) where
+    both : (side_text ignored Old old new path ≡ []) × (side_text ignored New new old path ≡ [])
     unfolding diff_text
-    both = nothing-both (side_text Old old new) (side_text New new old) none
+    both = nothing-both (side_text ignored Old old new path) (side_text ignored New new old path) none
 
-    old-there : (path : Path) (key : Rec) → get old path ≡ Some key → get new path ≡ Some key
-    old-there path key e =
-        let f = all-told old i (λ (t : Told). told_changes Old new t ≡ []) w path key e (each_none (told_changes Old new) (keys_told old) both.0) in
-        sym (ap (get new) f.at) ∙ (old-same (text_of f.told.names) f.told.key (get new (map folded f.told.names)) f.holds
-        ∙ ap (λ (r : Rec). Some r) f.same)
+    old-there : (rest : Path) (key : Rec) → get old (path ++ rest) ≡ Some key → IsAlikeThere ignored (Some key) (get new (path ++ rest))
+    old-there rest key e =
+        let f = all-told old i (λ (t : Told). told_changes ignored Old new t ≡ []) w path rest key e
+        (each_none (told_changes ignored Old new) (keys_from old path) both.0) in
+        subst (λ (q : Path). IsAlikeThere ignored (Some key) (get new q)) f.at
+        (subst (λ (r : Rec). IsAlikeThere ignored (Some r) (get new (map folded f.told.names))) f.same
+        (old-alike ignored (text_of f.told.names) f.told.key (get new (map folded f.told.names)) f.holds))
 
-    new-there : (path : Path) (key : Rec) → get new path ≡ Some key → get old path ≡ None → ⊥
-    new-there path key e gone =
-        let f = all-told new j (λ (t : Told). told_changes New old t ≡ []) v path key e (each_none (told_changes New old) (keys_told new) both.1) in
-        new-none (text_of f.told.names) f.told.key (get old (map folded f.told.names)) f.holds (ap (get old) f.at ∙ gone)
+    new-there : (rest : Path) (key : Rec) → get new (path ++ rest) ≡ Some key → get old (path ++ rest) ≡ None → ⊥
+    new-there rest key e gone =
+        let f = all-told new j (λ (t : Told). told_changes ignored New old t ≡ []) v path rest key e
+        (each_none (told_changes ignored New old) (keys_from new path) both.1) in
+        new-none ignored (text_of f.told.names) f.told.key (get old (map folded f.told.names)) f.holds (ap (get old) f.at ∙ gone)
 
-    alike : (path : Path) (was is : Option Rec) → get old path ≡ was → get new path ≡ is → get old path ≡ get new path
-    alike path (Some key) is e f = e ∙ sym (old-there path key e)
-    alike path None None e f = e ∙ sym f
-    alike path None (Some key) e f = absurd (new-there path key f e)
+    at-rest : (rest : Path) (was is : Option Rec) → get old (path ++ rest) ≡ was → get new (path ++ rest) ≡ is → IsAlikeThere ignored was is
+    at-rest rest (Some key) is e f = subst (λ (o : Option Rec). IsAlikeThere ignored (Some key) o) f (old-there rest key e)
+    at-rest rest None None e f = tt
+    at-rest rest None (Some key) e f = absurd (new-there rest key f e)
 
-    pub trees-same : old ≡ new
-    trees-same =
-        same_map (lists_total nat_list_cmp_total) (slice_cmp-IsAntisymmetric (slice_cmp-IsAntisymmetric nat_cmp-IsAntisymmetric)) old new
-        (λ path. alike path (get old path) (get new path) refl refl)
+    pub trees-alike : AreAlike ignored old new path
+    trees-alike rest = at-rest rest (get old (path ++ rest)) (get new (path ++ rest)) refl refl
 
-module _ (tree : Tree) (i : IsTree tree) (w : IsWithinLimits tree) where
-  told-none : (side : Side) (told : Told) → IsToldIn tree told → told_changes side tree told ≡ []
-  told-none Old told is =
-      ap (key_changes Old (text_of told.names) told.key) is.key
-      ∙ key-none (text_of told.names) told.key (i.apart (map folded told.names) told.key is.key)
-  told-none New told is = ap (key_changes New (text_of told.names) told.key) is.key
+  module _ (alike : AreAlike ignored old new path) where
+    old-none : (told : Told) → IsToldIn old path told → told_changes ignored Old new told ≡ []
+    old-none told is =
+        let here : get old (path ++ is.rest) ≡ Some told.key = sym (ap (get old) is.below) ∙ is.key in
+        alike-none ignored Old (text_of told.names) told.key (get new (map folded told.names)) (i.apart (map folded told.names) told.key is.key)
+        (λ other e. j.apart (map folded told.names) other e)
+        (subst (λ (q : Path). IsAlikeThere ignored (Some told.key) (get new q)) (sym is.below)
+        (subst (λ (o : Option Rec). IsAlikeThere ignored o (get new (path ++ is.rest))) here (alike is.rest)))
 
-  all-none : (side : Side) (told : List Told) → AllByRecursion (IsToldIn tree) told →
-      AllByRecursion (λ (t : Told). told_changes side tree t ≡ []) told
-  all-none side [] a = tt
-  all-none side (t ∷ told) a = (told-none side t a.0, all-none side told a.1)
+    new-quiet : (told : Told) → IsToldIn new path told → told_changes ignored New old told ≡ []
+    new-quiet told is =
+        let here : get new (path ++ is.rest) ≡ Some told.key = sym (ap (get new) is.below) ∙ is.key in
+        there-none ignored (text_of told.names) told.key (get old (map folded told.names))
+        (subst (λ (q : Path). IsAlikeThere ignored (get old q) (Some told.key)) (sym is.below)
+        (subst (λ (o : Option Rec). IsAlikeThere ignored (get old (path ++ is.rest)) o) here (alike is.rest)))
 
-  side-none : (side : Side) → side_text side tree tree ≡ []
-  side-none side = none_told (told_changes side tree) (keys_told tree) (all-none side (keys_told tree) (keys-there tree i w))
+    all-none : (P Q : Told → Type 0) → ((t : Told) → P t → Q t) → (told : List Told) → AllByRecursion P told → AllByRecursion Q told
+    all-none P Q f [] a = tt
+    all-none P Q f (t ∷ told) a = (f t a.0, all-none P Q f told a.1)
 
-  itself-none : diff_text tree tree ≡ []
-  unfolding diff_text
-  itself-none = ap (λ (t : List ℕ). t ++ side_text New tree tree) (side-none Old) ∙ side-none New
-
--- of equal trees nothing is told
-pub same-nothing : (old new : Tree) → IsTree old → IsWithinLimits old → old ≡ new → diff_text old new ≡ []
-same-nothing old new i w e = subst (λ (t : Tree). diff_text old t ≡ []) e (itself-none old i w)
+    -- nothing is told of what is alike
+    pub alike-nothing : IsSome (get old path) → IsSome (get new path) → diff_text ignored old new path ≡ []
+    unfolding diff_text
+    alike-nothing has has_too =
+        nothing-joined (side_text ignored Old old new path) (side_text ignored New new old path)
+        (none_told (told_changes ignored Old new) (keys_from old path)
+        (all-none (IsToldIn old path) (λ (t : Told). told_changes ignored Old new t ≡ []) old-none (keys_from old path) (keys-there old i w path has)))
+        (none_told (told_changes ignored New old) (keys_from new path)
+        (all-none (IsToldIn new path) (λ (t : Told). told_changes ignored New old t ≡ []) new-quiet (keys_from new path)
+        (keys-there new j v path has_too)))

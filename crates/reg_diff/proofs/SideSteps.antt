@@ -1,5 +1,5 @@
 -- A key against the other tree; and the whole text, which is empty just where nothing was told.
-use Rattle.std.proofs.Common.{◌≡◌, ℕ, List, [], ◌∷◌, ◌++◌, length, Option, Some, None, IsSome, refl, sym, ap, ◌∙◌, subst, arith, length-append}
+use Rattle.std.proofs.Common.{◌≡◌, ℕ, Bool, List, [], ◌∷◌, ◌++◌, length, Option, Some, None, IsSome, refl, sym, ap, ◌∙◌, subst, arith, length-append}
 use Rattle.std.specs.Prelude.{◌↔◌}
 use Rattle.std.specs.FinMap.{get}
 use Rattle.reg_heap.specs.Paths.{Path, Tree, Rec}
@@ -8,10 +8,12 @@ use Rattle.reg_heap.specs.Trees.{IsTree, IsWithinLimits, NamesDiffer}
 use Rattle.reg_tree.specs.TreeKeys.{Keys, IsAt, IsResolved}
 use Rattle.reg_tree.specs.declared.node.Node.{Node}
 use Rattle.reg_tree_text.specs.Internal.Gathered.{WriterState, IsSoFar}
+use Rattle.reg_diff.specs.declared.ignored.Ignored.{Ignored}
 use Rattle.reg_diff.specs.declared.side.Side.{Side}
 use Rattle.reg_diff.specs.declared.side.Side.TheVariants.{Old}
+use Rattle.reg_diff.specs.Alike.{AreAlike}
 use Rattle.reg_diff.specs.Differences.{whole_key, field_changes, value_changes, key_changes, diff_text}
-use Rattle.reg_diff.proofs.SameTrees.{trees-same, same-nothing}
+use Rattle.reg_diff.proofs.SameTrees.{trees-alike, alike-nothing}
 
 -- the names of a key's values differ
 pub values-apart : (tree : Tree) (path : Path) → IsTree tree → NamesDiffer (values_at tree path)
@@ -30,20 +32,20 @@ pub resolved-some : (keys : Keys) (path : Path) (found : Option Node) (node : No
     IsAt keys path node × IsSome (get keys.tree path)
 resolved-some keys path found node r e = subst (λ (o : Option Node). IsResolved keys path o) e r
 
-pub alone-said : (side : Side) (path : List ℕ) (key : Rec) (found : Option Rec) → found ≡ None →
-    whole_key side path key ≡ key_changes side path key found
-alone-said side path key found e = sym (ap (key_changes side path key) e)
+pub alone-said : (ignored : Ignored) (side : Side) (path : List ℕ) (key : Rec) (found : Option Rec) → found ≡ None →
+    whole_key side path key ≡ key_changes ignored side path key found
+alone-said ignored side path key found e = sym (ap (key_changes ignored side path key) e)
 
-pub both-said : (side : Side) (path : List ℕ) (key other : Rec) (found : Option Rec) → side ≡ Old → found ≡ Some other →
-    field_changes path key other ++ value_changes path key.values other.values ≡ key_changes side path key found
-both-said side path key other found s e =
-    sym (ap (λ (x : Side). key_changes x path key found) s ∙ ap (key_changes Old path key) e)
+pub both-said : (ignored : Ignored) (side : Side) (path : List ℕ) (key other : Rec) (found : Option Rec) → side ≡ Old → found ≡ Some other →
+    field_changes ignored path key other ++ value_changes ignored.order path key.values other.values ≡ key_changes ignored side path key found
+both-said ignored side path key other found s e =
+    sym (ap (λ (x : Side). key_changes ignored x path key found) s ∙ ap (key_changes ignored Old path key) e)
 
-pub values-said : (path : List ℕ) (old new : Tree) (p q : Path) (was is : Rec) → get old p ≡ Some was → get new q ≡ Some is →
-    value_changes path (values_at old p) (values_at new q) ≡ value_changes path was.values is.values
-values-said path old new p q was is here there =
-    ap (λ (o : Option Rec). value_changes path (values_of o) (values_at new q)) here
-    ∙ ap (λ (o : Option Rec). value_changes path was.values (values_of o)) there
+pub values-said : (is_ignored : Bool) (path : List ℕ) (old new : Tree) (p q : Path) (was is : Rec) → get old p ≡ Some was → get new q ≡ Some is →
+    value_changes is_ignored path (values_at old p) (values_at new q) ≡ value_changes is_ignored path was.values is.values
+values-said is_ignored path old new p q was is here there =
+    ap (λ (o : Option Rec). value_changes is_ignored path (values_of o) (values_at new q)) here
+    ∙ ap (λ (o : Option Rec). value_changes is_ignored path was.values (values_of o)) there
 
 -- ---- nothing told
 
@@ -69,11 +71,15 @@ whole-empty begin now whole gathered written s none =
     let n = s.counts in
     (omega (arith, long, rest, some, n), no-length gathered (omega (arith, long, rest, some, n)))
 
--- the trees are equal just where nothing was written and nothing is gathered
-pub same-says : (old new : Tree) → IsTree old → IsWithinLimits old → IsTree new → IsWithinLimits new → (begin now : WriterState)
-    (gathered : List ℕ) (written : ℕ) → IsSoFar begin now (diff_text old new) [] gathered written → {A : Type 0} →
-    A ↔ ((written ≡ 0) × (gathered ≡ [])) → A ↔ (old ≡ new)
-same-says old new i w j v begin now gathered written s a = (
-  λ x. let n = a.0 x in trees-same old new i w j v (empty-whole begin now (diff_text old new) gathered written s n.0 n.1),
-  λ e. a.1 (whole-empty begin now (diff_text old new) gathered written s (same-nothing old new i w e)),
+-- they are alike just where nothing was written and nothing is gathered
+pub same-says : (ignored : Ignored) (old new : Tree) → IsTree old → IsWithinLimits old → IsTree new → IsWithinLimits new → (path : Path) →
+    IsSome (get old path) → IsSome (get new path) → (begin now : WriterState) (gathered : List ℕ) (written : ℕ) →
+    IsSoFar begin now (diff_text ignored old new path) [] gathered written → {A : Type 0} →
+    A ↔ ((written ≡ 0) × (gathered ≡ [])) → A ↔ AreAlike ignored old new path
+same-says ignored old new i w j v path has has_too begin now gathered written s a = (
+  λ x.
+      let n = a.0 x in
+      trees-alike ignored old new i w j v path (empty-whole begin now (diff_text ignored old new path) gathered written s n.0 n.1),
+  λ e.
+      a.1 (whole-empty begin now (diff_text ignored old new path) gathered written s (alike-nothing ignored old new i w j v path e has has_too)),
 )

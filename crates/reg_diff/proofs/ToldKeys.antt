@@ -1,6 +1,6 @@
--- The keys that are told of a tree: each stands in it at its names, folded, and each key of the tree is told.
+-- The keys that are told of a tree from one on: each stands in it at its names, folded, at or below that one, and each key there is told.
 use Rattle.std.proofs.Common.{◌≡◌, ℕ, zero, suc, ◌+◌, ◌<◌, Bool, true, false, ◌||◌, is_some, List, [], ◌∷◌, ◌++◌, length, map}
-use Rattle.std.proofs.Common.{Option, Some, None, IsSome, refl, sym, ap, ◌∙◌, subst, arith, append_assoc, append-nil}
+use Rattle.std.proofs.Common.{Option, Some, None, IsSome, refl, sym, ap, ◌∙◌, subst, arith, append_assoc, append-nil, length-append}
 use Rattle.std.specs.Prelude.{flat_map, nat_le}
 use Rattle.std.specs.FinMap.{get, contains_key}
 use Rattle.std.specs.List.{AllByRecursion, list_all, list_any}
@@ -16,12 +16,15 @@ use Rattle.reg_heap.specs.Paths.{Path, Tree, Rec, path_cmp, is_child, children_o
 use Rattle.reg_heap.specs.Trees.{IsTree, IsWithinLimits}
 use Rattle.reg_heap.proofs.ChildrenOfPath.{named, is_child-below, children-contain, path-is}
 use Rattle.reg_tree.proofs.Invariant.CellReadings.{some_of}
-use Rattle.reg_tree_text.specs.DumpTexts.{Told, name_of, told_here, told_from, keys_told}
+use Rattle.reg_tree_text.specs.DumpTexts.{Told, name_of, told_here, told_from}
+use Rattle.reg_diff.specs.Branches.{names_along, names_to, keys_from}
 
--- a key is told as it stands in a tree, at the end of names of keys, not too many
-pub record IsToldIn (tree : Tree) (told : Told) : Type 0 where
+-- a key is told as it stands in a tree, at the end of names of keys, not too many, at or below a path
+pub record IsToldIn (tree : Tree) (top : Path) (told : Told) : Type 0 where
   pub names : are_key_names PATH_LIMIT told.names ≡ true
   pub key : get tree (map folded told.names) ≡ Some told.key
+  pub rest : Path
+  pub below : map folded told.names ≡ top ++ rest
 
 -- one of some keys that are told is that of a path
 pub record Finds (P : Told → Type 0) (path : Path) (key : Rec) : Type 0 where
@@ -44,7 +47,7 @@ pub all-back : (P : Told → Type 0) (xs ys : List Told) → AllByRecursion P (x
 all-back P [] ys a = a
 all-back P (x ∷ xs) ys a = all-back P xs ys a.1
 
-abbrev Has : Tree → Path → Type 0
+abbrev pub Has : Tree → Path → Type 0
 Has tree path = IsSome (get tree path)
 
 -- ---- lists of paths
@@ -78,7 +81,7 @@ picked P f q (k ∷ paths) e a = by (eq_by_cmp path_cmp q k) refl e (picked P f 
 
 module _ (tree : Tree) (i : IsTree tree) where
   -- with a key the tree has all keys above it
-  held-above : (path rest : Path) → Has tree (path ++ rest) → Has tree path
+  pub held-above : (path rest : Path) → Has tree (path ++ rest) → Has tree path
   held-above path [] h = subst (Has tree) (append-nil path) h
   held-above path (n ∷ rest) h =
       i.parents path n (held-above (path ++ n ∷ []) rest (subst (Has tree) (sym (append_assoc path (n ∷ []) rest)) h))
@@ -89,6 +92,26 @@ module _ (tree : Tree) (i : IsTree tree) where
   below-names names path name key m e =
       map-append folded names (key.name ∷ [])
       ∙ (ap (λ (x : Path). x ++ folded key.name ∷ []) m ∙ ap (λ (n : List ℕ). path ++ n ∷ []) (i.names path name key e))
+
+  -- ---- the names that lead to a key
+
+  -- the first of them folds to the path's
+  pub first-folded : (above : Path) (name : List ℕ) → Has tree (above ++ name ∷ []) → folded (name_of (get tree (above ++ name ∷ []))) ≡ name
+  first-folded above name h =
+      let found = some_of (get tree (above ++ name ∷ [])) h in
+      ap (λ (o : Option Rec). folded (name_of o)) found.1 ∙ i.names above name found.0 found.1
+
+  pub longer-has : (above : Path) (name : List ℕ) (rest : Path) → Has tree (above ++ name ∷ rest) → Has tree ((above ++ name ∷ []) ++ rest)
+  longer-has above name rest h = subst (Has tree) (sym (append_assoc above (name ∷ []) rest)) h
+
+  pub along-folded : (above path : Path) → Has tree (above ++ path) → map folded (names_along tree above path) ≡ path
+  unfolding names_along
+  along-folded above [] h = refl
+  along-folded above (name ∷ rest) h =
+      let child : Path = above ++ name ∷ [] in
+      let has = longer-has above name rest h in
+      ap (λ (x : List ℕ). x ∷ map folded (names_along tree child rest)) (first-folded above name (held-above child rest has))
+      ∙ ap (λ (p : Path). name ∷ p) (along-folded child rest has)
 
   -- ---- each key of the tree is told
 
@@ -129,23 +152,35 @@ module _ (tree : Tree) (i : IsTree tree) where
         is-some : (o : Option Rec) (key : Rec) → o ≡ Some key → IsSome o
         is-some o key e = ap is_some e
 
-    pub all-told : (w : IsWithinLimits tree) (path : Path) (key : Rec) → get tree path ≡ Some key → AllByRecursion P (keys_told tree) →
-        Finds P path key
-    unfolding keys_told
-    all-told w path key e a =
-        let shallow = w.shallow path (ap is_some e) in
-        reaches (PATH_LIMIT + 1) path [] [] key (omega (arith, shallow)) refl e a
+    pub all-told : (w : IsWithinLimits tree) (path rest : Path) (key : Rec) → get tree (path ++ rest) ≡ Some key →
+        AllByRecursion P (keys_from tree path) → Finds P (path ++ rest) key
+    unfolding keys_from
+    all-told w path rest key e a =
+        let shallow = w.shallow (path ++ rest) (ap is_some e) in
+        let long = length-append path rest in
+        reaches (PATH_LIMIT + 1) rest (names_to tree path) path key (omega (arith, shallow, long))
+        (along-folded [] path (held-above path rest (ap is_some e))) e a
 
   -- ---- each key that is told is the tree's
 
-  module _ (w : IsWithinLimits tree) where
-    abbrev AreTold : ℕ → List (List ℕ) → Path → Type 0
-    AreTold levels names path = AllByRecursion (IsToldIn tree) (told_from levels tree names path)
+  pub along-good : IsWithinLimits tree → (above path : Path) → Has tree (above ++ path) → list_all is_key_name (names_along tree above path) ≡ true
+  unfolding names_along
+  along-good w above [] h = refl
+  along-good w above (name ∷ rest) h =
+      let child : Path = above ++ name ∷ [] in
+      let has = longer-has above name rest h in
+      let found = some_of (get tree child) (held-above child rest has) in
+      and_from (is_key_name (name_of (get tree child))) (list_all is_key_name (names_along tree child rest))
+      (ap (λ (o : Option Rec). is_key_name (name_of o)) found.1 ∙ (w.keys child found.0 found.1).name) (along-good w child rest has)
 
-    abbrev IsBelow : Path → Path → Type 0
+  module _ (w : IsWithinLimits tree) (top : Path) where
+    abbrev pub AreTold : ℕ → List (List ℕ) → Path → Type 0
+    AreTold levels names path = AllByRecursion (IsToldIn tree top) (told_from levels tree names path)
+
+    abbrev pub IsBelow : Path → Path → Type 0
     IsBelow path child = (is_child path child ≡ true) × Has tree child
 
-    children-below : (path : Path) → AllByRecursion (IsBelow path) (children_of tree path)
+    pub children-below : (path : Path) → AllByRecursion (IsBelow path) (children_of tree path)
     children-below path =
         each (IsBelow path) (children_of tree path) (λ q e.
         let both = and_parts (is_child path q) (contains_key tree q) (sym (children-contain tree path q) ∙ e) in
@@ -159,17 +194,21 @@ module _ (tree : Tree) (i : IsTree tree) where
         let long = sym (length-map names folded) ∙ ap length m in
         and_from (list_all is_key_name names) (nat_le (length names) PATH_LIMIT) all (le-leb (length names) PATH_LIMIT (omega (arith, shallow, long)))
 
-    here-told : (names : List (List ℕ)) (path : Path) (found : Option Rec) → get tree path ≡ found → map folded names ≡ path →
-        list_all is_key_name names ≡ true → AllByRecursion (IsToldIn tree) (told_here names found)
-    here-told names path None e m all = tt
-    here-told names path (Some key) e m all = (record { names = few-names names path key m all e; key = ap (get tree) m ∙ e }, tt)
+    here-told : (names : List (List ℕ)) (path rest : Path) (found : Option Rec) → get tree path ≡ found → map folded names ≡ path →
+        list_all is_key_name names ≡ true → path ≡ top ++ rest → AllByRecursion (IsToldIn tree top) (told_here names found)
+    here-told names path rest None e m all b = tt
+    here-told names path rest (Some key) e m all b =
+        (record { names = few-names names path key m all e; key = ap (get tree) m ∙ e; rest = rest; below = m ∙ b }, tt)
 
-    abbrev AllTold : ℕ → Type 0
-    AllTold levels = (names : List (List ℕ)) (path : Path) → map folded names ≡ path → list_all is_key_name names ≡ true → AreTold levels names path
+    abbrev pub AllTold : ℕ → Type 0
+    AllTold levels =
+        (names : List (List ℕ)) (path rest : Path) → map folded names ≡ path → list_all is_key_name names ≡ true → path ≡ top ++ rest →
+        AreTold levels names path
 
-    child-told : (levels : ℕ) → AllTold levels → (names : List (List ℕ)) (path child : Path) → map folded names ≡ path →
-        list_all is_key_name names ≡ true → IsBelow path child → AreTold levels (names ++ name_of (get tree child) ∷ []) child
-    child-told levels each names path child m all (below, has) =
+    child-told : (levels : ℕ) → AllTold levels → (names : List (List ℕ)) (path rest child : Path) → map folded names ≡ path →
+        list_all is_key_name names ≡ true → path ≡ top ++ rest → IsBelow path child →
+        AreTold levels (names ++ name_of (get tree child) ∷ []) child
+    child-told levels each names path rest child m all b (below, has) =
         let last = named path child below in
         let found = some_of (get tree child) has in
         let there : get tree (path ++ last.0 ∷ []) ≡ Some found.0 = ap (get tree) (sym last.1) ∙ found.1 in
@@ -178,24 +217,26 @@ module _ (tree : Tree) (i : IsTree tree) where
         let good : list_all is_key_name (names ++ found.0.name ∷ []) ≡ true =
         list_all-append is_key_name names (found.0.name ∷ []) ∙
         and_from _ _ all (and_from _ _ (w.keys child found.0 found.1).name refl) in
-        each (names ++ name_of (get tree child) ∷ []) child joined
+        each (names ++ name_of (get tree child) ∷ []) child (rest ++ last.0 ∷ []) joined
         (ap (λ (o : Option Rec). list_all is_key_name (names ++ name_of o ∷ [])) found.1 ∙ good)
+        (last.1 ∙ (ap (λ (p : Path). p ++ last.0 ∷ []) b ∙ append_assoc top rest (last.0 ∷ [])))
 
-    below-told : (levels : ℕ) → AllTold levels → (names : List (List ℕ)) (path : Path) → map folded names ≡ path →
-        list_all is_key_name names ≡ true → (children : List Path) → AllByRecursion (IsBelow path) children →
-        AllByRecursion (IsToldIn tree) (flat_map (λ child. told_from levels tree (names ++ name_of (get tree child) ∷ []) child) children)
-    below-told levels each names path m all [] b = tt
-    below-told levels each names path m all (child ∷ children) (b, bs) =
-        all-append (IsToldIn tree) (told_from levels tree (names ++ name_of (get tree child) ∷ []) child) _
-        (child-told levels each names path child m all b) (below-told levels each names path m all children bs)
+    below-told : (levels : ℕ) → AllTold levels → (names : List (List ℕ)) (path rest : Path) → map folded names ≡ path →
+        list_all is_key_name names ≡ true → path ≡ top ++ rest → (children : List Path) → AllByRecursion (IsBelow path) children →
+        AllByRecursion (IsToldIn tree top) (flat_map (λ child. told_from levels tree (names ++ name_of (get tree child) ∷ []) child) children)
+    below-told levels each names path rest m all b [] a = tt
+    below-told levels each names path rest m all b (child ∷ children) (a, as_well) =
+        all-append (IsToldIn tree top) (told_from levels tree (names ++ name_of (get tree child) ∷ []) child) _
+        (child-told levels each names path rest child m all b a) (below-told levels each names path rest m all b children as_well)
 
-    told-each : (levels : ℕ) → AllTold levels
+    pub told-each : (levels : ℕ) → AllTold levels
     unfolding told_from
-    told-each zero names path m all = tt
-    told-each (suc levels) names path m all =
-        all-append (IsToldIn tree) (told_here names (get tree path)) _ (here-told names path (get tree path) refl m all)
-        (below-told levels (told-each levels) names path m all (children_of tree path) (children-below path))
+    told-each zero names path rest m all b = tt
+    told-each (suc levels) names path rest m all b =
+        all-append (IsToldIn tree top) (told_here names (get tree path)) _ (here-told names path rest (get tree path) refl m all b)
+        (below-told levels (told-each levels) names path rest m all b (children_of tree path) (children-below path))
 
-    pub keys-there : AllByRecursion (IsToldIn tree) (keys_told tree)
-    unfolding keys_told
-    keys-there = told-each (PATH_LIMIT + 1) [] [] refl refl
+    pub keys-there : Has tree top → AllByRecursion (IsToldIn tree top) (keys_from tree top)
+    unfolding keys_from
+    keys-there h =
+        told-each (PATH_LIMIT + 1) (names_to tree top) top [] (along-folded [] top h) (along-good w [] top h) (sym (append-nil top))

@@ -1,6 +1,6 @@
 -- The key at which a walk stands: its names as a path's text, and what is told of it.
-use Rattle.std.proofs.Common.{◌≡◌, ◌≢◌, ℕ, ◌+◌, ◌<◌, ◌==◌, ◌&&◌, not, nat_lt, nat_le, true, List, [], ◌∷◌, ◌++◌, length, map}
-use Rattle.std.proofs.Common.{refl, ap, ◌∙◌, subst, arith}
+use Rattle.std.proofs.Common.{◌≡◌, ◌≢◌, ℕ, ◌<◌, ◌==◌, ◌&&◌, not, nat_lt, nat_le, Bool, true, List, [], ◌∷◌, ◌++◌, length, map}
+use Rattle.std.proofs.Common.{refl, sym, ap, ◌∙◌, subst, arith}
 use Rattle.std.specs.Prelude.{flat_map}
 use Rattle.std.specs.FinMap.{get}
 use Rattle.std.specs.List.{AllByRecursion, list_all}
@@ -9,19 +9,18 @@ use Rattle.reg_names.specs.declared.TheConstants.{KEY_NAME_LIMIT, PATH_LIMIT}
 use Rattle.reg_names.specs.Names.{folded, text_of, path_of, is_key_name, is_key_name_byte, is_value_name_byte, has_no_backslash}
 use Rattle.reg_names.specs.Names.{are_key_names, is_path}
 use Rattle.reg_names.proofs.PathTexts.{path_of-text_of}
-use Rattle.reg_heap.specs.Paths.{Tree}
+use Rattle.reg_heap.specs.Paths.{Path, Tree}
 use Rattle.reg_heap.specs.Edits.{folded_path}
-use Rattle.reg_heap.specs.Trees.{IsTree, IsWithinLimits}
 use Rattle.reg_tree.specs.TreeKeys.{Keys}
-use Rattle.reg_tree_text.specs.declared.counts.Counts.{Counts}
 use Rattle.reg_tree_text.specs.declared.walk.Walk.{Walk}
 use Rattle.reg_tree_text.specs.DumpTexts.{Told}
 use Rattle.reg_tree_text.specs.Internal.Gathered.{WriterState, IsSoFar}
-use Rattle.reg_tree_text.specs.Internal.Walking.{IsAmid, CountsKey}
+use Rattle.reg_tree_text.specs.Internal.Walking.{Goes}
 use Rattle.reg_tree_text.proofs.SentTexts.{opened, swapped}
+use Rattle.reg_diff.specs.declared.ignored.Ignored.{Ignored}
 use Rattle.reg_diff.specs.declared.side.Side.{Side}
 use Rattle.reg_diff.specs.Differences.{key_changes, told_changes}
-use Rattle.reg_diff.proofs.ToldKeys.{IsToldIn, keys-there, all-back}
+use Rattle.reg_diff.proofs.ToldKeys.{IsToldIn}
 
 -- ---- names as a text
 
@@ -63,35 +62,53 @@ read-back names e =
 pub text-path : (names : List (List ℕ)) (text : List ℕ) → text ≡ text_of names → are_key_names PATH_LIMIT names ≡ true → is_path text ≡ true
 text-path names text t e = ap (are_key_names PATH_LIMIT) (ap path_of t ∙ read-back names e) ∙ e
 
+-- a key's name is a path of one name
+pub record IsOneName (name : List ℕ) : Type 0 where
+  pub valid : is_path name ≡ true
+  pub names : folded_path name ≡ folded name ∷ []
+
+one-good : (limit : ℕ) (name : List ℕ) → nat_le 1 limit ≡ true → is_key_name name ≡ true → are_key_names limit (name ∷ []) ≡ true
+unfolding are_key_names
+one-good limit name few k = ap (λ (b : Bool). (b && true) && nat_le 1 limit) k ∙ few
+
+pub one_name : (name : List ℕ) → is_key_name name ≡ true → IsOneName name
+one_name name k =
+    let good = one-good PATH_LIMIT name refl k in
+    record { valid = text-path (name ∷ []) name refl good; names = ap (map folded) (read-back (name ∷ []) good) }
+
 -- ---- what is told of a key
 
-pub told-line : (side : Side) (other : Tree) (told : Told) (text : List ℕ) → text ≡ text_of told.names →
-    are_key_names PATH_LIMIT told.names ≡ true → key_changes side text told.key (get other (folded_path text)) ≡ told_changes side other told
-told-line side other told text t e =
-    ap (λ (x : List ℕ). key_changes side x told.key (get other (folded_path x))) t
-    ∙ ap (λ (names : List (List ℕ)). key_changes side (text_of told.names) told.key (get other (map folded names))) (read-back told.names e)
+pub told-line : (ignored : Ignored) (side : Side) (other : Tree) (told : Told) (text : List ℕ) → text ≡ text_of told.names →
+    are_key_names PATH_LIMIT told.names ≡ true → key_changes ignored side text told.key (get other (folded_path text)) ≡ told_changes ignored side other told
+told-line ignored side other told text t e =
+    ap (λ (x : List ℕ). key_changes ignored side x told.key (get other (folded_path x))) t
+    ∙ ap (λ (names : List (List ℕ)). key_changes ignored side (text_of told.names) told.key (get other (map folded names))) (read-back told.names e)
 
 -- ---- the key at which a walk stands
 
-pub here-told : (keys : Keys) (walk : Walk) (counts : Counts) (a : IsAmid keys walk counts) → IsTree keys.tree → IsWithinLimits keys.tree →
-    IsToldIn keys.tree a.here
-here-told keys walk counts a i w =
-    (all-back (IsToldIn keys.tree) a.done (a.here ∷ a.rest)
-    (subst (λ (told : List Told). AllByRecursion (IsToldIn keys.tree) told) a.all_is (keys-there keys.tree i w))).0
+-- a walk goes over some keys, which are told of a tree at a path and below it
+pub record IsTelling (keys : Keys) (top : Path) (walk : Walk) : Type 0 where
+  pub now : List Told
+  pub goes : Goes keys walk now
+  pub told : AllByRecursion (IsToldIn keys.tree top) now
 
--- what is told of it is next
-pub key-next : (side : Side) (other : Tree) (begin now : WriterState) (whole : List ℕ) (here : Told) (rest : List Told) (text left gathered : List ℕ)
-    (written : ℕ) → text ≡ text_of here.names → are_key_names PATH_LIMIT here.names ≡ true →
-    IsSoFar begin now whole (flat_map (told_changes side other) (here ∷ rest) ++ left) gathered written →
-    IsSoFar begin now whole (key_changes side text here.key (get other (folded_path text)) ++ (flat_map (told_changes side other) rest ++ left))
-    gathered written
-key-next side other begin now whole here rest text left gathered written t e s =
-    swapped begin now whole (told_changes side other here) (key_changes side text here.key (get other (folded_path text)))
-    (flat_map (told_changes side other) rest ++ left) gathered written
-    (opened begin now whole (told_changes side other here) (flat_map (told_changes side other) rest) left gathered written s)
-    (told-line side other here text t e)
+-- the first of them, and those behind it
+pub first-told : (tree : Tree) (top : Path) (all rest : List Told) (here : Told) → all ≡ here ∷ rest → AllByRecursion (IsToldIn tree top) all →
+    IsToldIn tree top here × AllByRecursion (IsToldIn tree top) rest
+first-told tree top all rest here e a = subst (λ (told : List Told). AllByRecursion (IsToldIn tree top) told) e a
 
--- it is counted
-pub counted : (here : Told) (old : Counts) → (new : Counts) × CountsKey here old new
-counted here old =
-    (record { keys = old.keys + 1; values = old.values + length here.key.values }, record { keys = refl; values = refl })
+-- what is told of the first is next
+pub key-next : (ignored : Ignored) (side : Side) (other : Tree) (begin now : WriterState) (whole : List ℕ) (all : List Told) (here : Told)
+    (rest : List Told) (text left gathered : List ℕ) (written : ℕ) → all ≡ here ∷ rest → text ≡ text_of here.names →
+    are_key_names PATH_LIMIT here.names ≡ true →
+    IsSoFar begin now whole (flat_map (told_changes ignored side other) all ++ left) gathered written →
+    IsSoFar begin now whole
+    (key_changes ignored side text here.key (get other (folded_path text)) ++ (flat_map (told_changes ignored side other) rest ++ left)) gathered
+    written
+key-next ignored side other begin now whole all here rest text left gathered written first t e s =
+    swapped begin now whole (told_changes ignored side other here) (key_changes ignored side text here.key (get other (folded_path text)))
+    (flat_map (told_changes ignored side other) rest ++ left) gathered written
+    (opened begin now whole (told_changes ignored side other here) (flat_map (told_changes ignored side other) rest) left gathered written
+    (swapped begin now whole (flat_map (told_changes ignored side other) all) (flat_map (told_changes ignored side other) (here ∷ rest)) left
+    gathered written s (sym (ap (flat_map (told_changes ignored side other)) first))))
+    (told-line ignored side other here text t e)

@@ -1,13 +1,16 @@
--- How two trees of keys differ, told as text (this project's own): a line for each key and each value that is gone, has come or changed.
-use Rattle.std.specs.Prelude.{ℕ, ◌==◌, ◌&&◌, Bool, if◌then◌else◌, bytes_eq, List, [], ◌∷◌, ◌++◌, codes, flat_map, map, Option, Some, None}
+-- How two trees of keys differ at a path and below it, told as text (this project's own): a line for each key and each value that is gone,
+-- has come or changed. Of a key that both have a field may be ignored, or the order of the values: then no line tells that it differs.
+use Rattle.std.specs.Prelude.{ℕ, ◌==◌, ◌&&◌, ◌||◌, Bool, if◌then◌else◌, bytes_eq, List, [], ◌∷◌, ◌++◌, codes, flat_map, map, Option, Some, None}
 use Rattle.std.specs.Cmp.Lexicographic.{pointwise}
 use Rattle.std.specs.Fmt.{decimal}
 use Rattle.std.specs.FinMap.{get}
 use Rattle.reg_names.specs.Names.{folded, text_of}
-use Rattle.reg_heap.specs.Paths.{Tree, Rec, Member}
+use Rattle.reg_heap.specs.Paths.{Path, Tree, Rec, Member}
 use Rattle.reg_heap.specs.Members.{value_named}
 use Rattle.reg_text.specs.Texts.{line_feed, escaped, digits_text}
-use Rattle.reg_tree_text.specs.DumpTexts.{Told, keys_told}
+use Rattle.reg_tree_text.specs.DumpTexts.{Told}
+use Rattle.reg_diff.specs.Branches.{keys_from}
+use Rattle.reg_diff.specs.declared.ignored.Ignored.{Ignored}
 use Rattle.reg_diff.specs.declared.side.Side.{Side}
 use Rattle.reg_diff.specs.declared.side.Side.TheVariants.{Old, New}
 
@@ -43,27 +46,28 @@ name_change path was is =
     if bytes_eq was is then []
     else codes "changed name =" ++ (escaped path ++ (codes " from =" ++ (escaped was ++ (codes " to =" ++ (escaped is ++ line_feed)))))
 
--- a number of a key
-unfoldable pub number_change : (what path : List ℕ) (was is : ℕ) → List ℕ
-number_change what path was is =
-    if was == is then []
+-- a number of a key, where it isn't ignored
+unfoldable pub number_change : (is_ignored : Bool) (what path : List ℕ) (was is : ℕ) → List ℕ
+number_change is_ignored what path was is =
+    if is_ignored || (was == is) then []
     else codes "changed "
     ++ (what ++ (codes " =" ++ (escaped path ++ (codes " from " ++ (decimal was ++ (codes " to " ++ (decimal is ++ line_feed)))))))
 
--- bytes of a key
-unfoldable pub bytes_change : (what path was is : List ℕ) → List ℕ
-bytes_change what path was is =
-    if bytes_eq was is then []
+-- bytes of a key, where they aren't ignored
+unfoldable pub bytes_change : (is_ignored : Bool) (what path was is : List ℕ) → List ℕ
+bytes_change is_ignored what path was is =
+    if is_ignored || bytes_eq was is then []
     else codes "changed "
     ++ (what ++ (codes " =" ++ (escaped path ++ (codes " from x" ++ (digits_text was ++ (codes " to x" ++ (digits_text is ++ line_feed)))))))
 
 -- all of these, in this order
-unfoldable pub field_changes : (path : List ℕ) (was is : Rec) → List ℕ
-field_changes path was is =
+unfoldable pub field_changes : Ignored → (path : List ℕ) (was is : Rec) → List ℕ
+field_changes ignored path was is =
     name_change path was.name is.name
-    ++ (number_change (codes "marks") path was.marks is.marks
-    ++ (bytes_change (codes "class") path was.class is.class
-    ++ (bytes_change (codes "security") path was.descriptor is.descriptor ++ number_change (codes "time") path was.time is.time)))
+    ++ (number_change ignored.marks (codes "marks") path was.marks is.marks
+    ++ (bytes_change ignored.class (codes "class") path was.class is.class
+    ++ (bytes_change ignored.security (codes "security") path was.descriptor is.descriptor
+    ++ number_change ignored.time (codes "time") path was.time is.time)))
 
 -- ---- the values of a key that both trees have
 
@@ -108,31 +112,34 @@ come_values path was is = flat_map (come_line path was) is
 unfoldable pub order_line : (path : List ℕ) → List ℕ
 order_line path = codes "changed order =" ++ (escaped path ++ line_feed)
 
--- it's told where the lists differ, and no other line of the values was told
-abbrev pub order_change : (path told : List ℕ) (was is : List Member) → List ℕ
-order_change path [] was is = if same_members was is then [] else order_line path
-order_change path (letter ∷ told) was is = []
+-- it's told where the lists differ, and no other line of the values was told, and where the order isn't ignored
+abbrev pub order_change : (is_ignored : Bool) (path told : List ℕ) (was is : List Member) → List ℕ
+order_change is_ignored path [] was is = if is_ignored || same_members was is then [] else order_line path
+order_change is_ignored path (letter ∷ told) was is = []
 
-unfoldable pub value_changes : (path : List ℕ) (was is : List Member) → List ℕ
-value_changes path was is =
-    (lost_values path was is ++ come_values path was is) ++ order_change path (lost_values path was is ++ come_values path was is) was is
+unfoldable pub value_changes : (is_order_ignored : Bool) (path : List ℕ) (was is : List Member) → List ℕ
+value_changes is_order_ignored path was is =
+    (lost_values path was is ++ come_values path was is)
+    ++ order_change is_order_ignored path (lost_values path was is ++ come_values path was is) was is
 
--- ---- whole trees
+-- ---- the key at a path with all below it, in both trees
 
 -- what is told of a key of one tree, where the other one has this at its path
-abbrev pub key_changes : Side → (path : List ℕ) → Rec → Option Rec → List ℕ
-key_changes side path key None = whole_key side path key
-key_changes Old path key (Some other) = field_changes path key other ++ value_changes path key.values other.values
-key_changes New path key (Some other) = []
+abbrev pub key_changes : Ignored → Side → (path : List ℕ) → Rec → Option Rec → List ℕ
+key_changes ignored side path key None = whole_key side path key
+key_changes ignored Old path key (Some other) =
+    field_changes ignored path key other ++ value_changes ignored.order path key.values other.values
+key_changes ignored New path key (Some other) = []
 
 -- what is told of a key at the end of some names, which the other tree may have
-abbrev pub told_changes : Side → (other : Tree) → Told → List ℕ
-told_changes side other told = key_changes side (text_of told.names) told.key (get other (map folded told.names))
+abbrev pub told_changes : Ignored → Side → (other : Tree) → Told → List ℕ
+told_changes ignored side other told = key_changes ignored side (text_of told.names) told.key (get other (map folded told.names))
 
--- what is told of one tree's keys, in the order of a dump, against the other one
-abbrev pub side_text : Side → (tree other : Tree) → List ℕ
-side_text side tree other = flat_map (told_changes side other) (keys_told tree)
+-- what is told of one tree's keys from the one at a path on, in the order of a dump, against the other tree
+abbrev pub side_text : Ignored → Side → (tree other : Tree) → Path → List ℕ
+side_text ignored side tree other path = flat_map (told_changes ignored side other) (keys_from tree path)
 
--- how the new tree differs from the old one: what is told of the old one's keys, and then which have come
-unfoldable pub diff_text : (old new : Tree) → List ℕ
-diff_text old new = side_text Old old new ++ side_text New new old
+-- how the new tree differs from the old one at a path and below it: what is told of the old one's keys, and then which have come. At the
+-- empty path these are whole trees
+unfoldable pub diff_text : Ignored → (old new : Tree) → Path → List ℕ
+diff_text ignored old new path = side_text ignored Old old new path ++ side_text ignored New new old path

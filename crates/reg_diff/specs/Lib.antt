@@ -1,2 +1,4 @@
+pub mod Branches
 pub mod Differences
+pub mod Alike
 pub mod Internal

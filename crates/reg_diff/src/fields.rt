@@ -6,6 +6,7 @@ ghost use Rattle.reg_tree.specs.TreeKeys.{IsAt, IsThere};
 ghost use Rattle.reg_tree_text.specs.Internal.Gathered.{Puts};
 ghost use Rattle.reg_diff.specs.Differences.{name_change, number_change, bytes_change, field_changes};
 
+use crate::Ignored;
 use crate::line::{Part, put_line};
 use reg_text::{Output, Sink};
 use reg_tree::{Node, Tree};
@@ -40,19 +41,20 @@ fn put_name_change<'a, W: Sink>(
     )
 }
 
-/// Tells a number of a key that was another.
+/// Tells a number of a key that was another, where it isn't ignored.
 fn put_number_change<'a, W: Sink>(
     output: &mut Output<String>,
     writer: &mut W,
+    is_ignored: bool,
     what: &'a str,
     path: &'a [u8],
     was: u64,
     is: u64,
 ) -> Result<(), DumpFault>
     ensures { Puts output.old (W.contents writer.old, W.failures writer.old) output.new (W.contents writer.new, W.failures writer.new)
-        (number_change what.now path.now was is) result }
+        (number_change is_ignored what.now path.now was is) result }
 {
-    if was == is {
+    if is_ignored | (was == is) {
         return Ok(());
     }
     put_line(
@@ -72,19 +74,20 @@ fn put_number_change<'a, W: Sink>(
     )
 }
 
-/// Tells bytes of a key that were others.
+/// Tells bytes of a key that were others, where they aren't ignored.
 fn put_bytes_change<'a, W: Sink>(
     output: &mut Output<String>,
     writer: &mut W,
+    is_ignored: bool,
     what: &'a str,
     path: &'a [u8],
     was: &'a [u8],
     is: &'a [u8],
 ) -> Result<(), DumpFault>
     ensures { Puts output.old (W.contents writer.old, W.failures writer.old) output.new (W.contents writer.new, W.failures writer.new)
-        (bytes_change what.now path.now was.now is.now) result }
+        (bytes_change is_ignored what.now path.now was.now is.now) result }
 {
-    if was == is {
+    if is_ignored | (was == is) {
         return Ok(());
     }
     put_line(
@@ -104,10 +107,11 @@ fn put_bytes_change<'a, W: Sink>(
     )
 }
 
-/// Tells what differs of a key's own fields.
+/// Tells what differs of a key's own fields and isn't ignored.
 pub fn put_field_changes<W: Sink>(
     output: &mut Output<String>,
     writer: &mut W,
+    ignored: Ignored,
     old: &Tree,
     node: Node,
     new: &Tree,
@@ -118,15 +122,24 @@ pub fn put_field_changes<W: Sink>(
     requires found { IsThere new.now found }
     ensures { (p q : Path) → IsAt old.now p node → IsAt new.now q found → (was is : Rec) → get old.now.tree p ≡ Some was → get new.now.tree q ≡ Some is →
         Puts output.old (W.contents writer.old, W.failures writer.old) output.new (W.contents writer.new, W.failures writer.new)
-        (field_changes path.now was is) result }
+        (field_changes ignored path.now was is) result }
 {
     put_name_change(output, writer, path, old.name(node), new.name(found))?;
     let old_marks = u64::from(old.marks(node));
     let new_marks = u64::from(new.marks(found));
-    put_number_change(output, writer, "marks", path, old_marks, new_marks)?;
+    put_number_change(
+        output,
+        writer,
+        ignored.marks,
+        "marks",
+        path,
+        old_marks,
+        new_marks,
+    )?;
     put_bytes_change(
         output,
         writer,
+        ignored.class,
         "class",
         path,
         old.class(node),
@@ -137,6 +150,7 @@ pub fn put_field_changes<W: Sink>(
     put_bytes_change(
         output,
         writer,
+        ignored.security,
         "security",
         path,
         old_descriptor,
@@ -145,6 +159,7 @@ pub fn put_field_changes<W: Sink>(
     put_number_change(
         output,
         writer,
+        ignored.time,
         "time",
         path,
         old.time(node),

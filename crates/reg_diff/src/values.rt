@@ -234,11 +234,12 @@ fn put_order<'a, W: Sink>(
     )
 }
 
-/// Tells what differs of a key's values.
+/// Tells what differs of a key's values, their order where that isn't ignored.
 pub fn put_value_changes<W: Sink>(
     output: &mut Output<String>,
     writer: &mut W,
     alloc: Global,
+    is_order_ignored: bool,
     old: &Tree,
     node: Node,
     new: &Tree,
@@ -249,7 +250,7 @@ pub fn put_value_changes<W: Sink>(
     requires found { IsThere new.now found }
     ensures { (p q : Path) → IsAt old.now p node → IsAt new.now q found →
         Puts output.old (W.contents writer.old, W.failures writer.old) output.new (W.contents writer.new, W.failures writer.new)
-        (value_changes path.now (values_at old.now.tree p) (values_at new.now.tree q)) result }
+        (value_changes is_order_ignored path.now (values_at old.now.tree p) (values_at new.now.tree q)) result }
 {
     // No two of a key's values have one name, as this call's contract says: lists that are the same tell nothing.
     let _root = old.root();
@@ -258,7 +259,7 @@ pub fn put_value_changes<W: Sink>(
     }
     let none_lost = put_lost_values(output, writer, alloc, old, node, new, found, path)?;
     let none_came = put_come_values(output, writer, alloc, old, node, new, found, path)?;
-    if none_lost & none_came {
+    if none_lost & none_came & !is_order_ignored {
         return put_order(output, writer, path);
     }
     Ok(())

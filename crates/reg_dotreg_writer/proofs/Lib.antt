@@ -11,3 +11,8 @@ pub mod ToldNames
 mod RowsOfEntries
 mod RowsOfFiles
 pub mod StringsBack
+pub mod ChangeBytes
+pub mod ToldValues
+pub mod ToldChanges
+pub mod FileChanges
+pub mod ChangeLines

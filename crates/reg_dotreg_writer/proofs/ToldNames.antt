@@ -49,7 +49,7 @@ values-ascii (v ∷ values) a = and_from (are_ascii v.name) (list_all is_ascii_n
 -- ---- keys
 
 module _ (tree : Tree) (limits : IsWithinLimits tree) where
-  found-ascii : (path : Path) → are_ascii (name_of (get tree path)) ≡ true
+  pub found-ascii : (path : Path) → are_ascii (name_of (get tree path)) ≡ true
   found-ascii path = by (get tree path) refl
     where
       by : (o : Option Rec) → get tree path ≡ o → are_ascii (name_of o) ≡ true
@@ -95,7 +95,7 @@ module _ (tree : Tree) (limits : IsWithinLimits tree) where
       (list_all is_ascii_told (flat_map (λ child. told_from levels tree (below_name names child) child) children))
       (each (below_name names child) child name) (below-ascii levels each names e children)
 
-  told-ascii : (levels : ℕ) (names : List (List ℕ)) (path : Path) → list_all are_ascii names ≡ true →
+  pub told-ascii : (levels : ℕ) (names : List (List ℕ)) (path : Path) → list_all are_ascii names ≡ true →
       list_all is_ascii_told (told_from levels tree names path) ≡ true
   unfolding told_from
   told-ascii zero names path e = refl

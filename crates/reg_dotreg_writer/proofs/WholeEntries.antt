@@ -112,7 +112,7 @@ between-ascii (u ∷ text) e =
     let both = and_parts (nat_lt u 128) (are_ascii text) e in
     ascii-append (quoted_unit u) (flat_map quoted_unit text) (unit-ascii u both.0) (between-ascii text both.1)
 
-name-ascii : (name : List ℕ) → are_ascii name ≡ true → are_ascii (name_told name) ≡ true
+pub name-ascii : (name : List ℕ) → are_ascii name ≡ true → are_ascii (name_told name) ≡ true
 unfolding quoted
 name-ascii [] e = refl
 name-ascii (b ∷ name) e = ascii-append (flat_map quoted_unit (b ∷ name)) (34 ∷ []) (between-ascii (b ∷ name) e) refl
@@ -247,14 +247,14 @@ entries-encoded u (v ∷ values) e =
     ∙ (ap (λ (x : List ℕ). x ++ encoded u (value_entries values)) (entry-encoded u v.name v.kind v.bytes both.0)
     ∙ ap (λ (x : List ℕ). entry_pieces u v.name v.kind v.bytes ++ x) (entries-encoded u values both.1))
 
-text-ascii : (names : List (List ℕ)) → list_all are_ascii names ≡ true → are_ascii (text_of names) ≡ true
+pub text-ascii : (names : List (List ℕ)) → list_all are_ascii names ≡ true → are_ascii (text_of names) ≡ true
 text-ascii [] e = refl
 text-ascii (x ∷ []) e = (and_parts (are_ascii x) true e).0
 text-ascii (x ∷ y ∷ names) e =
     let both = and_parts (are_ascii x) (list_all are_ascii (y ∷ names)) e in
     ascii-append x (92 ∷ text_of (y ∷ names)) both.0 (text-ascii (y ∷ names) both.1)
 
-line-ascii : (path : List ℕ) → are_ascii path ≡ true → are_ascii (key_line path) ≡ true
+pub line-ascii : (path : List ℕ) → are_ascii path ≡ true → are_ascii (key_line path) ≡ true
 unfolding key_line
 line-ascii path e = ascii-append path (93 ∷ line_end) e refl
 

@@ -26,7 +26,7 @@ use reg_tree_text::{DumpFault, Walk, find_key, finish};
 use std::alloc::{AllocError, Global};
 
 /// Appends what stands before the first key.
-fn push_heading(bytes: &mut Vec<u8>, is_utf8: bool) -> Result<(), AllocError>
+pub fn push_heading(bytes: &mut Vec<u8>, is_utf8: bool) -> Result<(), AllocError>
     ensures { OnOk result (bytes.new.items ≡ bytes.old.items ++ head_pieces is_utf8) }
 {
     push_mark(bytes, is_utf8)?;

@@ -45,7 +45,7 @@ fn push_between(bytes: &mut Vec<u8>, is_utf8: bool, text: &[u8]) -> Result<(), A
 }
 
 /// Appends the name of a value.
-fn push_name(bytes: &mut Vec<u8>, is_utf8: bool, name: &[u8]) -> Result<(), AllocError>
+pub fn push_name(bytes: &mut Vec<u8>, is_utf8: bool, name: &[u8]) -> Result<(), AllocError>
     ensures { OnOk result (bytes.new.items ≡ bytes.old.items ++ plain is_utf8 (name_told name.now)) }
 {
     if name.is_empty() {

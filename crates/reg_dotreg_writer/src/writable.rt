@@ -24,7 +24,7 @@ fn is_line_unit(character: u8) -> bool
 }
 
 /// Whether a name, or names joined by backslashes, stand on one line.
-fn is_line_name(name: &[u8]) -> bool
+pub fn is_line_name(name: &[u8]) -> bool
     ensures { result ≡ is_name_on_line name.now }
 {
     name.iter().all(|character| is_line_unit(*character))

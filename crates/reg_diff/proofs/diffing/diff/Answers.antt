@@ -1,65 +1,27 @@
-use Rattle.std.proofs.Common.{[]}
-use Rattle.reg_tree_text.proofs.SentTexts.{so_far_start, so_far_all, err_exits, exits}
-use Rattle.reg_diff.specs.Differences.{diff_text}
-use Rattle.reg_diff.proofs.SideSteps.{same-says}
+use Rattle.std.proofs.Common.{refl}
+use Rattle.reg_diff.proofs.KeysFound.{in-both}
 use Rattle.reg_diff.proofs.diffing.diff.Goals as goal
 
-pub returns-in_err-put_diff-clause-err : goal.returns-in_err-put_diff-clause-err
-returns-in_err-put_diff-clause-err g c =
-    err_exits _ _ _ c.from_residual.ensures.1
-    (c.in_err-put_diff.ensures (g.S.Sink.contents c.args.writer.now, g.S.Sink.failures c.args.writer.now)
-    (diff_text c.args.old.now.tree c.args.new.now.tree) []
-    (so_far_start _ (diff_text c.args.old.now.tree c.args.new.now.tree) _ _ c.new-output.ensures.gathered c.new-output.ensures.written)).0
+pub returns-in_default-find_key-clause-err : goal.returns-in_default-find_key-clause-err
+returns-in_default-find_key-clause-err g c = (c.in-Some.ensures.0, c.in-Some.ensures.1, c.in_default-find_key.ensures, refl)
 
-pub returns-in_err-put_diff-clause-failures : goal.returns-in_err-put_diff-clause-failures
-returns-in_err-put_diff-clause-failures g c =
-    exits _ _ _ _ c.from_residual.ensures.1
-    (c.in_err-put_diff.ensures (g.S.Sink.contents c.args.writer.now, g.S.Sink.failures c.args.writer.now)
-    (diff_text c.args.old.now.tree c.args.new.now.tree) []
-    (so_far_start _ (diff_text c.args.old.now.tree c.args.new.now.tree) _ _ c.new-output.ensures.gathered c.new-output.ensures.written)).1
+pub write_diff-requires : goal.write_diff-requires
+write_diff-requires g c =
+    let b = in-both c.args.old.now.tree c.args.new.now.tree c.args.path.now _ _ c.in-Some.ensures.1 c.in-Some-find_key.ensures.1 in
+    (b.path, b.old_key, b.new_key)
 
-pub returns-in_err-finish-clause-err : goal.returns-in_err-finish-clause-err
-returns-in_err-finish-clause-err g c =
-    err_exits _ _ _ c.from_residual-in_err-finish.ensures.1
-    (c.in_err-finish.ensures.puts (g.S.Sink.contents c.args.writer.now, g.S.Sink.failures c.args.writer.now)
-    (diff_text c.args.old.now.tree c.args.new.now.tree) []
-    (c.in_ok-put_diff.ensures (g.S.Sink.contents c.args.writer.now, g.S.Sink.failures c.args.writer.now)
-    (diff_text c.args.old.now.tree c.args.new.now.tree) []
-    (so_far_start _ (diff_text c.args.old.now.tree c.args.new.now.tree) _ _ c.new-output.ensures.gathered c.new-output.ensures.written))).0
+pub returns-in-Ok-clause-ok : goal.returns-in-Ok-clause-ok
+returns-in-Ok-clause-ok g c =
+    let b = in-both c.args.old.now.tree c.args.new.now.tree c.args.path.now _ _ c.in-Some.ensures.1 c.in-Some-find_key.ensures.1 in
+    record {
+      path = b.path;
+      old_key = b.old_key;
+      new_key = b.new_key;
+      written = c.in-Ok.ensures.ok b.path b.old_key b.new_key;
+      same = c.in-Ok.ensures.same b.path b.old_key b.new_key;
+    }
 
-pub returns-in_err-finish-clause-failures : goal.returns-in_err-finish-clause-failures
-returns-in_err-finish-clause-failures g c =
-    exits _ _ _ _ c.from_residual-in_err-finish.ensures.1
-    (c.in_err-finish.ensures.puts (g.S.Sink.contents c.args.writer.now, g.S.Sink.failures c.args.writer.now)
-    (diff_text c.args.old.now.tree c.args.new.now.tree) []
-    (c.in_ok-put_diff.ensures (g.S.Sink.contents c.args.writer.now, g.S.Sink.failures c.args.writer.now)
-    (diff_text c.args.old.now.tree c.args.new.now.tree) []
-    (so_far_start _ (diff_text c.args.old.now.tree c.args.new.now.tree) _ _ c.new-output.ensures.gathered c.new-output.ensures.written))).1
-
-pub returns-clause-ok : goal.returns-clause-ok
-returns-clause-ok g c =
-    so_far_all (g.S.Sink.contents c.args.writer.now, g.S.Sink.failures c.args.writer.now) _ (diff_text c.args.old.now.tree c.args.new.now.tree) _ _
-    (c.in_ok-finish.ensures.puts (g.S.Sink.contents c.args.writer.now, g.S.Sink.failures c.args.writer.now)
-    (diff_text c.args.old.now.tree c.args.new.now.tree) []
-    (c.in_ok-put_diff.ensures (g.S.Sink.contents c.args.writer.now, g.S.Sink.failures c.args.writer.now)
-    (diff_text c.args.old.now.tree c.args.new.now.tree) []
-    (so_far_start _ (diff_text c.args.old.now.tree c.args.new.now.tree) _ _ c.new-output.ensures.gathered c.new-output.ensures.written)))
-    c.in_ok-finish.ensures.empty
-
-pub returns-clause-same : goal.returns-clause-same
-returns-clause-same g c =
-    same-says c.args.old.now.tree c.args.new.now.tree c.root-old_root.ensures.tree c.root-old_root.ensures.limits
-    c.root-new_root.ensures.tree c.root-new_root.ensures.limits
-    (g.S.Sink.contents c.args.writer.now, g.S.Sink.failures c.args.writer.now) _ _ _
-    (c.in_ok-put_diff.ensures (g.S.Sink.contents c.args.writer.now, g.S.Sink.failures c.args.writer.now)
-    (diff_text c.args.old.now.tree c.args.new.now.tree) []
-    (so_far_start _ (diff_text c.args.old.now.tree c.args.new.now.tree) _ _ c.new-output.ensures.gathered c.new-output.ensures.written))
-    c.is_untold-is_same.ensures
-
-pub returns-clause-failures : goal.returns-clause-failures
-returns-clause-failures g c =
-    (c.in_ok-finish.ensures.puts (g.S.Sink.contents c.args.writer.now, g.S.Sink.failures c.args.writer.now)
-    (diff_text c.args.old.now.tree c.args.new.now.tree) []
-    (c.in_ok-put_diff.ensures (g.S.Sink.contents c.args.writer.now, g.S.Sink.failures c.args.writer.now)
-    (diff_text c.args.old.now.tree c.args.new.now.tree) []
-    (so_far_start _ (diff_text c.args.old.now.tree c.args.new.now.tree) _ _ c.new-output.ensures.gathered c.new-output.ensures.written))).stays
+pub returns-in-Err-clause-err : goal.returns-in-Err-clause-err
+returns-in-Err-clause-err g c =
+    let b = in-both c.args.old.now.tree c.args.new.now.tree c.args.path.now _ _ c.in-Some.ensures.1 c.in-Some-find_key.ensures.1 in
+    (b.path, b.old_key, b.new_key, c.in-Err.ensures.err b.path b.old_key b.new_key)

@@ -10,7 +10,7 @@ returns-in_default g c =
     λ p at key here begin whole left s.
     (let none = resolved-none _ (folded_path c.args.path.now) _ (c.resolve.ensures.found [] c.root.ensures.at) c.in_default.is in
     c.put_whole_key.ensures p at key here begin whole left
-    (swapped begin _ whole _ _ left _ _ s (alone-said c.args.side c.args.path.now key _ none)))
+    (swapped begin _ whole _ _ left _ _ s (alone-said c.args.ignored c.args.side c.args.path.now key _ none)))
 
 pub returns-in-Old : goal.returns-in-Old
 returns-in-Old g c =
@@ -18,4 +18,4 @@ returns-in-Old g c =
     (let r = resolved-some _ (folded_path c.args.path.now) _ _ (c.resolve.ensures.found [] c.root.ensures.at) c.in-Some.is in
     let other = some_of _ r.1 in
     c.put_key_changes.ensures p (folded_path c.args.path.now) at r.0 key other.0 here other.1 begin whole left
-    (swapped begin _ whole _ _ left _ _ s (both-said c.args.side c.args.path.now key other.0 _ c.in-Old.is other.1)))
+    (swapped begin _ whole _ _ left _ _ s (both-said c.args.ignored c.args.side c.args.path.now key other.0 _ c.in-Old.is other.1)))

@@ -8,7 +8,7 @@ returns-in_err-put_field_changes g c =
     λ p q at there was is here found begin whole left s.
     exits _ _ _ _ c.from_residual.ensures.1
     (c.in_err-put_field_changes.ensures p q at there was is here found begin whole _
-    (opened begin _ whole (field_changes c.args.path.now was is) (value_changes c.args.path.now was.values is.values) left _ _ s))
+    (opened begin _ whole (field_changes c.args.ignored c.args.path.now was is) (value_changes c.args.ignored.order c.args.path.now was.values is.values) left _ _ s))
 
 pub returns : goal.returns
 returns g c =
@@ -16,5 +16,5 @@ returns g c =
     c.put_value_changes.ensures p q at there begin whole left
     (swapped begin _ whole _ _ left _ _
     (c.in_ok-put_field_changes.ensures p q at there was is here found begin whole _
-    (opened begin _ whole (field_changes c.args.path.now was is) (value_changes c.args.path.now was.values is.values) left _ _ s))
-    (values-said c.args.path.now c.args.old.now.tree c.args.new.now.tree p q was is here found))
+    (opened begin _ whole (field_changes c.args.ignored c.args.path.now was is) (value_changes c.args.ignored.order c.args.path.now was.values is.values) left _ _ s))
+    (values-said c.args.ignored.order c.args.path.now c.args.old.now.tree c.args.new.now.tree p q was is here found))
