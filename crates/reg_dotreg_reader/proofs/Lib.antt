@@ -9,6 +9,10 @@ pub mod RootNames
 pub mod EntryReadings
 pub mod EntrySteps
 pub mod EntriesOnLiterals
+pub mod StopPlaces
+pub mod StopSteps
+pub mod LinePlaces
+pub mod BadSteps
 mod RowsOfEntryLines
 mod RowsOfEntryBytes
 mod RowsOfEntryReading

@@ -2,4 +2,6 @@ pub mod FileUnits
 pub mod EntryLines
 pub mod EntryWords
 pub mod EntryMeanings
+pub mod LineStops
+pub mod BadLines
 pub mod Internal

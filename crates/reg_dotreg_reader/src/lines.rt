@@ -4,7 +4,7 @@ ghost use Rattle.reg_dotreg_reader.specs.EntryLines.{is_feed, lines_of, without_
 
 use crate::words::before_mark;
 
-fn first_feed(text: &[u16]) -> Option<usize>
+pub fn first_feed(text: &[u16]) -> Option<usize>
     ensures { result ≡ position is_feed text.now }
 {
     text.iter().position(|unit| *unit == 10)

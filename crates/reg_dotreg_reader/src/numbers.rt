@@ -1,7 +1,8 @@
 //! Numbers and bytes in hexadecimal digits.
-ghost use Rattle.std.specs.Prelude.{◌≡◌, ◌<◌, ◌≤◌, ◌^◌, length, position, Some, IfSome, IfOk};
+ghost use Rattle.std.specs.Prelude.{◌≡◌, ◌<◌, ◌≤◌, ◌^◌, length, position, Some, is_some, IfSome, IfOk, IfErr};
 ghost use Rattle.hex.specs.Hex.{hex_digit_value};
 ghost use Rattle.reg_dotreg_reader.specs.EntryWords.{number_of, byte_of, is_comma, list_bytes};
+ghost use Rattle.reg_dotreg_reader.specs.declared.fault.LineFault.TheVariants.{Form};
 ghost use Rattle.reg_dotreg_reader.specs.Internal.ReadSoFar.{Reads};
 
 use crate::fault::LineFault;
@@ -9,7 +10,7 @@ use crate::words::trimmed;
 use std::alloc::Global;
 
 /// The value of a hexadecimal digit of either case.
-fn digit(unit: u16) -> Option<u32>
+pub fn digit(unit: u16) -> Option<u32>
     ensures { result ≡ hex_digit_value unit }
 {
     match unit {
@@ -26,6 +27,7 @@ pub fn number(limit: usize, digits: &[u16]) -> Result<u32, LineFault>
     requires { limit ≤ 8 }
     ensures value { Reads (λ n. n) (number_of limit digits.now) result }
     ensures within { IfOk result (λ n. n < 16 ^ limit) }
+    ensures form { IfErr result (λ fault. fault ≡ Form) }
 {
     if digits.is_empty() || digits.len() > limit {
         return Err(LineFault::Form);
@@ -62,7 +64,14 @@ fn byte(piece: &[u16]) -> Result<u8, LineFault>
     Ok(number(2, trimmed(piece))? as u8)
 }
 
-fn first_comma(list: &[u16]) -> Option<usize>
+/// Whether a piece is a byte.
+pub fn is_byte(piece: &[u16]) -> bool
+    ensures { result ≡ is_some (byte_of piece.now) }
+{
+    number(2, trimmed(piece)).is_ok()
+}
+
+pub fn first_comma(list: &[u16]) -> Option<usize>
     ensures place { result ≡ position is_comma list.now }
     ensures within { IfSome result (λ index. index < length list.now) }
 {

@@ -13,7 +13,7 @@ use reg_names::VALUE_NAME_LIMIT;
 use std::alloc::{AllocError, Global};
 
 /// Whether a unit may stand behind a backslash in quotes.
-fn is_escaped(unit: u16) -> bool
+pub fn is_escaped(unit: u16) -> bool
     ensures { result ≡ is_escaped_of unit }
 {
     unit == 34 || unit == 92
@@ -59,7 +59,7 @@ pub fn quoted(alloc: Global, text: &[u16]) -> Result<(Vec<u16>, &[u16]), LineFau
 }
 
 /// Whether a unit is one that names may have.
-fn is_name_unit(unit: u16) -> bool
+pub fn is_name_unit(unit: u16) -> bool
     ensures { result ≡ is_value_name_byte unit }
 {
     unit >= 1 && unit <= 0x7F
@@ -81,7 +81,7 @@ pub fn narrowed(alloc: Global, units: &[u16]) -> Result<Vec<u8>, LineFault>
 }
 
 /// Whether units stand on one line.
-fn are_on_one_line(units: &[u16]) -> bool
+pub fn are_on_one_line(units: &[u16]) -> bool
     ensures { result ≡ list_all (λ u. not (is_feed u)) units.now }
 {
     units.iter().all(|unit| *unit != 10)

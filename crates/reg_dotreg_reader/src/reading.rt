@@ -37,7 +37,7 @@ fn said_by(
 
 /// What a line says.
 #[tactic(auto, unfolding(crate::specs::EntryMeanings::said))]
-fn said(
+pub fn said(
     alloc: Global,
     root: &[u8],
     is_narrow: bool,
@@ -122,7 +122,7 @@ fn take(
 }
 
 /// Whether a text of that first line is narrow; `None` where the line is no title.
-fn is_narrow_by(line: &[u16]) -> Option<bool>
+pub fn is_narrow_by(line: &[u16]) -> Option<bool>
     ensures { result ≡ is_narrow_by line.now }
 {
     if is_word(b"Windows Registry Editor Version 5.00", line) {

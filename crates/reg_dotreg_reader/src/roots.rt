@@ -36,7 +36,7 @@ pub fn behind_name<'a>(name: &[u8], units: &'a [u16]) -> Option<&'a [u16]>
 
 /// Whether some units are a name and no more, letters of either case.
 #[tactic(auto, using(crate::proofs::RootNames::name_whole, crate::proofs::RootNames::name_not))]
-fn is_name(name: &[u8], units: &[u16]) -> bool
+pub fn is_name(name: &[u8], units: &[u16]) -> bool
     ensures { result ≡ bytes_eq (folded units.now) (folded name.now) }
 {
     match behind_name(name, units) {
@@ -75,7 +75,7 @@ fn first_backslash(text: &[u16]) -> Option<usize>
 
 /// Where a text's first name ends: at its first backslash, or at its end.
 #[tactic(auto, using(crate::proofs::RootNames::ends))]
-fn name_end(text: &[u16]) -> usize
+pub fn name_end(text: &[u16]) -> usize
     ensures end { result ≡ position_or_len is_backslash text.now }
     ensures within { result ≤ length text.now }
 {

@@ -1,8 +1,9 @@
 //! The rows of a value: its lines, without comments, and joined.
 ghost use Rattle.std.specs.Prelude.{◌≡◌, ◌≤◌, ◌+◌, ◌==◌, ◌&&◌, ◌++◌, length, drop, option_copied, option_map, IfOk};
 ghost use Rattle.std.specs.List.{prefix_len};
-ghost use Rattle.reg_dotreg_reader.specs.EntryLines.{lines_of, is_value_line, goes_on, place_behind, is_outside as is_outside_of, cut};
+ghost use Rattle.reg_dotreg_reader.specs.EntryLines.{lines_of, is_value_line, whole_of, goes_on, place_behind, is_outside as is_outside_of, cut};
 ghost use Rattle.reg_dotreg_reader.specs.EntryLines.{kept, is_comment, passed, carried, joined};
+ghost use Rattle.reg_dotreg_reader.specs.BadLines.{ends_quoted};
 ghost use Rattle.reg_dotreg_reader.specs.declared.rows.Place.TheVariants.{Outside};
 
 use crate::lines::{first_line, without_return};
@@ -138,7 +139,7 @@ fn kept(place: Place, row: &[u16]) -> &[u16]
 }
 
 /// What a row that goes on in the next one says itself.
-fn carried(place: Place, row: &[u16]) -> Option<(&[u16], Place)>
+pub fn carried(place: Place, row: &[u16]) -> Option<(&[u16], Place)>
     ensures { option_map (λ p. (p.0.now, p.1)) result ≡ carried place row.now }
 {
     row_at(place, row).carried
@@ -164,7 +165,7 @@ fn behind_comments(text: &[u16]) -> (usize, &[u16])
 }
 
 /// The comments that stand before the next row, where it may have some.
-fn passed(place: Place, text: &[u16]) -> (usize, &[u16])
+pub fn passed(place: Place, text: &[u16]) -> (usize, &[u16])
     ensures count { result.0 ≡ passed place (lines_of text.now) }
     ensures rest { lines_of result.1.now ≡ drop result.0 (lines_of text.now) }
     ensures within { result.0 + length result.1.now ≤ length text.now }
@@ -232,4 +233,34 @@ pub fn joined<'a>(
         taken += comments + 1;
     }
     ended(units, kept(place, row), taken, rest)
+}
+
+/// A line with those that it goes on in, of the text behind it.
+#[tactic(auto, using(crate::proofs::ValueRows::whole_joined, crate::proofs::ValueRows::whole_other))]
+pub fn whole_row<'a>(
+    alloc: Global,
+    line: &'a [u16],
+    behind: &'a [u16],
+) -> Result<WholeValue<'a>, AllocError>
+    ensures units { IfOk result (λ j. j.units.items ≡ (whole_of line.now (lines_of behind.now)).0) }
+    ensures taken { IfOk result (λ j. j.taken ≡ (whole_of line.now (lines_of behind.now)).1) }
+    ensures rest { IfOk result (λ j. lines_of j.rest.now ≡ drop j.taken (lines_of behind.now)) }
+    ensures within { IfOk result (λ j. j.taken + length j.rest.now ≤ length behind.now) }
+{
+    if is_value_line(line) {
+        return joined(alloc, line, behind);
+    }
+    Ok(WholeValue {
+        units: Vec::from_slice(alloc, without_return(line))?,
+        taken: 0,
+        rest: behind,
+    })
+}
+
+/// Whether a line is a value's and ends in quotes.
+pub fn ends_quoted(line: &[u16]) -> bool
+    ensures { result ≡ ends_quoted line.now }
+{
+    let (_kept, end) = cut(Place::Outside, without_return(line));
+    is_value_line(line) && !end.is_outside()
 }

@@ -16,7 +16,7 @@ use std::alloc::Global;
 
 /// The name that a value's line begins with, and what stands behind it.
 #[tactic(auto, using(crate::proofs::EntryReadings::names))]
-fn name_read(alloc: Global, line: &[u16]) -> Result<(Vec<u8>, &[u16]), LineFault>
+pub fn name_read(alloc: Global, line: &[u16]) -> Result<(Vec<u8>, &[u16]), LineFault>
     ensures { Reads (λ r. (r.0.items, r.1.now)) (name_read line.now) result }
 {
     if let Some(rest) = behind_word(b"@", line) {
@@ -51,7 +51,7 @@ fn number_data(alloc: Global, digits: &[u16]) -> Result<(u32, Vec<u8>), LineFaul
     Ok((4, Vec::from_slice(alloc, &number.to_le_bytes())?))
 }
 
-fn first_close(text: &[u16]) -> Option<usize>
+pub fn first_close(text: &[u16]) -> Option<usize>
     ensures { result ≡ position is_close text.now }
 {
     text.iter().position(|unit| *unit == 41)

@@ -1,0 +1,177 @@
+-- Where a line of a .reg text that isn't understood stops, and what was expected there (this project's own). A stop has how much of the
+-- line is left behind its place.
+use Rattle.std.specs.Prelude.{ℕ, suc, ◌+◌, ◌-◌, ◌==◌, ◌||◌, not, nat_lt, Bool, true, false, if◌then◌else◌, List, [], ◌∷◌, codes, length, take}
+use Rattle.std.specs.Prelude.{Option, Some, None, option_map, is_some}
+use Rattle.std.specs.Option.{unwrap_or}
+use Rattle.std.specs.List.{list_all, position_or_len, suffix_len, slice_split, before_first, after_first}
+use Rattle.hex.specs.Hex.{hex_digit_value}
+use Rattle.reg_names.specs.Names.{is_value_name_byte}
+use Rattle.reg_dotreg_reader.specs.declared.expected.Expected.{Expected}
+use Rattle.reg_dotreg_reader.specs.declared.expected.Expected.TheVariants as wanted
+use Rattle.reg_dotreg_reader.specs.EntryWords.{behind_blanks, before_mark, behind_or, number_of, byte_of, is_comma, is_escaped, quoted}
+use Rattle.reg_dotreg_reader.specs.EntryLines.{is_feed}
+use Rattle.reg_dotreg_reader.specs.EntryMeanings.{long_form, behind_name, name_read, is_close}
+
+-- what was expected, and how many units are left there
+abbrev pub Stop : Type 0
+Stop = Expected × ℕ
+
+-- how many units are left from the first one that passes a test on, or none
+abbrev pub left_from : (ℕ → Bool) → List ℕ → ℕ
+left_from p units = length units - position_or_len p units
+
+-- ---- names and texts in quotes
+
+-- whether what stands behind a unit stands behind a backslash, by whether the unit does; `None` where it does and is no quote or backslash
+abbrev pub behind_after : (is_behind_backslash : Bool) → ℕ → Option Bool
+behind_after true unit = if is_escaped unit then Some false else None
+behind_after false unit = Some (unit == 92)
+
+-- from some place in a quoted text on, behind a backslash or not: a backslash stands before another unit than a quote or a backslash, or
+-- else no quote closes it, which was expected with so many units left
+unfoldable pub unclosed : (left : ℕ) (is_behind_backslash : Bool) → List ℕ → Stop
+unclosed left behind [] = (wanted.Quote, left)
+unclosed left behind (u ∷ us) =
+    unwrap_or (option_map (λ after. unclosed left after us) (behind_after behind u)) (wanted.Escaped, suc (length us))
+
+-- a text behind the quote that opens it: the quote that closes it was expected in its first line
+abbrev pub quoted_stop : List ℕ → Stop
+quoted_stop text = unclosed (left_from is_feed text) false text
+
+abbrev pub is_on_one_line : List ℕ → Bool
+is_on_one_line units = list_all (λ u. not (is_feed u)) units
+
+-- a value's text behind the quote that opens it: where one closes it, in the same line, nothing more was expected behind that
+unfoldable pub text_stop : List ℕ → Stop
+text_stop text =
+    unwrap_or (option_map (λ read. if is_on_one_line read.0 then (wanted.End, length read.1) else (wanted.Quote, left_from is_feed text)) (quoted text))
+    (quoted_stop text)
+
+-- a name that is none, by its units
+abbrev pub bad_name : (text units : List ℕ) → Stop
+bad_name text units =
+    if is_on_one_line units then
+    (if list_all is_value_name_byte units then (wanted.ShortName, length text) else (wanted.NameCharacter, left_from (λ u. not (is_value_name_byte u)) text))
+    else (wanted.Quote, left_from is_feed text)
+
+-- a value's name behind the quote that opens it
+unfoldable pub name_stop : List ℕ → Stop
+name_stop text = unwrap_or (option_map (λ read. bad_name text read.0) (quoted text)) (quoted_stop text)
+
+-- ---- numbers and bytes
+
+abbrev pub is_no_digit : ℕ → Bool
+is_no_digit unit = not (is_some (hex_digit_value unit))
+
+-- how many units are left behind the digits at their start, at most eight
+unfoldable pub left_behind_digits : List ℕ → ℕ
+left_behind_digits digits = length digits - position_or_len is_no_digit (take 8 digits)
+
+-- how long some pieces are, with the commas before them
+unfoldable pub pieces_length : List (List ℕ) → ℕ
+pieces_length [] = 0
+pieces_length (piece ∷ pieces) = suc (length piece) + pieces_length pieces
+
+-- the first piece that is no byte; where each is one, as the last may be blanks alone, another stop
+unfoldable pub pieces_stop : Stop → List (List ℕ) → Stop
+pieces_stop other [] = other
+pieces_stop other (piece ∷ []) =
+    if length (behind_blanks piece) == 0 || is_some (byte_of piece) then other else (wanted.Byte, length (behind_blanks piece))
+pieces_stop other (piece ∷ next ∷ pieces) =
+    if is_some (byte_of piece) then pieces_stop other (next ∷ pieces)
+    else (wanted.Byte, length (behind_blanks piece) + pieces_length (next ∷ pieces))
+
+-- a list of bytes: one of them is none, or else they are no characters of one byte each
+unfoldable pub list_stop : List ℕ → Stop
+list_stop list = pieces_stop (wanted.PlainBytes, length list) (slice_split is_comma list)
+
+-- a type and bytes, behind `hex(`
+unfoldable pub kind_stop : List ℕ → Stop
+kind_stop text =
+    if is_some (number_of 8 (before_first is_close text)) then
+    behind_or (codes ":") list_stop (wanted.Colon, length (after_first is_close text)) (after_first is_close text)
+    else (wanted.Kind, left_behind_digits text)
+
+-- what stands behind `hex`
+unfoldable pub bytes_stop : List ℕ → Stop
+bytes_stop rest = behind_or (codes ":") list_stop (behind_or (codes "(") kind_stop (wanted.Bytes, length rest) rest) rest
+
+-- ---- values
+
+-- what stands behind a value's `=`, and blanks
+unfoldable pub data_stop : List ℕ → Stop
+data_stop text =
+    behind_or (codes "\"") text_stop
+    (behind_or (codes "dword:") (λ digits. (wanted.Number, left_behind_digits digits))
+    (behind_or (codes "hex") bytes_stop (wanted.Value, length text) text) text) text
+
+-- what stands behind a value's name, and blanks
+unfoldable pub behind_name_stop : List ℕ → Stop
+behind_name_stop rest = behind_or (codes "=") (λ text. data_stop (behind_blanks text)) (wanted.Equals, length rest) rest
+
+-- a value's line that begins with no name
+abbrev pub unnamed_stop : List ℕ → Stop
+unnamed_stop line = behind_or (codes "\"") name_stop (wanted.Line, length line) line
+
+-- a value's line
+unfoldable pub value_stop : List ℕ → Stop
+value_stop line = unwrap_or (option_map (λ read. behind_name_stop (behind_blanks read.1)) (name_read line)) (unnamed_stop line)
+
+-- ---- keys
+
+-- names of a path
+abbrev pub path_stop : List ℕ → Stop
+path_stop path =
+    if list_all is_value_name_byte path then (wanted.Path, length path) else (wanted.KeyCharacter, left_from (λ u. not (is_value_name_byte u)) path)
+
+-- what stands behind the root's name, of a key of so many units: another name than the root's, or else names of a path
+abbrev pub way_stop : (whole : ℕ) → List ℕ → Stop
+way_stop whole [] = (wanted.Root, whole)
+way_stop whole (u ∷ path) = if u == 92 then path_stop path else (wanted.Root, whole)
+
+-- a key of so many units, in its long form
+abbrev pub long_stop : (whole : ℕ) (root long : List ℕ) → Stop
+long_stop whole root long = unwrap_or (option_map (way_stop whole) (behind_name root long)) (wanted.Root, whole)
+
+-- a key without its brackets
+unfoldable pub below_stop : (root units : List ℕ) → Stop
+below_stop root units = long_stop (length units) root (long_form units)
+
+-- what stands between brackets; behind a `-` a key that goes
+abbrev pub between_stop : (root units : List ℕ) → Stop
+between_stop root units = behind_or (codes "-") (below_stop root) (below_stop root units) units
+
+-- a key that no bracket closes at its line's end: something stands behind the last one, or there is none
+abbrev pub open_stop : (behind whole : ℕ) → Stop
+open_stop behind whole = if behind == whole then (wanted.Bracket, 0) else (wanted.End, behind)
+
+abbrev pub is_no_bracket : ℕ → Bool
+is_no_bracket unit = not (unit == 93)
+
+-- a stop in a line of so many units, by that in the units before the bracket at its end
+abbrev pub before_bracket : (whole : ℕ) → Stop → Stop
+before_bracket whole stop = if nat_lt stop.1 whole then (stop.0, suc stop.1) else (stop.0, whole)
+
+-- a key's line behind the bracket that opens it
+unfoldable pub key_stop : (root line : List ℕ) → Stop
+key_stop root line =
+    unwrap_or (option_map (λ units. before_bracket (length line) (between_stop root units)) (before_mark 93 line))
+    (open_stop (suffix_len is_no_bracket line) (length line))
+
+-- ---- lines
+
+-- a line, without blanks at both ends
+unfoldable pub line_stop : (root line : List ℕ) → Stop
+line_stop root [] = (wanted.Line, 0)
+line_stop root (u ∷ us) =
+    if u == 91 then key_stop root us
+    else if u == 34 || u == 64 then value_stop (u ∷ us)
+    else (wanted.Line, suc (length us))
+
+abbrev pub is_root : Expected → Bool
+is_root wanted.Root = true
+is_root other = false
+
+-- what stands where the root's name was expected, up to the bracket that closes the key
+abbrev pub found_at : Expected → List ℕ → List ℕ
+found_at expected rest = if is_root expected then unwrap_or (before_mark 93 rest) rest else []

@@ -1,0 +1,113 @@
+//! Where numbers and bytes that aren't understood stop.
+ghost use Rattle.std.specs.Prelude.{◌≡◌, ◌≤◌, length};
+ghost use Rattle.std.specs.List.{position, position_or_len, before_first, after_first};
+ghost use Rattle.reg_dotreg_reader.specs.EntryMeanings.{is_close};
+ghost use Rattle.reg_dotreg_reader.specs.EntryWords.{behind_blanks as behind_blanks_of};
+ghost use Rattle.reg_dotreg_reader.specs.LineStops.{is_no_digit, left_behind_digits, list_stop, kind_stop, bytes_stop};
+
+use crate::expected::Expected;
+use crate::numbers::{digit, first_comma, is_byte, number};
+use crate::values::first_close;
+use crate::words::{behind_blanks, behind_word};
+
+fn first_other(units: &[u16]) -> Option<usize>
+    ensures { result ≡ position is_no_digit units.now }
+{
+    units.iter().position(|unit| digit(*unit).is_none())
+}
+
+/// How many digits stand at the start of some units.
+#[tactic(auto, using(crate::proofs::StopPlaces::digit_places))]
+fn digits_at_start(units: &[u16]) -> usize
+    ensures count { result ≡ position_or_len is_no_digit units.now }
+    ensures within { result ≤ length units.now }
+{
+    match first_other(units) {
+        Some(end) => end,
+        None => units.len(),
+    }
+}
+
+/// How many units are left behind the digits at their start, at most eight.
+#[tactic(auto, using(crate::proofs::StopPlaces::few_digits), unfolding(crate::specs::LineStops::left_behind_digits))]
+pub fn left_behind_digits(digits: &[u16]) -> usize
+    ensures { result ≡ left_behind_digits digits.now }
+{
+    if digits.len() < 8 {
+        return digits.len() - digits_at_start(digits);
+    }
+    digits.len() - digits_at_start(&digits[..8])
+}
+
+/// How many units are left without the blanks at their start.
+#[tactic(auto, using(crate::proofs::StopPlaces::blanks_within))]
+fn left_behind_blanks(units: &[u16]) -> usize
+    ensures count { result ≡ length (behind_blanks_of units.now) }
+    ensures within { result ≤ length units.now }
+{
+    behind_blanks(units).len()
+}
+
+/// Where a list of bytes stops.
+#[tactic(auto, using(crate::proofs::StopPlaces::list_stops))]
+pub fn list_stop(list: &[u16]) -> (Expected, usize)
+    ensures { result ≡ list_stop list.now }
+{
+    let mut rest = list;
+    while let Some(comma) = first_comma(rest) {
+        let piece = &rest[..comma];
+        if !is_byte(piece) {
+            let left = left_behind_blanks(piece) + (rest.len() - comma);
+            return (Expected::Byte, left);
+        }
+        rest = &rest[comma + 1..];
+    }
+    let last = left_behind_blanks(rest);
+    if last == 0 {
+        return (Expected::PlainBytes, list.len());
+    }
+    if is_byte(rest) {
+        return (Expected::PlainBytes, list.len());
+    }
+    (Expected::Byte, last)
+}
+
+/// What stands before the first `)`, or all, and what behind it, or nothing.
+fn around_close(text: &[u16]) -> (&[u16], &[u16])
+    ensures before { result.0.now ≡ before_first is_close text.now }
+    ensures behind { result.1.now ≡ after_first is_close text.now }
+{
+    match first_close(text) {
+        Some(close) => (&text[..close], &text[close + 1..]),
+        None => (text, &text[text.len()..]),
+    }
+}
+
+/// Where a type and bytes stop, behind `hex(`.
+#[tactic(auto, using(crate::proofs::StopSteps::kind_stops))]
+fn kind_stop(text: &[u16]) -> (Expected, usize)
+    ensures { result ≡ kind_stop text.now }
+{
+    let (digits, behind) = around_close(text);
+    let Ok(_kind) = number(8, digits) else {
+        return (Expected::Kind, left_behind_digits(text));
+    };
+    match behind_word(b":", behind) {
+        Some(list) => list_stop(list),
+        None => (Expected::Colon, behind.len()),
+    }
+}
+
+/// Where bytes stop, behind `hex`.
+#[tactic(auto, using(crate::proofs::StopSteps::bytes_stops))]
+pub fn bytes_stop(rest: &[u16]) -> (Expected, usize)
+    ensures { result ≡ bytes_stop rest.now }
+{
+    if let Some(list) = behind_word(b":", rest) {
+        return list_stop(list);
+    }
+    match behind_word(b"(", rest) {
+        Some(text) => kind_stop(text),
+        None => (Expected::Bytes, rest.len()),
+    }
+}
