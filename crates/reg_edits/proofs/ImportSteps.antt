@@ -1,14 +1,11 @@
 -- What an import did, put together of what its steps did.
-use Rattle.std.proofs.Common.{◌≡◌, ◌∙◌, List, ℕ, sym, subst}
-use Rattle.std.specs.Prelude.{Option, Some, Result, Ok, Err, IfErr}
+use Rattle.std.proofs.Common.{◌≡◌, ◌∙◌, Bool, List, ℕ, sym, subst}
+use Rattle.std.specs.Prelude.{Option}
 use Rattle.std.specs.Io.KnownBytes.{Consumes, IsAtEnd}
 use Rattle.reg_text.specs.Failures.{Stays}
 use Rattle.reg_text.proofs.FailureCounts.{stays-at}
 use Rattle.reg_tree_image.specs.declared.LoadFault.{LoadFault}
 use Rattle.reg_tree_image.specs.Loads.{IsBlamed}
-use Rattle.reg_dotreg_reader.specs.FileUnits.{units_of}
-use Rattle.reg_dotreg_reader.specs.EntryMeanings.{entries_in, IsRefused}
-use Rattle.reg_dotreg_reader.specs.declared.fault.ReadFault.{ReadFault}
 use Rattle.reg_dotreg_reader.specs.declared.entry.Numbered.{Numbered}
 use Rattle.reg_model.specs.Callbacks.{Callbacks, no_callbacks}
 use Rattle.reg_calls.specs.Views.{View, IsHive}
@@ -18,17 +15,11 @@ use Rattle.reg_dotreg_import.specs.ImportCalls.{Accepts, import_calls}
 use Rattle.reg_dotreg_import.specs.ImportStops.{ImportStops}
 use Rattle.reg_dotreg_import.specs.declared.fault.ImportFault.{ImportFault}
 use Rattle.reg_edits.specs.Edits.{Opens, are_changed, next_sequence}
-use Rattle.reg_edits.specs.TextImports.{IsText, IsNoText, NoEntries, front_of, Applies, ApplyStops, ReadStops, TextBlames, Imports, ImportEnds, ImportBlames}
+use Rattle.reg_edits.specs.TextImports.{IsText, front_of, Applies, ApplyStops, ReadStops, TextBlames, Imports, ImportEnds, ImportBlames}
 use Rattle.reg_edits.specs.declared.edits.Edited.{Edited}
 use Rattle.reg_edits.specs.declared.importing.ImportEnd.{ImportEnd}
-use Rattle.reg_edits.specs.declared.importing.ImportEnd.TheVariants.{Load, Input, Text, Entry, Memory}
+use Rattle.reg_edits.specs.declared.importing.ImportEnd.TheVariants.{Load, Input, Text, Lines, Entry, Memory}
 use Rattle.reg_edits.proofs.KeptByCalls.{calls_kept}
-
--- the units of a text were read, and no entries
-pub no_entries : {T : Type 0} (r : Result T ReadFault) (root text units : List ℕ) → units_of text ≡ Some units →
-    IfErr r (λ fault. IsRefused (entries_in root units) fault) → IfErr r (λ fault. IsNoText root text fault)
-no_entries (Ok v) root text units e h = h
-no_entries (Err fault) root text units e h = NoEntries units e h
 
 -- the entries of a text were made
 pub applies : (front : Option (List ℕ)) (moment : ℕ) (text : List ℕ) (old last : View) (entries : List Numbered) → IsText (front_of front old) text entries →
@@ -37,10 +28,10 @@ pub applies : (front : Option (List ℕ)) (moment : ℕ) (text : List ℕ) (old 
 applies front moment text old last entries is_text tree calls = record { entries = entries; is_text = is_text; tree = tree; calls = calls }
 
 -- an entry stopped it, where no callback is asked
-pub entry_stops : (front : Option (List ℕ)) (moment : ℕ) (text : List ℕ) (old last : View) (entries : List Numbered) (fault : ImportFault) →
+pub entry_stops : (front : Option (List ℕ)) (tells_all : Bool) (moment : ℕ) (text : List ℕ) (old last : View) (entries : List Numbered) (fault : ImportFault) →
     IsText (front_of front old) text entries → {asked : Callbacks} → asked ≡ no_callbacks → IsHive last →
-    ImportStops asked moment fault old entries last → ApplyStops (Entry fault) front moment text old
-entry_stops front moment text old last entries fault is_text none hive stops =
+    ImportStops asked moment fault old entries last → ApplyStops (Entry fault) front tells_all moment text old
+entry_stops front tells_all moment text old last entries fault is_text none hive stops =
     (entries, last, is_text, hive, subst (λ (asked : Callbacks). ImportStops asked moment fault old entries last) none stops)
 
 -- what was read, as it is handed on
@@ -48,23 +39,25 @@ pub read_as : (unread left : Option (List ℕ)) (bytes text : List ℕ) → text
 read_as unread left bytes text same h = subst (λ (w : List ℕ). Consumes unread left w) (sym same) h
 
 -- the text wasn't read to its end
-pub unread_ends : (fault : ImportEnd) (front : Option (List ℕ)) (moment : ℕ) (file file_left unread left : Option (List ℕ)) (old : View) (sequence : ℕ) →
-    Opens file file_left old sequence → ReadStops fault unread left → ImportEnds fault front moment file file_left unread left
-unread_ends (Load fault) front moment file file_left unread left old sequence o h = absurd h
-unread_ends (Input error) front moment file file_left unread left old sequence o h = (old, sequence, h.0, o, h.1)
-unread_ends (Text fault) front moment file file_left unread left old sequence o h = absurd h
-unread_ends (Entry fault) front moment file file_left unread left old sequence o h = absurd h
-unread_ends Memory front moment file file_left unread left old sequence o h = (old, sequence, h.0, o, h.1)
+pub unread_ends : (fault : ImportEnd) (front : Option (List ℕ)) (tells_all : Bool) (moment : ℕ) (file file_left unread left : Option (List ℕ)) (old : View) (sequence : ℕ) →
+    Opens file file_left old sequence → ReadStops fault unread left → ImportEnds fault front tells_all moment file file_left unread left
+unread_ends (Load fault) front tells_all moment file file_left unread left old sequence o h = absurd h
+unread_ends (Input error) front tells_all moment file file_left unread left old sequence o h = (old, sequence, h.0, o, h.1)
+unread_ends (Text fault) front tells_all moment file file_left unread left old sequence o h = absurd h
+unread_ends (Lines bad) front tells_all moment file file_left unread left old sequence o h = absurd h
+unread_ends (Entry fault) front tells_all moment file file_left unread left old sequence o h = absurd h
+unread_ends Memory front tells_all moment file file_left unread left old sequence o h = (old, sequence, h.0, o, h.1)
 
 -- its entries weren't made
-pub apply_ends : (fault : ImportEnd) (front : Option (List ℕ)) (moment : ℕ) (file file_left unread left : Option (List ℕ)) (text : List ℕ) (old : View) (sequence : ℕ) →
-    Opens file file_left old sequence → IsAtEnd left → Consumes unread left text → ApplyStops fault front moment text old →
-    ImportEnds fault front moment file file_left unread left
-apply_ends (Load fault) front moment file file_left unread left text old sequence o at_end consumed h = absurd h
-apply_ends (Input error) front moment file file_left unread left text old sequence o at_end consumed h = absurd h
-apply_ends (Text fault) front moment file file_left unread left text old sequence o at_end consumed h = (old, sequence, text, o, at_end, consumed, h)
-apply_ends (Entry fault) front moment file file_left unread left text old sequence o at_end consumed h = (old, sequence, text, o, at_end, consumed, h)
-apply_ends Memory front moment file file_left unread left text old sequence o at_end consumed h = absurd h
+pub apply_ends : (fault : ImportEnd) (front : Option (List ℕ)) (tells_all : Bool) (moment : ℕ) (file file_left unread left : Option (List ℕ)) (text : List ℕ) (old : View) (sequence : ℕ) →
+    Opens file file_left old sequence → IsAtEnd left → Consumes unread left text → ApplyStops fault front tells_all moment text old →
+    ImportEnds fault front tells_all moment file file_left unread left
+apply_ends (Load fault) front tells_all moment file file_left unread left text old sequence o at_end consumed h = absurd h
+apply_ends (Input error) front tells_all moment file file_left unread left text old sequence o at_end consumed h = absurd h
+apply_ends (Text fault) front tells_all moment file file_left unread left text old sequence o at_end consumed h = (old, sequence, text, o, at_end, consumed, h)
+apply_ends (Lines bad) front tells_all moment file file_left unread left text old sequence o at_end consumed h = (old, sequence, text, o, at_end, consumed, h)
+apply_ends (Entry fault) front tells_all moment file file_left unread left text old sequence o at_end consumed h = (old, sequence, text, o, at_end, consumed, h)
+apply_ends Memory front tells_all moment file file_left unread left text old sequence o at_end consumed h = absurd h
 
 -- ---- which reads failed
 
@@ -78,17 +71,19 @@ pub unread_blames : (fault : ImportEnd) (file file_after text text_after : Optio
 unread_blames (Load fault) file file_after text text_after unread left h stays blames = absurd h
 unread_blames (Input error) file file_after text text_after unread left h stays blames = (stays, blames)
 unread_blames (Text fault) file file_after text text_after unread left h stays blames = absurd h
+unread_blames (Lines bad) file file_after text text_after unread left h stays blames = absurd h
 unread_blames (Entry fault) file file_after text text_after unread left h stays blames = absurd h
 unread_blames Memory file file_after text text_after unread left h stays blames = (stays, blames)
 
 -- none where its entries weren't made
-pub apply_blames : (fault : ImportEnd) (front : Option (List ℕ)) (moment : ℕ) (bytes : List ℕ) (old : View) (file file_after text text_after : Option ℕ) →
-    ApplyStops fault front moment bytes old → Stays file file_after → Stays text text_after → ImportBlames fault file file_after text text_after
-apply_blames (Load fault) front moment bytes old file file_after text text_after h stays still = absurd h
-apply_blames (Input error) front moment bytes old file file_after text text_after h stays still = absurd h
-apply_blames (Text fault) front moment bytes old file file_after text text_after h stays still = (stays, still)
-apply_blames (Entry fault) front moment bytes old file file_after text text_after h stays still = (stays, still)
-apply_blames Memory front moment bytes old file file_after text text_after h stays still = absurd h
+pub apply_blames : (fault : ImportEnd) (front : Option (List ℕ)) (tells_all : Bool) (moment : ℕ) (bytes : List ℕ) (old : View) (file file_after text text_after : Option ℕ) →
+    ApplyStops fault front tells_all moment bytes old → Stays file file_after → Stays text text_after → ImportBlames fault file file_after text text_after
+apply_blames (Load fault) front tells_all moment bytes old file file_after text text_after h stays still = absurd h
+apply_blames (Input error) front tells_all moment bytes old file file_after text text_after h stays still = absurd h
+apply_blames (Text fault) front tells_all moment bytes old file file_after text text_after h stays still = (stays, still)
+apply_blames (Lines bad) front tells_all moment bytes old file file_after text text_after h stays still = (stays, still)
+apply_blames (Entry fault) front tells_all moment bytes old file file_after text text_after h stays still = (stays, still)
+apply_blames Memory front tells_all moment bytes old file file_after text text_after h stays still = absurd h
 
 -- the whole
 pub imports : (front : Option (List ℕ)) (moment : ℕ) (edited : Edited) (file file_left unread left : Option (List ℕ)) (text : List ℕ) (old : View) (sequence : ℕ) →

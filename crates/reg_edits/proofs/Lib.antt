@@ -5,6 +5,7 @@ pub mod KeptByCalls
 pub mod LoadSteps
 pub mod EditSteps
 pub mod ImportSteps
+pub mod TextFaults
 pub mod ParentPaths
 pub mod ChangeSteps
 pub mod InputReads

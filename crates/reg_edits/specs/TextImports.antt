@@ -1,14 +1,14 @@
 -- What an import of a .reg text makes of a file's hive (this project's own).
-use Rattle.std.specs.Prelude.{◌≡◌, ℕ, List, [], Option, Some, None, Ok}
+use Rattle.std.specs.Prelude.{◌≡◌, ℕ, Bool, List, [], Option, Some, None, Ok, Err}
 use Rattle.std.specs.Io.KnownBytes.{IsAtEnd, Consumes}
 use Rattle.std.specs.FinMap.{get}
 use Rattle.reg_model.specs.Callbacks.{no_callbacks}
 use Rattle.reg_tree_text.specs.DumpTexts.{name_of}
 use Rattle.reg_calls.specs.Views.{View, IsHive}
 use Rattle.reg_dotreg_reader.specs.FileUnits.{units_of, IsUnread}
-use Rattle.reg_dotreg_reader.specs.EntryMeanings.{entries_in, IsRefused}
+use Rattle.reg_dotreg_reader.specs.EntryMeanings.{entries_in}
+use Rattle.reg_dotreg_reader.specs.BadLines.{bad_lines_in, told, Tells}
 use Rattle.reg_dotreg_reader.specs.declared.entry.Numbered.{Numbered}
-use Rattle.reg_dotreg_reader.specs.declared.fault.ReadFault.{ReadFault}
 use Rattle.reg_dotreg_import.specs.Imports.{imported, entries_of}
 use Rattle.reg_dotreg_import.specs.ImportCalls.{Accepts, import_calls}
 use Rattle.reg_dotreg_import.specs.ImportStops.{ImportStops}
@@ -17,8 +17,9 @@ use Rattle.reg_text.specs.Failures.{Stays, Fails}
 use Rattle.reg_tree_image.specs.Loads.{MeetsFault, IsBlamed}
 use Rattle.reg_edits.specs.Edits.{next_sequence, Opens, IsChanged}
 use Rattle.reg_edits.specs.declared.edits.Edited.{Edited}
+use Rattle.reg_edits.specs.declared.bad_text.BadText.{BadText}
 use Rattle.reg_edits.specs.declared.importing.ImportEnd.{ImportEnd}
-use Rattle.reg_edits.specs.declared.importing.ImportEnd.TheVariants.{Load, Input, Text, Entry, Memory}
+use Rattle.reg_edits.specs.declared.importing.ImportEnd.TheVariants.{Load, Input, Text, Lines, Entry, Memory}
 
 -- the entries that the bytes of a text ask for, below a root of that name
 pub record IsText (root text : List ℕ) (entries : List Numbered) : Type 0 where
@@ -26,10 +27,21 @@ pub record IsText (root text : List ℕ) (entries : List Numbered) : Type 0 wher
   pub units_are : units_of text ≡ Some units
   pub read : entries_in root units ≡ Ok entries
 
--- why a text wasn't read: its bytes are in no encoding that is read; or its first line that isn't understood; or memory was refused
-pub data IsNoText (root text : List ℕ) (fault : ReadFault) : Type 0 where
-  NoUnits : IsUnread (units_of text) fault → IsNoText root text fault
-  NoEntries : (units : List ℕ) → units_of text ≡ Some units → IsRefused (entries_in root units) fault → IsNoText root text fault
+-- lines of a text weren't understood, of keys below a root of that name: all that aren't, or the first alone
+pub record IsBadText (root : List ℕ) (tells_all : Bool) (text : List ℕ) (bad : BadText) : Type 0 where
+  pub units : List ℕ
+  pub units_are : units_of text ≡ Some units
+  pub number : ℕ
+  pub not_read : entries_in root units ≡ Err number
+  pub lines_are : bad.lines.items ≡ told tells_all (bad_lines_in root units)
+  pub first_is : Tells (Err number) bad.lines.items
+  pub root_is : bad.root.items ≡ root
+
+-- why a text wasn't read: its bytes are in no encoding that is read; or lines of it aren't understood; or memory was refused
+abbrev pub TextStops : ImportEnd → (root : List ℕ) → (tells_all : Bool) → (text : List ℕ) → Type 0
+TextStops (Text fault) root tells_all text = IsUnread (units_of text) fault
+TextStops (Lines bad) root tells_all text = IsBadText root tells_all text bad
+TextStops fault root tells_all text = ⊥
 
 -- the name of a hive's root
 abbrev pub root_name : View → List ℕ
@@ -48,12 +60,11 @@ pub record Applies (front : Option (List ℕ)) (moment : ℕ) (text : List ℕ) 
   pub calls : Accepts moment old (import_calls moment old (entries_of entries)) last
 
 -- why they weren't: the text wasn't read; or an entry stopped it, in the hive to which the calls before led
-abbrev pub ApplyStops : ImportEnd → Option (List ℕ) → ℕ → List ℕ → View → Type 0
-ApplyStops (Text fault) front moment text old = IsNoText (front_of front old) text fault
-ApplyStops (Entry fault) front moment text old =
+abbrev pub ApplyStops : ImportEnd → (front : Option (List ℕ)) → (tells_all : Bool) → (moment : ℕ) → (text : List ℕ) → View → Type 0
+ApplyStops (Entry fault) front tells_all moment text old =
     (entries : List Numbered) × (last : View) × IsText (front_of front old) text entries × IsHive last
     × ImportStops no_callbacks moment fault old entries last
-ApplyStops fault front moment text old = ⊥
+ApplyStops fault front tells_all moment text old = TextStops fault (front_of front old) tells_all text
 
 -- what an import left of the hive of a file: an input was read to its end, and the entries of its text were made, all at one moment
 pub record Imports (front : Option (List ℕ)) (moment : ℕ) (edited : Edited) (file file_left unread left : Option (List ℕ)) : Type 0 where
@@ -82,15 +93,15 @@ TextBlames fault before after = Stays before after
 
 -- what ended an import before there was anything to save: the image doesn't load, and then nothing was read of the text; a read of the text
 -- failed, or memory lacked for it, and then it was read so far; or the text wasn't understood, or an entry stopped it
-abbrev pub ImportEnds : ImportEnd → (front : Option (List ℕ)) → (moment : ℕ) → (file file_left unread left : Option (List ℕ)) → Type 0
-ImportEnds (Load fault) front moment file file_left unread left = MeetsFault fault file file_left × (left ≡ unread)
-ImportEnds (Input error) front moment file file_left unread left =
+abbrev pub ImportEnds : ImportEnd → (front : Option (List ℕ)) → (tells_all : Bool) → (moment : ℕ) → (file file_left unread left : Option (List ℕ)) → Type 0
+ImportEnds (Load fault) front tells_all moment file file_left unread left = MeetsFault fault file file_left × (left ≡ unread)
+ImportEnds (Input error) front tells_all moment file file_left unread left =
     (old : View) × (sequence : ℕ) × (read : List ℕ) × Opens file file_left old sequence × Consumes unread left read
-ImportEnds Memory front moment file file_left unread left =
+ImportEnds Memory front tells_all moment file file_left unread left =
     (old : View) × (sequence : ℕ) × (read : List ℕ) × Opens file file_left old sequence × Consumes unread left read
-ImportEnds fault front moment file file_left unread left =
+ImportEnds fault front tells_all moment file file_left unread left =
     (old : View) × (sequence : ℕ) × (text : List ℕ) × Opens file file_left old sequence × IsAtEnd left × Consumes unread left text
-    × ApplyStops fault front moment text old
+    × ApplyStops fault front tells_all moment text old
 
 -- a read of the file failed where the load tells just this, one of the text where the fault is that of its reader, and none else
 abbrev pub ImportBlames : ImportEnd → (file file_after text text_after : Option ℕ) → Type 0

@@ -1,12 +1,15 @@
 //! What an import makes of a file's hive: a hive loaded, the entries of a .reg text made in it, and what its image is to be saved with.
 
-ghost use Rattle.std.specs.Prelude.{◌≡◌, ◌<◌, [], length, option_copied, IfOk, IfErr, OnOk, MatchResult};
+ghost use Rattle.std.specs.Prelude.{◌≡◌, ℕ, ◌<◌, List, [], length, Some, Err, option_copied, IfOk, IfErr, OnOk, MatchResult};
 ghost use Rattle.std.specs.Io.KnownBytes.{Consumes, IsAtEnd};
 ghost use Rattle.reg_text.specs.Failures.{Stays};
 ghost use Rattle.reg_callbacks.specs.Lists.{rows_of};
 ghost use Rattle.reg_calls.specs.HiveView.{view_of, callbacks_of};
-ghost use Rattle.reg_edits.specs.TextImports.{IsText, IsNoText, front_of, Applies, ApplyStops, Imports, ImportEnds, ReadStops, TextBlames, ImportBlames};
+ghost use Rattle.reg_dotreg_reader.specs.FileUnits.{units_of};
+ghost use Rattle.reg_dotreg_reader.specs.EntryMeanings.{entries_in};
+ghost use Rattle.reg_edits.specs.TextImports.{IsText, TextStops, front_of, Applies, ApplyStops, Imports, ImportEnds, ReadStops, TextBlames, ImportBlames};
 
+use crate::bad_text::{BadText, bad_text};
 use crate::edits::{Edited, is_changed, next_sequence};
 use crate::loading::{LoadedHive, load_seated};
 use reg_callbacks::Callback;
@@ -15,7 +18,7 @@ use reg_dotreg_import::ImportFault;
 use reg_dotreg_reader::{Numbered, ReadFault, read_entries, units_in};
 use reg_image::LoadFault;
 use reg_text::Source;
-use std::alloc::Global;
+use std::alloc::{AllocError, Global};
 use std::io;
 
 /// How many bytes of a text are asked for at once.
@@ -28,8 +31,10 @@ pub enum ImportEnd {
     Load(LoadFault),
     /// A read of the text failed.
     Input(io::Error),
-    /// A line of the text isn't understood, or the text is in no encoding that is read, or memory was refused for it.
+    /// The text is in no encoding that is read, or memory was refused for it.
     Text(ReadFault),
+    /// Lines of the text aren't understood.
+    Lines(BadText),
     /// An entry was refused, or memory was refused for it.
     Entry(ImportFault),
     /// There is no memory for the text.
@@ -56,13 +61,37 @@ impl From<ReadFault> for ImportEnd {
     }
 }
 
+/// What is told of a text that isn't understood.
+#[tactic(auto, using(crate::proofs::TextFaults::bad_read))]
+fn no_entries(alloc: Global, root: &[u8], units: &[u16], tells_all: bool) -> ImportEnd
+    ensures { (number : ℕ) → entries_in root.now units.now ≡ Err number → (text : List ℕ) → units_of text ≡ Some units.now →
+        TextStops result root.now tells_all text }
+{
+    match bad_text(alloc, root, units, tells_all) {
+        Ok(bad) => ImportEnd::Lines(bad),
+        Err(AllocError) => ImportEnd::Text(ReadFault::Memory),
+    }
+}
+
 /// The entries of the bytes of a .reg text, of keys below a root of that name.
-fn read_text(alloc: Global, root: &[u8], text: &[u8]) -> Result<Vec<Numbered>, ReadFault>
+#[tactic(auto, using(crate::proofs::TextFaults::line_stops))]
+fn read_text(
+    alloc: Global,
+    root: &[u8],
+    tells_all: bool,
+    text: &[u8],
+) -> Result<Vec<Numbered>, ImportEnd>
     ensures ok { IfOk result (λ entries. IsText root.now text.now entries.items) }
-    ensures err { IfErr result (λ fault. IsNoText root.now text.now fault) }
+    ensures err { IfErr result (λ fault. TextStops fault root.now tells_all text.now) }
 {
     let units = units_in(alloc, text)?;
-    read_entries(alloc, root, units.as_slice())
+    match read_entries(alloc, root, units.as_slice()) {
+        Ok(entries) => Ok(entries),
+        Err(ReadFault::Line(_)) => Err(no_entries(alloc, root, units.as_slice(), tells_all)),
+        Err(ReadFault::Encoding) | Err(ReadFault::Memory) => {
+            Err(ImportEnd::Text(ReadFault::Memory))
+        }
+    }
 }
 
 /// The entries of the bytes of a .reg text, of keys of a hive, for whose root a front stands, or its name.
@@ -70,15 +99,16 @@ fn read_text_for<C: Callback>(
     alloc: Global,
     hive: &Hive<C>,
     front: Option<&[u8]>,
+    tells_all: bool,
     text: &[u8],
-) -> Result<Vec<Numbered>, ReadFault>
+) -> Result<Vec<Numbered>, ImportEnd>
     ensures ok { IfOk result (λ entries. IsText (front_of (option_copied front.entry) (view_of hive.now)) text.now entries.items) }
-    ensures err { IfErr result (λ fault. IsNoText (front_of (option_copied front.entry) (view_of hive.now)) text.now fault) }
+    ensures err { IfErr result (λ fault. TextStops fault (front_of (option_copied front.entry) (view_of hive.now)) tells_all text.now) }
 {
     let tree = hive.tree();
     match front {
-        Some(front) => read_text(alloc, front, text),
-        None => read_text(alloc, tree.name(tree.root()), text),
+        Some(front) => read_text(alloc, front, tells_all, text),
+        None => read_text(alloc, tree.name(tree.root()), tells_all, text),
     }
 }
 
@@ -86,15 +116,16 @@ fn read_text_for<C: Callback>(
 fn apply_text<C: Callback>(
     alloc: Global,
     front: Option<&[u8]>,
+    tells_all: bool,
     moment: u64,
     hive: &mut SeatedHive<C>,
     text: &[u8],
 ) -> Result<(), ImportEnd>
     requires { rows_of (callbacks_of hive.old.hive) ≡ [] }
     ensures ok { OnOk result (Applies (option_copied front.entry) moment text.now (view_of hive.old.hive) (view_of hive.new.hive)) }
-    ensures err { IfErr result (λ fault. ApplyStops fault (option_copied front.entry) moment text.now (view_of hive.old.hive)) }
+    ensures err { IfErr result (λ fault. ApplyStops fault (option_copied front.entry) tells_all moment text.now (view_of hive.old.hive)) }
 {
-    let entries = read_text_for(alloc, &hive.hive, front, text)?;
+    let entries = read_text_for(alloc, &hive.hive, front, tells_all, text)?;
     match reg_dotreg_import::import(alloc, hive, moment, entries) {
         Ok(()) => Ok(()),
         Err(fault) => {
@@ -145,19 +176,21 @@ fn read_whole<R: Source>(alloc: Global, input: &mut R) -> Result<Vec<u8>, Import
 
 /// Loads a hive from the image at the front of a file, makes in it the entries of the .reg text on an input, all at one moment, and
 /// answers the hive that they left, with that moment and the next sequence number. In the text a front stands for the hive's root, where
-/// one is given, else the root's name.
+/// one is given, else the root's name. Where lines of the text aren't understood, it tells all of them, or the first alone, and no entry is
+/// made.
 ///
 /// The input is read to its end before an entry is made; a read of it that fails, or is interrupted, isn't tried again.
 pub fn import<F: Source, R: Source>(
     alloc: Global,
     file: &mut F,
     front: Option<&[u8]>,
+    tells_all: bool,
     moment: u64,
     input: &mut R,
 ) -> Result<Edited, ImportEnd>
     ensures ok { IfOk result (λ edited. Imports (option_copied front.entry) moment edited (F.remaining file.old) (F.remaining file.new)
         (R.remaining input.old) (R.remaining input.new)) }
-    ensures err { IfErr result (λ fault. ImportEnds fault (option_copied front.entry) moment (F.remaining file.old) (F.remaining file.new)
+    ensures err { IfErr result (λ fault. ImportEnds fault (option_copied front.entry) tells_all moment (F.remaining file.old) (F.remaining file.new)
         (R.remaining input.old) (R.remaining input.new)) }
     ensures failures { MatchResult result
         (λ _. Stays (F.failures file.old) (F.failures file.new) × Stays (R.failures input.old) (R.failures input.new))
@@ -168,7 +201,14 @@ pub fn import<F: Source, R: Source>(
         sequence,
     } = load_seated(alloc, file)?;
     let text = read_whole(alloc, input)?;
-    apply_text(alloc, front, moment, &mut seated, text.as_slice())?;
+    apply_text(
+        alloc,
+        front,
+        tells_all,
+        moment,
+        &mut seated,
+        text.as_slice(),
+    )?;
     let is_changed = is_changed(&seated.hive);
     Ok(Edited {
         seated,

@@ -4,19 +4,21 @@
 //! Its one contract: [`edit`] answers just the hive that a script leaves of a file's, with its moment, the next sequence number and
 //! whether it is to be saved; [`import`] the same of the entries of a .reg text, and [`change`] of one change; and [`fresh_hive`] makes a hive
 //! of one root. It stands on reg_script, which runs scripts, on reg_dotreg_reader and reg_dotreg_import, on reg_words, which has what a
-//! change asks for, and on reg_image, which loads the hive. Its types are [`Edited`], [`EditFault`], [`ImportEnd`], [`ChangeEnd`] with
+//! change asks for, and on reg_image, which loads the hive. Its types are [`Edited`], [`EditFault`], [`ImportEnd`] with [`BadText`], [`ChangeEnd`] with
 //! [`Hindrance`], and [`FreshFault`].
 //!
-//! `loading` loads a file's hive and seats its sessions, `edits` has the edit and `importing` the import; `changing` has the change, and
+//! `loading` loads a file's hive and seats its sessions, `edits` has the edit and `importing` the import, with `bad_text`; `changing` has the change, and
 //! `hindrances` what hinders it.
 #![tactic(auto)]
 
+mod bad_text;
 mod changing;
 mod edits;
 mod hindrances;
 mod importing;
 mod loading;
 
+pub use bad_text::BadText;
 pub use changing::{ChangeEnd, change};
 pub use edits::{EditFault, Edited, FreshFault, edit, fresh_hive};
 pub use hindrances::Hindrance;

@@ -1,3 +1,4 @@
 pub mod FindSteps
 pub mod DiffSteps
 pub mod LookSteps
+pub mod ChangeSteps

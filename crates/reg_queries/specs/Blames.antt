@@ -35,10 +35,13 @@ abbrev pub EndBlames : ExportEnd → (read now_read written now_written : Option
 EndBlames (export.Load fault) read now_read written now_written = IsReadBlamed fault read now_read × Stays written now_written
 EndBlames (export.Export fault) read now_read written now_written = Stays read now_read × ExportBlames fault written now_written
 
--- of a comparison with a new image: its reader failed where its load tells that, and a write where the comparison tells one
+-- of a comparison with a new image: its reader failed where its load tells that, and a write where the comparison tells one; none did where
+-- a key is missing
 abbrev pub DiffFromBlames : DiffFault → (read now_read written now_written : Option ℕ) → Type 0
 DiffFromBlames (diff.Old fault) read now_read written now_written = ⊥
 DiffFromBlames (diff.New fault) read now_read written now_written = IsReadBlamed fault read now_read × Stays written now_written
+DiffFromBlames diff.NoOldKey read now_read written now_written = NoneFailed read now_read written now_written
+DiffFromBlames diff.NoNewKey read now_read written now_written = NoneFailed read now_read written now_written
 DiffFromBlames (diff.Stopped fault) read now_read written now_written = Stays read now_read × IsBlamed fault written now_written
 
 -- of a comparison of two images: the old one's reader failed where its load tells that, and then nothing else did; else the new one is as
@@ -48,5 +51,7 @@ DiffBlames (diff.Old fault) old now_old new now_new written now_written =
     IsReadBlamed fault old now_old × NoneFailed new now_new written now_written
 DiffBlames (diff.New fault) old now_old new now_new written now_written =
     Stays old now_old × IsReadBlamed fault new now_new × Stays written now_written
+DiffBlames diff.NoOldKey old now_old new now_new written now_written = Stays old now_old × NoneFailed new now_new written now_written
+DiffBlames diff.NoNewKey old now_old new now_new written now_written = Stays old now_old × NoneFailed new now_new written now_written
 DiffBlames (diff.Stopped fault) old now_old new now_new written now_written =
     Stays old now_old × Stays new now_new × IsBlamed fault written now_written

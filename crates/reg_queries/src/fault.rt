@@ -32,6 +32,10 @@ pub enum DiffFault {
     Old(LoadFault),
     /// The new image doesn't load.
     New(LoadFault),
+    /// The old hive has no key at the path, or the text is no path.
+    NoOldKey,
+    /// The new hive has no key at the path, and the old one has.
+    NoNewKey,
     /// A write or memory failed.
     Stopped(DumpFault),
 }
@@ -42,5 +46,16 @@ pub enum ExportEnd {
     /// The image doesn't load.
     Load(LoadFault),
     /// There is no such key, a name can't be written, or a write or memory failed.
+    Export(ExportFault),
+}
+
+/// Why it wasn't written as a .reg text what changes from one image to another, or not to the end.
+#[derive(Debug, Drop)]
+pub enum ChangesEnd {
+    /// The old image doesn't load.
+    Old(LoadFault),
+    /// The new image doesn't load.
+    New(LoadFault),
+    /// A name can't be written, or a write or memory failed.
     Export(ExportFault),
 }

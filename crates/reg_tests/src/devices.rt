@@ -1,10 +1,10 @@
 //! What is written to writers that take little at a time or fail: an image in bins of several sizes, a dump of more than 64 KB, differences.
 use crate::support::drafted_tree;
-use reg_diff::diff;
+use reg_diff::{BranchFault, Ignored, diff};
 use reg_fixtures::{Failure, FakeWriter, narrow, wide};
 use reg_tree::Tree;
 use reg_tree_image::{make_image, write_image, write_tree};
-use reg_tree_text::dump;
+use reg_tree_text::{DumpFault, dump};
 use std::alloc::Global;
 use std::fmt::Display;
 use std::test::Fail;
@@ -50,16 +50,36 @@ fn ending<F: Display + Drop>(alloc: Global, answer: Result<(), F>) -> Result<Str
     }
 }
 
+/// What differs between two trees, all of it.
+const NOTHING: Ignored = Ignored {
+    time: false,
+    security: false,
+    order: false,
+    class: false,
+    marks: false,
+};
+
+/// Writes how two trees differ. Both have a root, so another fault is never told.
+fn tell_all(
+    alloc: Global,
+    old: &Tree,
+    new: &Tree,
+    writer: &mut FakeWriter,
+) -> Result<(), DumpFault> {
+    match diff(alloc, old, new, b"", NOTHING, writer) {
+        Ok(_is_same) => Ok(()),
+        Err(BranchFault::Stopped(fault)) => Err(fault),
+        Err(_) => Err(DumpFault::Memory),
+    }
+}
+
 /// Writes it, and tells how that ended.
 fn send(alloc: Global, work: Work<'_>, writer: &mut FakeWriter) -> Result<String, Fail> {
     match work {
         Work::Image(image) => ending(alloc, write_image(image, writer)),
         Work::Bins(tree) => ending(alloc, write_tree(tree, 0, 1, writer)),
         Work::Dump(tree) => ending(alloc, dump(alloc, tree, writer)),
-        Work::Differences(old, new) => {
-            let answer = diff(alloc, old, new, writer);
-            ending(alloc, answer.map(|_is_same| ()))
-        }
+        Work::Differences(old, new) => ending(alloc, tell_all(alloc, old, new, writer)),
     }
 }
 

@@ -13,7 +13,7 @@ returns-in_err-seated-clause-failures g c =
 pub returns-in_err-text-clause-err : goal.returns-in_err-text-clause-err
 returns-in_err-text-clause-err g c =
     if_err _ c.from_residual-in_err-text.result _ c.from_residual-in_err-text.ensures.1
-    (unread_ends c.in_err-text.field-0.0 _ _ _ _ _ _ _ _ c.in_ok-seated.ensures.ok c.in_err-text.ensures.err)
+    (unread_ends c.in_err-text.field-0.0 _ _ _ _ _ _ _ _ _ c.in_ok-seated.ensures.ok c.in_err-text.ensures.err)
 
 pub returns-in_err-text-clause-failures : goal.returns-in_err-text-clause-failures
 returns-in_err-text-clause-failures g c =
@@ -24,13 +24,13 @@ returns-in_err-text-clause-failures g c =
 pub returns-in_err-apply_text-clause-err : goal.returns-in_err-apply_text-clause-err
 returns-in_err-apply_text-clause-err g c =
     if_err _ c.from_residual-in_err-apply_text.result _ c.from_residual-in_err-apply_text.ensures.1
-    (apply_ends c.in_err-apply_text.field-0.0 _ _ _ _ _ _ _ _ _ c.in_ok-seated.ensures.ok c.in_ok-text.ensures.ok.0
+    (apply_ends c.in_err-apply_text.field-0.0 _ _ _ _ _ _ _ _ _ _ c.in_ok-seated.ensures.ok c.in_ok-text.ensures.ok.0
     (read_as _ _ _ _ c.as_slice.ensures.value c.in_ok-text.ensures.ok.1) c.in_err-apply_text.ensures.err)
 
 pub returns-in_err-apply_text-clause-failures : goal.returns-in_err-apply_text-clause-failures
 returns-in_err-apply_text-clause-failures g c =
     match_err _ _ c.from_residual-in_err-apply_text.result _ c.from_residual-in_err-apply_text.ensures.1
-    (apply_blames c.in_err-apply_text.field-0.0 _ _ _ _ _ _ _ _ c.in_err-apply_text.ensures.err c.in_ok-seated.ensures.failures
+    (apply_blames c.in_err-apply_text.field-0.0 _ _ _ _ _ _ _ _ _ c.in_err-apply_text.ensures.err c.in_ok-seated.ensures.failures
     c.in_ok-text.ensures.failures)
 
 pub returns-clause-ok : goal.returns-clause-ok
