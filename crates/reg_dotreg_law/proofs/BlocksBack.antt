@@ -73,7 +73,7 @@ blocks-say name root is_open (t ∷ told) f a =
 
 -- ---- a whole text
 
-nothing-left : (root : List ℕ) (is_open : Bool) (number : ℕ) → reading root is_open number [] ≡ Ok []
+pub nothing-left : (root : List ℕ) (is_open : Bool) (number : ℕ) → reading root is_open number [] ≡ Ok []
 unfolding entries_from whole_lines
 nothing-left root is_open number = ap (λ (w : List (List ℕ)). entries_from root false is_open (whole_lines 0 number w)) (lines_empty [] refl)
 
@@ -81,7 +81,7 @@ titled-lines : (lines : List (List ℕ)) → untitled ((title ++ 13 ∷ []) ∷ 
 unfolding before_blanks before_mark
 titled-lines lines = refl
 
-headed : (blocks : List ℕ) → untitled (lines_of (heading ++ blocks)) ≡ Some (false, lines_of (13 ∷ 10 ∷ blocks))
+pub headed : (blocks : List ℕ) → untitled (lines_of (heading ++ blocks)) ≡ Some (false, lines_of (13 ∷ 10 ∷ blocks))
 unfolding heading
 headed blocks = ap untitled (line-back title (13 ∷ 10 ∷ blocks) refl) ∙ titled-lines (lines_of (13 ∷ 10 ∷ blocks))
 

@@ -143,7 +143,7 @@ behind-root (c ∷ name) (u ∷ root) rest e =
     let both = both-same (fold c) (fold u) (folded name) (folded root) e in
     ap (λ (b : Bool). cond b (behind_name name (root ++ rest)) None) (same-letter (fold c) (fold u) both.0) ∙ behind-root name root rest both.1
 
-below-root : (name root : List ℕ) (names : List (List ℕ)) → folded name ≡ folded (long_form root) → are_key_names PATH_LIMIT names ≡ true →
+pub below-root : (name root : List ℕ) (names : List (List ℕ)) → folded name ≡ folded (long_form root) → are_key_names PATH_LIMIT names ≡ true →
     path_below name (text_of (root ∷ names)) ≡ Some (text_of names)
 unfolding way_below
 below-root name root [] f e =
@@ -160,11 +160,11 @@ bracketed-key root text path e = ap (λ (o : Option (List ℕ)). option_or (opti
 
 -- ---- the line
 
-said-bracket : (root us : List ℕ) → Ends (91 ∷ us) → said root false (91 ∷ us) ≡ option_map Some (key_said root us)
+pub said-bracket : (root us : List ℕ) → Ends (91 ∷ us) → said root false (91 ∷ us) ≡ option_map Some (key_said root us)
 unfolding said behind_blanks
 said-bracket root us e = ap (said_by root false) (ends-blanks (91 ∷ us) e)
 
-bracket-value : (us : List ℕ) → is_value_line (91 ∷ us) ≡ false
+pub bracket-value : (us : List ℕ) → is_value_line (91 ∷ us) ≡ false
 unfolding behind_blanks
 bracket-value us = refl
 

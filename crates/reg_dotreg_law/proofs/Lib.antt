@@ -28,3 +28,17 @@ pub mod ShortTexts
 pub mod ReadTrees
 pub mod MadeOfFile
 mod ReturnedHives
+pub mod ToldOfTrees
+pub mod GonesBack
+pub mod ChangesBack
+pub mod ChangesFiles
+pub mod NamedValues
+pub mod TreeSteps
+pub mod RunsOver
+pub mod ToldValues
+pub mod ToldBlocks
+pub mod OldSide
+pub mod NewSide
+pub mod ChangesMade
+pub mod ChangedByFile
+mod ReturnedChanges

@@ -38,7 +38,7 @@ short-append a b p q = list_all-append is_short a b ∙ and_from (are_short a) (
 one-short : (u : ℕ) → nat_lt u 128 ≡ true → is_short u ≡ true
 one-short u e = grind (arith, nat_tests)
 
-ascii-short : (units : List ℕ) → are_ascii units ≡ true → are_short units ≡ true
+pub ascii-short : (units : List ℕ) → are_ascii units ≡ true → are_short units ≡ true
 ascii-short [] e = refl
 ascii-short (u ∷ units) e =
     let both = and_parts (nat_lt u 128) (are_ascii units) e in
@@ -67,7 +67,7 @@ quoted-short : (text : List ℕ) → are_short text ≡ true → are_short (quot
 unfolding quoted
 quoted-short text e = short-append (flat_map quoted_unit text) (34 ∷ []) (between-short text e) refl
 
-name-short : (name : List ℕ) → are_ascii name ≡ true → are_short (name_told name) ≡ true
+pub name-short : (name : List ℕ) → are_ascii name ≡ true → are_short (name_told name) ≡ true
 name-short [] e = refl
 name-short (b ∷ name) e = quoted-short (b ∷ name) (ascii-short (b ∷ name) e)
 
@@ -134,7 +134,7 @@ units-short (low ∷ high ∷ bytes) units a e =
 front-short : (text behind : List ℕ) → are_short (text ++ behind) ≡ true → are_short text ≡ true
 front-short text behind e = (and_parts (are_short text) (are_short behind) (sym (list_all-append is_short text behind) ∙ e)).0
 
-data-short : (kind : ℕ) (bytes : List ℕ) → AreBytes bytes → are_short (data_told kind bytes) ≡ true
+pub data-short : (kind : ℕ) (bytes : List ℕ) → AreBytes bytes → are_short (data_told kind bytes) ≡ true
 data-short kind bytes a = by (text_of_data kind bytes) refl
   where
     by : (o : Option (List ℕ)) → text_of_data kind bytes ≡ o → are_short (unwrap_or (option_map quoted o) (plain_data kind bytes)) ≡ true
@@ -155,7 +155,7 @@ entries-short (v ∷ values) n a =
     (short-append (data_told v.kind v.bytes) line_end (data-short v.kind v.bytes a.0.bytes) refl))
     (entries-short values both.1 a.1)
 
-line-short : (path : List ℕ) → are_short path ≡ true → are_short (key_line path) ≡ true
+pub line-short : (path : List ℕ) → are_short path ≡ true → are_short (key_line path) ≡ true
 unfolding key_line
 line-short path e = short-append path (93 ∷ line_end) e refl
 

@@ -45,16 +45,16 @@ unfolding quoted
 between-inline text e = inline-append (34 ∷ []) (flat_map quoted_unit text ++ 34 ∷ []) refl
     (inline-append (flat_map quoted_unit text) (34 ∷ []) (quotes-inline text e) refl)
 
-name-inline : (name : List ℕ) → are_inline name ≡ true → are_inline (name_told name) ≡ true
+pub name-inline : (name : List ℕ) → are_inline name ≡ true → are_inline (name_told name) ≡ true
 name-inline [] e = refl
 name-inline (b ∷ name) e = between-inline (b ∷ name) e
 
-begins-value : (name rest : List ℕ) → is_value_line (name_told name ++ rest) ≡ true
+pub begins-value : (name rest : List ℕ) → is_value_line (name_told name ++ rest) ≡ true
 unfolding behind_blanks quoted
 begins-value [] rest = refl
 begins-value (b ∷ name) rest = refl
 
-said-line : (root name rest : List ℕ) → Ends (name_told name ++ rest) →
+pub said-line : (root name rest : List ℕ) → Ends (name_told name ++ rest) →
     said root false (name_told name ++ rest) ≡ option_map Some (value_said false (name_told name ++ rest))
 unfolding said behind_blanks quoted
 said-line root [] rest e = ap (said_by root false) (ends-blanks (64 ∷ rest) e)

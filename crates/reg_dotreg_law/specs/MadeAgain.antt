@@ -2,6 +2,7 @@
 use Rattle.std.specs.Prelude.{◌≡◌, ℕ, ◌&&◌, ◌||◌, if◌then◌else◌, List, [], ◌∷◌, is_some, IsSome, None}
 use Rattle.std.specs.FinMap.{get}
 use Rattle.reg_heap.specs.Paths.{Path, Tree}
+use Rattle.reg_heap.specs.Members.{value_named}
 use Rattle.reg_heap.specs.Edits.{values_at, is_within}
 use Rattle.reg_tree_text.specs.DumpTexts.{name_of}
 
@@ -24,3 +25,8 @@ pub record HasSameBelow (new tree : Tree) (path : Path) : Type 0 where
   pub keys : (q : Path) → is_some (get new q) ≡ (is_some (get tree q) && (is_within path q || is_within q path))
   pub values : (q : Path) → values_at new q ≡ (if is_within path q then values_at tree q else [])
   pub names : (name : List ℕ) (rest : Path) → IsSome (get new (name ∷ rest)) → name_of (get new (name ∷ rest)) ≡ name_of (get tree (name ∷ rest))
+
+-- a tree has keys at just the paths where another has one, and in each the same value of each name, as it is spelt, or none; in any order
+pub record HasAlike (new tree : Tree) : Type 0 where
+  pub keys : (path : Path) → is_some (get new path) ≡ is_some (get tree path)
+  pub values : (path : Path) (name : List ℕ) → value_named name (values_at new path) ≡ value_named name (values_at tree path)

@@ -4,11 +4,12 @@ use Rattle.std.specs.FinMap.{get}
 use Rattle.reg_heap.specs.Paths.{Path, Tree}
 use Rattle.reg_tree_text.specs.DumpTexts.{name_of}
 use Rattle.reg_dotreg_writer.specs.Entries.{entries_text, file_bytes}
+use Rattle.reg_dotreg_writer.specs.Changes.{changes_text}
 use Rattle.reg_dotreg_reader.specs.declared.entry.Numbered.{Numbered}
 use Rattle.reg_dotreg_reader.specs.EntryMeanings.{entries_in}
 use Rattle.reg_dotreg_reader.specs.FileUnits.{units_of}
 use Rattle.reg_dotreg_import.specs.Imports.{imported, entries_of}
-use Rattle.reg_dotreg_law.specs.MadeAgain.{HasSame, HasSameBelow}
+use Rattle.reg_dotreg_law.specs.MadeAgain.{HasSame, HasSameBelow, HasAlike}
 
 -- the bytes of a file have units, which are understood below the root of a tree; and applied to that one at a moment they make a tree
 abbrev pub Makes : (bytes : List ℕ) (other : Tree) (moment : ℕ) (new : Tree) → Type 0
@@ -25,3 +26,8 @@ IsBranchOfFile is_utf8 tree path other moment =
 abbrev pub IsMadeOfFile : (is_utf8 : Bool) (tree other : Tree) (moment : ℕ) → Type 0
 IsMadeOfFile is_utf8 tree other moment =
     (new : Tree) × Makes (file_bytes is_utf8 (entries_text tree [])) other moment new × HasSame new tree
+
+-- the file of the changes from one tree to another makes, of the old one, one with the keys and values of the new one
+abbrev pub IsChangedByFile : (is_utf8 : Bool) (old new : Tree) (moment : ℕ) → Type 0
+IsChangedByFile is_utf8 old new moment =
+    (made : Tree) × Makes (file_bytes is_utf8 (changes_text old new)) old moment made × HasAlike made new

@@ -1,10 +1,12 @@
 //! The laws of .reg texts: what is written of a tree is read as that tree's keys and values, and makes the tree again.
 //!
 //! Each function is one law: it does nothing, and its contract says what holds of the definitions of reg_dotreg_writer, which writes, of
-//! reg_dotreg_reader, which reads, and of reg_dotreg_import, which applies what was read. [`entries_make_the_branch`] and
-//! [`entries_make_the_tree`] speak of entries and trees, [`values_are_read_back`], [`text_is_read_back`] and [`file_is_read_back`] of texts,
-//! [`import_of_an_export_is_the_branch`] and [`import_of_an_export_is_the_tree`] of files, and [`what_an_export_wrote_an_import_makes`] of
-//! hives, in the words of the calls that export and import.
+//! reg_dotreg_reader, which reads, and of reg_dotreg_import, which applies what was read. [`entries_make_the_branch`],
+//! [`entries_make_the_tree`] and [`changes_make_the_new_tree`] speak of entries and trees, [`values_are_read_back`],
+//! [`text_is_read_back`], [`file_is_read_back`], [`changes_are_read_back`] and [`file_of_changes_is_read_back`] of texts,
+//! [`import_of_an_export_is_the_branch`], [`import_of_an_export_is_the_tree`] and [`import_of_changes_is_the_new_tree`] of files, and
+//! [`what_an_export_wrote_an_import_makes`] and [`what_changes_wrote_an_import_makes`] of hives, in the words of the calls that export
+//! and import.
 #![tactic(auto)]
 
 ghost use Rattle.std.specs.Prelude.{◌≡◌, ℕ, [], IsSome, Bool, List, ◌∷◌, Option, Some, None, true, ◌++◌};
@@ -12,20 +14,23 @@ ghost use Rattle.std.specs.FinMap.{get};
 ghost use Rattle.reg_heap.specs.Paths.{Path, Tree, Member};
 ghost use Rattle.reg_heap.specs.Trees.{IsTree, IsWithinLimits};
 ghost use Rattle.reg_tree_text.specs.DumpTexts.{name_of};
-ghost use Rattle.reg_dotreg_import.specs.Imports.{imported};
+ghost use Rattle.reg_dotreg_import.specs.Imports.{imported, entries_of};
 ghost use Rattle.reg_dotreg_law.specs.EntriesDue.{entries_below, entries_due};
-ghost use Rattle.reg_dotreg_law.specs.MadeAgain.{IsBare, HasSame, HasSameBelow};
+ghost use Rattle.reg_dotreg_law.specs.MadeAgain.{IsBare, HasSame, HasSameBelow, HasAlike};
 ghost use Rattle.reg_names.specs.Names.{folded};
 ghost use Rattle.reg_dotreg_writer.specs.EntryTexts.{value_entry};
 ghost use Rattle.reg_dotreg_writer.specs.Entries.{CanWrite, entries_text, file_bytes};
 ghost use Rattle.reg_dotreg_reader.specs.FileUnits.{units_of};
 ghost use Rattle.reg_dotreg_reader.specs.declared.entry.Entry.TheVariants.{Value};
 ghost use Rattle.reg_tree.specs.ValueBytes.{IsOfBytes};
-ghost use Rattle.reg_dotreg_law.specs.MadeOfFiles.{IsBranchOfFile, IsMadeOfFile};
+ghost use Rattle.reg_dotreg_law.specs.MadeOfFiles.{IsBranchOfFile, IsMadeOfFile, IsChangedByFile};
 ghost use Rattle.reg_dotreg_law.specs.ReadBack.{IsKept, Says, IsReadBack};
+ghost use Rattle.reg_dotreg_law.specs.ChangesDue.{changes_due, AreReadBack};
+ghost use Rattle.reg_dotreg_writer.specs.Changes.{changes_text, CanWriteChanges};
 ghost use Rattle.reg_heap.specs.Edits.{folded_path};
 ghost use Rattle.reg_calls.specs.Views.{View};
 ghost use Rattle.reg_queries.specs.ImageExports.{Exports};
+ghost use Rattle.reg_queries.specs.ImageChanges.{ExportsChanges};
 ghost use Rattle.reg_dotreg_reader.specs.declared.entry.Numbered.{Numbered};
 ghost use Rattle.reg_edits.specs.TextImports.{root_name, Applies, IsText};
 
@@ -52,6 +57,15 @@ pub fn entries_make_the_tree()
         name_of (get (imported moment bare (entries_due tree)) []) ≡ name_of (get bare []) }
 {}
 
+/// The entries of what changes from one tree to another, imported at any moment into the old one, make a tree with the same keys as the new
+/// one, and in each key with the same value of each name, as it is spelt, in whatever order. It is a tree.
+pub fn changes_make_the_new_tree()
+    ensures same { (old new : Tree) → (moment : ℕ) → IsTree old → IsWithinLimits old → IsTree new → IsWithinLimits new →
+        HasAlike (imported moment old (changes_due old new)) new }
+    ensures is_tree { (old new : Tree) → (moment : ℕ) → IsTree old → IsWithinLimits old → IsTree new → IsWithinLimits new →
+        IsTree (imported moment old (changes_due old new)) }
+{}
+
 /// The entry of a value, whatever text stands behind it, is read as that value, where values may stand: its name, its type, its bytes.
 pub fn values_are_read_back()
     ensures { (root : List ℕ) → (value : Member) → IsKept value →
@@ -72,6 +86,19 @@ pub fn file_is_read_back()
         units_of (file_bytes is_utf8 (entries_text tree path)) ≡ Some (entries_text tree path) }
 {}
 
+/// The text of what changes from one tree to another, whose names it can hold, is read, of keys below a root of the old tree's name,
+/// folded, as the entries that the changes stand for, in their order.
+pub fn changes_are_read_back()
+    ensures { (name : List ℕ) → (old new : Tree) → folded name ≡ folded (name_of (get old [])) → IsTree old → IsWithinLimits old →
+        IsTree new → IsWithinLimits new → IsOfBytes new → CanWriteChanges old new → AreReadBack name old new }
+{}
+
+/// The file of that text, in either encoding, has the units of the text.
+pub fn file_of_changes_is_read_back()
+    ensures { (is_utf8 : Bool) → (old new : Tree) → IsTree old → IsWithinLimits old → IsTree new → IsWithinLimits new → IsOfBytes new →
+        CanWriteChanges old new → units_of (file_bytes is_utf8 (changes_text old new)) ≡ Some (changes_text old new) }
+{}
+
 /// The file that is written of a tree's keys from one on, in either encoding, read and applied at any moment to a tree of the root alone
 /// whose name is the same, folded, makes that key and all below it again, and the keys on the way to it without values.
 pub fn import_of_an_export_is_the_branch()
@@ -86,6 +113,13 @@ pub fn import_of_an_export_is_the_tree()
     ensures { (is_utf8 : Bool) → (tree bare : Tree) → (moment : ℕ) → IsTree tree → IsWithinLimits tree → IsOfBytes tree →
         CanWrite tree [] → IsBare bare → folded (name_of (get bare [])) ≡ folded (name_of (get tree [])) →
         IsMadeOfFile is_utf8 tree bare moment }
+{}
+
+/// The file that is written of what changes from one tree to another, in either encoding, read and applied at any moment to the old one, makes
+/// a tree with the same keys as the new one, and in each key with the same value of each name, as it is spelt, in whatever order.
+pub fn import_of_changes_is_the_new_tree()
+    ensures { (is_utf8 : Bool) → (old new : Tree) → (moment : ℕ) → IsTree old → IsWithinLimits old → IsTree new → IsWithinLimits new →
+        IsOfBytes new → CanWriteChanges old new → IsChangedByFile is_utf8 old new moment }
 {}
 
 /// An export of the tree in an image was written to a writer that held some bytes, and appended a file to them. That file is understood
@@ -105,4 +139,19 @@ pub fn what_an_export_wrote_an_import_makes()
     ensures whole { (unread left : Option (List ℕ)) → (file held : List ℕ) → (is_utf8 : Bool) → (moment : ℕ) → (old last : View) →
         (export : Exports unread left [] is_utf8 (Some held) (Some (held ++ file))) → Applies None moment file old last → IsBare old.keys.tree →
         folded (root_name old) ≡ folded (name_of (get export.tree [])) → HasSame last.keys.tree export.tree }
+{}
+
+/// What changes from the tree of an old image to that of a new one was written to a writer that held some bytes, and appended a file to
+/// them. That file is understood for a hive whose root has the old tree's name, folded, as just the entries that the changes stand for
+/// (clause `read`). Where its entries are made, at any moment, in a hive with the old tree, that hive has the same keys as the new one, and
+/// in each the same value of each name, as it is spelt, in whatever order (clause `same`). What the hive may still refuse are its calls.
+pub fn what_changes_wrote_an_import_makes()
+    ensures read { (unread_old left_old unread_new left_new : Option (List ℕ)) → (file held : List ℕ) → (is_utf8 is_none : Bool) → (hive : View) →
+        (export : ExportsChanges unread_old left_old unread_new left_new is_utf8 is_none (Some held) (Some (held ++ file))) →
+        folded (root_name hive) ≡ folded (name_of (get export.old [])) →
+        (entries : List Numbered) × IsText (root_name hive) file entries × (entries_of entries ≡ changes_due export.old export.new.tree) }
+    ensures same { (unread_old left_old unread_new left_new : Option (List ℕ)) → (file held : List ℕ) → (is_utf8 is_none : Bool) →
+        (moment : ℕ) → (hive last : View) →
+        (export : ExportsChanges unread_old left_old unread_new left_new is_utf8 is_none (Some held) (Some (held ++ file))) →
+        Applies None moment file hive last → hive.keys.tree ≡ export.old → HasAlike last.keys.tree export.new.tree }
 {}
