@@ -18,9 +18,9 @@ module _ (edit : EditRequest) (begin : ℕ) (given : IsGiven edit.begin begin) w
       inr (inl (fault, same, (file, file_left, (begin, given, h))))
 
   -- or the text
-  pub import_stopped : (front : Option (List ℕ)) (fault : ImportEnd) (file file_left unread left : Option (List ℕ)) →
-      ImportEnds fault front begin file file_left unread left → StopsImporting edit front unread left
-  import_stopped front fault file file_left unread left h = inl (fault, (file, file_left, (begin, given, h)))
+  pub import_stopped : (front : Option (List ℕ)) (tells_all : Bool) (fault : ImportEnd) (file file_left unread left : Option (List ℕ)) →
+      ImportEnds fault front tells_all begin file file_left unread left → StopsImporting edit front tells_all unread left
+  import_stopped front tells_all fault file file_left unread left h = inl (fault, (file, file_left, (begin, given, h)))
 
 module _ (edit : EditRequest) (begin : ℕ) (edited : Edited) (given : IsGiven edit.begin begin) where
   module _ (keeps_going : Bool) (file file_left unread left before after : Option (List ℕ))
@@ -39,10 +39,10 @@ module _ (edit : EditRequest) (begin : ℕ) (edited : Edited) (given : IsGiven e
 
 -- ---- the front that stands for the root, as it is handed on
 
-module _ (given front : Option (List ℕ)) (edit : EditRequest) (is_named : Bool) (unread left : Option (List ℕ)) (same : given ≡ front) where
+module _ (given front : Option (List ℕ)) (edit : EditRequest) (tells_all is_named : Bool) (unread left : Option (List ℕ)) (same : given ≡ front) where
   pub text_entered : OfText is_named unread left (Enters edit given) → OfText is_named unread left (Enters edit front)
   text_entered h = subst (λ f. OfText is_named unread left (Enters edit f)) same h
 
-  pub text_stopped : ((left ≡ unread) ⊎ OfText is_named unread left (StopsImporting edit given)) →
-      (left ≡ unread) ⊎ OfText is_named unread left (StopsImporting edit front)
-  text_stopped h = subst (λ f. (left ≡ unread) ⊎ OfText is_named unread left (StopsImporting edit f)) same h
+  pub text_stopped : ((left ≡ unread) ⊎ OfText is_named unread left (StopsImporting edit given tells_all)) →
+      (left ≡ unread) ⊎ OfText is_named unread left (StopsImporting edit front tells_all)
+  text_stopped h = subst (λ f. (left ≡ unread) ⊎ OfText is_named unread left (StopsImporting edit f tells_all)) same h

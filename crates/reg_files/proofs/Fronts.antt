@@ -9,7 +9,7 @@ use Rattle.std.proofs.lemmas.List.{take_all, drop_all}
 use Rattle.std.proofs.lemmas.Bool.Decides.{nat_tests}
 use Rattle.std.proofs.lemmas.Option.{same_Some}
 use Rattle.reg_files.specs.Mended.{is_torn_block, mended_block}
-use Rattle.reg_files.specs.Serving.{as_read, Warns, IsOpened}
+use Rattle.reg_files.specs.Looking.{as_read, Warns, IsOpened}
 use Rattle.reg_files.specs.Internal.Fronts.{AreBytesOf, IsFront}
 
 -- nothing so far

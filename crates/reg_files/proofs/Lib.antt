@@ -1,6 +1,11 @@
 mod CheckedFiles
 mod ChangedFiles
+mod Detailed
 mod EditedFiles
+mod Gathered
+mod GatheredFiles
+mod ToldTexts
+mod ToldTimelines
 mod Fronts
 mod Mending
 mod Outcomes

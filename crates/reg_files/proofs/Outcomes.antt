@@ -4,11 +4,16 @@ use Rattle.std.specs.Prelude.{Result, Ok, Err, OnOk, OnErr, IfOk, IfErr, MatchRe
 use Rattle.std.specs.Io.KnownBytes.{Appends}
 use Rattle.reg_command.specs.Failures.{Does, IsSaid}
 use Rattle.reg_text.specs.Texts.{line_feed}
+use Rattle.reg_words.specs.declared.request.DiffForm.{DiffForm}
 use Rattle.reg_words.specs.declared.request.HiveFile.{HiveFile}
 use Rattle.reg_words.specs.declared.request.Request.{Request}
 use Rattle.reg_words.specs.declared.request.StreamRequest.TheVariants as stream
-use Rattle.reg_files.specs.Serving.{AnswerStops, AreOther, AreSame, Checks, ChecksFiles, CountStops, Fails, Serves, StopsDiffing, IsReported}
-use Rattle.reg_files.specs.Serving.{as_read, name_before, Compares, CompareFails, IsOpened, IsUnopened, LookFails, Looks, NameStops, OfImage}
+use Rattle.reg_files.specs.Looking.{AnswerStops, IsReported}
+use Rattle.reg_files.specs.Differing.{AreOther, AreSame, StopsDiffing}
+use Rattle.reg_files.specs.Serving.{Checks, ChecksFiles, CountStops, Fails, Serves}
+use Rattle.reg_files.specs.Looking.{as_read, IsOpened, IsUnopened, LookFails, Looks, OfImage}
+use Rattle.reg_files.specs.Serving.{name_before, NameStops}
+use Rattle.reg_files.specs.Differing.{Compares, CompareFails}
 use Rattle.reg_files.specs.Internal.Counted.{IsCounted}
 use Rattle.reg_files.specs.Internal.Outcomes.{Outcome, Settles, status_of, IsSameBehind, IsOtherBehind}
 
@@ -128,7 +133,7 @@ any_stop (Err e) = tt
 
 -- ---- two files that are compared
 
-module _ (new : HiveFile) (closed : Bool) (old old_left before after told told_after : Option (List ℕ)) (failed now_failed : Option ℕ)
+module _ (form : DiffForm) (new : HiveFile) (closed : Bool) (old old_left before after told told_after : Option (List ℕ)) (failed now_failed : Option ℕ)
     (bytes left warned : Option (List ℕ)) (warned_failed : Option ℕ)
     (opened : IsOpened new.is_dirty new.file.now bytes told warned failed warned_failed)
     (image : Option (List ℕ)) (is : image ≡ as_read new.is_dirty bytes) where
@@ -137,20 +142,20 @@ module _ (new : HiveFile) (closed : Bool) (old old_left before after told told_a
     pub same_behind : (r : Result ℕ E) (status : ℕ)
         → MatchResult r (λ s. (status ≡ s) × (told_after ≡ warned))
         (λ e. (status ≡ 1) × IsReported (shut && is_cut e) warned told_after warned_failed now_failed)
-        → IfOk r (λ s. s ≡ 0 → AreSame old old_left image left before after)
-        → status ≡ 0 → IsSameBehind new old old_left before after told told_after failed
+        → IfOk r (λ s. s ≡ 0 → AreSame form old old_left image left before after)
+        → status ≡ 0 → IsSameBehind form new old old_left before after told told_after failed
     same_behind (Ok s) status h same nil =
-        (bytes, left, warned, warned_failed, opened, (subst (λ u. AreSame old old_left u left before after) is (same (sym h.0 ∙ nil)), h.1))
+        (bytes, left, warned, warned_failed, opened, (subst (λ u. AreSame form old old_left u left before after) is (same (sym h.0 ∙ nil)), h.1))
     same_behind (Err e) status h same nil = let one = h.0 in absurd (omega (arith, one, nil))
 
     pub other_behind : (r : Result ℕ E) (status : ℕ)
         → MatchResult r (λ s. (status ≡ s) × (told_after ≡ warned))
         (λ e. (status ≡ 1) × IsReported (shut && is_cut e) warned told_after warned_failed now_failed)
-        → IfOk r (λ s. s ≡ 1 → AreOther old old_left image left before after)
-        → IfErr r (λ e. (gone : Option (List ℕ)) × (other_gone : Option (List ℕ)) × StopsDiffing before after (is_cut e) old gone image other_gone)
-        → status ≡ 1 → IsOtherBehind new closed old old_left before after told told_after failed now_failed
+        → IfOk r (λ s. s ≡ 1 → AreOther form old old_left image left before after)
+        → IfErr r (λ e. (gone : Option (List ℕ)) × (other_gone : Option (List ℕ)) × StopsDiffing form before after (is_cut e) old gone image other_gone)
+        → status ≡ 1 → IsOtherBehind form new closed old old_left before after told told_after failed now_failed
     other_behind (Ok s) status h other stops one =
-        inl (bytes, left, warned, warned_failed, opened, (subst (λ u. AreOther old old_left u left before after) is (other (sym h.0 ∙ one)), h.1))
+        inl (bytes, left, warned, warned_failed, opened, (subst (λ u. AreOther form old old_left u left before after) is (other (sym h.0 ∙ one)), h.1))
     other_behind (Err e) status h other stops one =
         inr (inr (
           stops.0,
@@ -162,32 +167,32 @@ module _ (new : HiveFile) (closed : Bool) (old old_left before after told told_a
             opened,
             (
               is_cut e,
-              subst (λ u. StopsDiffing before after (is_cut e) old stops.0 u stops.1) is stops.2,
+              subst (λ u. StopsDiffing form before after (is_cut e) old stops.0 u stops.1) is stops.2,
               reported_as shut closed (is_cut e) warned told_after warned_failed now_failed same_output h.1,
             ),
           ),
         ))
 
 -- both were, and are the same, or not
-module _ (new : HiveFile) (old : List ℕ) (closed : Bool) (before after told told_after : Option (List ℕ)) (failed now_failed : Option ℕ)
+module _ (form : DiffForm) (new : HiveFile) (old : List ℕ) (closed : Bool) (before after told told_after : Option (List ℕ)) (failed now_failed : Option ℕ)
     (bytes left warned : Option (List ℕ)) (warned_failed : Option ℕ) (opened : IsOpened new.is_dirty old bytes told warned failed warned_failed)
     (image : Option (List ℕ)) (is : image ≡ as_read new.is_dirty bytes) where
-  pub both_same : IsSameBehind new image left before after warned told_after warned_failed →
-      Compares new.is_dirty old new.file.now told told_after failed (λ one one_left other other_left. AreSame one one_left other other_left before after)
+  pub both_same : IsSameBehind form new image left before after warned told_after warned_failed →
+      Compares new.is_dirty old new.file.now told told_after failed (λ one one_left other other_left. AreSame form one one_left other other_left before after)
   both_same h =
-      (bytes, left, warned, warned_failed, opened, subst (λ u. IsSameBehind new u left before after warned told_after warned_failed) is h)
+      (bytes, left, warned, warned_failed, opened, subst (λ u. IsSameBehind form new u left before after warned told_after warned_failed) is h)
 
-  both_read : IsOtherBehind new closed (as_read new.is_dirty bytes) left before after warned told_after warned_failed now_failed →
-      Compares new.is_dirty old new.file.now told told_after failed (λ one one_left other other_left. AreOther one one_left other other_left before after)
-      ⊎ CompareFails new.is_dirty old new.file.now closed before after told told_after failed now_failed
+  both_read : IsOtherBehind form new closed (as_read new.is_dirty bytes) left before after warned told_after warned_failed now_failed →
+      Compares new.is_dirty old new.file.now told told_after failed (λ one one_left other other_left. AreOther form one one_left other other_left before after)
+      ⊎ CompareFails form new.is_dirty old new.file.now closed before after told told_after failed now_failed
   both_read (inl other) = inl (bytes, left, warned, warned_failed, opened, other)
   both_read (inr (inl none)) = inr (inr (inl (bytes, left, warned, warned_failed, opened, none)))
   both_read (inr (inr stops)) = inr (inr (inr (bytes, stops.0, warned, warned_failed, opened, stops.1)))
 
-  pub both_other : IsOtherBehind new closed image left before after warned told_after warned_failed now_failed →
-      Compares new.is_dirty old new.file.now told told_after failed (λ one one_left other other_left. AreOther one one_left other other_left before after)
-      ⊎ CompareFails new.is_dirty old new.file.now closed before after told told_after failed now_failed
-  both_other h = both_read (subst (λ u. IsOtherBehind new closed u left before after warned told_after warned_failed now_failed) is h)
+  pub both_other : IsOtherBehind form new closed image left before after warned told_after warned_failed now_failed →
+      Compares new.is_dirty old new.file.now told told_after failed (λ one one_left other other_left. AreOther form one one_left other other_left before after)
+      ⊎ CompareFails form new.is_dirty old new.file.now closed before after told told_after failed now_failed
+  both_other h = both_read (subst (λ u. IsOtherBehind form new closed u left before after warned told_after warned_failed now_failed) is h)
 
 -- the status of a comparison is small
 pub compared_small : {E : Type 0} (R : E → Type 0) (Q : Type 0) (r : Result ℕ E) (status : ℕ) → MatchResult r (λ s. (status ≡ s) × Q) (λ e. (status ≡ 1) × R e)

@@ -3,13 +3,17 @@ use Rattle.std.proofs.Common.{◌≡◌, List, ℕ, Bool, true, inr, inl, subst,
 use Rattle.std.specs.Prelude.{Option, Result, Ok, Err, IfErr, IsErrAnd, codes}
 use Rattle.reg_tables.specs.Pages.{html_text}
 use Rattle.reg_tables.specs.Tables.{json_text, jsonl_text, csv_text}
-use Rattle.reg_queries.specs.Differs.{Differs}
+use Rattle.reg_diff.specs.declared.ignored.Ignored.{Ignored}
+use Rattle.reg_queries.specs.Differs.{Differs, DiffStops}
+use Rattle.reg_queries.specs.declared.fault.DiffFault.{DiffFault}
 use Rattle.reg_queries.specs.ImageExports.{ExportEnds}
 use Rattle.reg_queries.specs.declared.fault.ExportEnd.{ExportEnd}
 use Rattle.reg_words.specs.declared.request.Form.{Form}
 use Rattle.reg_words.specs.declared.request.Form.TheVariants.{Reg, Json, JsonLines, Csv, Html}
-use Rattle.reg_files.specs.Cuts.{is_end_cut}
-use Rattle.reg_files.specs.Serving.{StopsDiffing, TableEnds, WriteStops, IsCutShort}
+use Rattle.reg_files.specs.Cuts.{is_diff_cut, is_end_cut}
+use Rattle.reg_files.specs.Differing.{StopsLines}
+use Rattle.reg_files.specs.Serving.{TableEnds, WriteStops}
+use Rattle.reg_files.specs.Looking.{IsCutShort}
 
 -- what an error says that was made of another one
 pub from_err : {X E : Type 0} (P Q : E → Type 0) (r : Result X E) → IsErrAnd r P → ((e : E) → P e → Q e) → IfErr r Q
@@ -43,9 +47,18 @@ told_on form path before after given cut unread left same h =
     (left, subst (λ (c : Bool). WriteStops form path before after c unread left) (sym same) h)
 
 -- two trees are the same, and that wasn't written
-pub same_cut_short : (cut : Bool) (old old_left new new_left before after : Option (List ℕ)) (is_same : Bool) (written : Option (List ℕ)) →
-    is_same ≡ true → Differs old old_left new new_left is_same before written →
-    (cut ≡ true) × IsCutShort (codes "same\n") written after → StopsDiffing before after cut old old_left new new_left
-same_cut_short cut old old_left new new_left before after is_same written are_same differs h =
-    let same = subst (λ (b : Bool). Differs old old_left new new_left b before written) are_same differs in
+pub same_cut_short : (path : List ℕ) (given ignored : Ignored) (cut : Bool) (old old_left new new_left before after : Option (List ℕ))
+    (is_same : Bool) (written : Option (List ℕ)) → given ≡ ignored → is_same ≡ true →
+    Differs path given old old_left new new_left is_same before written →
+    (cut ≡ true) × IsCutShort (codes "same\n") written after → StopsLines path ignored before after cut old old_left new new_left
+same_cut_short path given ignored cut old old_left new new_left before after is_same written is are_same differs h =
+    let same = subst (λ (b : Bool). Differs path ignored old old_left new new_left b before written) are_same
+    (subst (λ (i : Ignored). Differs path i old old_left new new_left is_same before written) is differs) in
     inr (h.0, (written, same, h.1))
+
+-- what stopped a comparison
+pub lines_stopped : (path : List ℕ) (given ignored : Ignored) (cut : Bool) (old old_left new new_left before after : Option (List ℕ))
+    (fault : DiffFault) → given ≡ ignored → cut ≡ is_diff_cut fault → DiffStops fault path given old old_left new new_left before after →
+    StopsLines path ignored before after cut old old_left new new_left
+lines_stopped path given ignored cut old old_left new new_left before after fault is same h =
+    inl (fault, same, subst (λ (i : Ignored). DiffStops fault path i old old_left new new_left before after) is h)

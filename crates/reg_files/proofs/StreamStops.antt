@@ -3,7 +3,7 @@ use Rattle.std.proofs.Common.{◌≡◌, ℕ, Bool, List, Option, inl, subst}
 use Rattle.reg_command.specs.Failures.{IsStopSaid}
 use Rattle.reg_command.specs.declared.failure.Stop.{Stop}
 use Rattle.reg_command.specs.declared.failure.Stop.TheVariants.{Script, Load, Write, Memory}
-use Rattle.reg_files.specs.Serving.{StopReported}
+use Rattle.reg_files.specs.Looking.{StopReported}
 
 -- as it is reported of the standard streams, it may be of a file
 pub stop_said : (closed : Bool) (stop : Stop) (told told_after : Option (List ℕ)) (failed now_failed : Option ℕ) →

@@ -14,6 +14,8 @@ use Rattle.reg_queries.specs.declared.fault.DiffFault.{DiffFault}
 use Rattle.reg_queries.specs.declared.fault.DiffFault.TheVariants as diff
 use Rattle.reg_queries.specs.declared.fault.ExportEnd.{ExportEnd}
 use Rattle.reg_queries.specs.declared.fault.ExportEnd.TheVariants as end
+use Rattle.reg_queries.specs.declared.fault.ChangesEnd.{ChangesEnd}
+use Rattle.reg_queries.specs.declared.fault.ChangesEnd.TheVariants as changes
 use Rattle.reg_script.specs.declared.engine.ScriptFault.{ScriptFault}
 use Rattle.reg_script.specs.declared.engine.ScriptFault.TheVariants as script
 use Rattle.reg_edits.specs.declared.edits.EditFault.{EditFault}
@@ -53,6 +55,11 @@ is_export_cut fault = false
 abbrev pub is_end_cut : ExportEnd → Bool
 is_end_cut (end.Export fault) = is_export_cut fault
 is_end_cut (end.Load fault) = false
+
+-- of such a text of what changes
+abbrev pub is_changes_cut : ChangesEnd → Bool
+is_changes_cut (changes.Export fault) = is_export_cut fault
+is_changes_cut fault = false
 
 -- of a script's replies
 abbrev pub is_script_cut : ScriptFault → Bool

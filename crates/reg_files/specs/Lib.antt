@@ -1,5 +1,9 @@
 pub mod Mended
 pub mod Saves
+pub mod Looking
+pub mod Detailed
+pub mod Differing
+pub mod Gathering
 pub mod Serving
 pub mod Moments
 pub mod Cuts

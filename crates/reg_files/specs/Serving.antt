@@ -1,35 +1,27 @@
 -- What the tool did with files (this project's own).
-use Rattle.std.specs.Prelude.{◌≡◌, ◌<◌, ◌⊎◌, ℕ, zero, suc, max, nat_lt, Bool, true, false, ◌&&◌, ◌||◌, Option, Some, is_some, option_map, option_copied, ⊤}
-use Rattle.std.specs.Prelude.{List, [], ◌∷◌, ◌++◌, length, take, map, codes}
+use Rattle.std.specs.Prelude.{◌≡◌, ◌⊎◌, ℕ, zero, suc, max, nat_lt, Bool, true, false, ◌&&◌, Option, is_some, option_copied, ⊤}
+use Rattle.std.specs.Prelude.{List, [], ◌∷◌, ◌++◌, length, map, codes}
 use Rattle.std.specs.Io.KnownBytes.{Appends}
-use Rattle.reg_text.specs.Texts.{line_feed}
 use Rattle.reg_words.specs.CommandLines.{AsksNothing, IsCommandLine}
 use Rattle.reg_words.specs.declared.request.EditRequest.{EditRequest}
 use Rattle.reg_words.specs.declared.request.Form.{Form}
-use Rattle.reg_words.specs.declared.request.Form.TheVariants.{Reg, Json, JsonLines, Csv, Html}
 use Rattle.reg_words.specs.declared.request.Places.{Places}
 use Rattle.reg_words.specs.declared.request.Begin.{Begin}
 use Rattle.reg_words.specs.declared.request.Begin.TheVariants.{Now, At}
-use Rattle.reg_words.specs.declared.request.StreamRequest.{StreamRequest}
 use Rattle.reg_words.specs.declared.request.StreamRequest.TheVariants as stream
 use Rattle.reg_words.specs.declared.request.Request.{Request}
-use Rattle.reg_words.specs.declared.request.Request.TheVariants.{Stream, Dump, Check, Listing, Get, Find, Diff, Export, New, Edit, Import, Change, Version}
+use Rattle.reg_words.specs.declared.request.Request.TheVariants.{Stream, Dump, Check, Listing, Get, Find, Diff, Export, Timeline, New, Edit, Import, Change, Manual, Completions, Version}
 use Rattle.reg_text.specs.Failures.{IsUntouched}
-use Rattle.reg_command.specs.Failures.{Does, Stops, EndsEarly, IsSaid, IsStopSaid}
-use Rattle.reg_command.specs.declared.failure.Stop.{Stop}
-use Rattle.reg_command.specs.declared.failure.Stop.TheVariants as stop
+use Rattle.reg_command.specs.Failures.{Does, EndsEarly, IsSaid}
 use Rattle.reg_find.specs.declared.scope.Scope.{Scope}
 use Rattle.reg_heap.specs.Paths.{Path, Tree}
 use Rattle.reg_tables.specs.Pages.{html_text}
 use Rattle.reg_tables.specs.Tables.{json_text, jsonl_text, csv_text, TableStops}
-use Rattle.reg_queries.specs.KeyQueries.{Lists, ListEnds}
-use Rattle.reg_queries.specs.Queries.{is_look, Gets, GetEnds, Tabulates, QueryStops}
+use Rattle.reg_queries.specs.Queries.{Tabulates, QueryStops}
 use Rattle.reg_queries.specs.Finds.{Finds, FindStops}
-use Rattle.reg_queries.specs.Differs.{Differs, DiffStops}
 use Rattle.reg_queries.specs.ImageExports.{Exports, ExportEnds}
 use Rattle.reg_queries.specs.declared.fault.QueryFault.{QueryFault}
 use Rattle.reg_queries.specs.declared.fault.FindFault.{FindFault}
-use Rattle.reg_queries.specs.declared.fault.DiffFault.{DiffFault}
 use Rattle.reg_queries.specs.declared.fault.ExportEnd.{ExportEnd}
 use Rattle.reg_words.specs.ChangeLines.{told as line_of}
 use Rattle.reg_words.specs.declared.typed.change.KeyChange.{KeyChange}
@@ -39,96 +31,21 @@ use Rattle.reg_edits.specs.TextImports.{Imports, ImportEnds}
 use Rattle.reg_edits.specs.declared.edits.Edited.{Edited}
 use Rattle.reg_edits.specs.declared.edits.EditFault.{EditFault}
 use Rattle.reg_edits.specs.declared.importing.ImportEnd.{ImportEnd}
-use Rattle.reg_files.specs.Mended.{is_torn, mended}
-use Rattle.reg_files.specs.Cuts.{is_query_cut, is_find_cut, is_diff_cut, is_end_cut, is_edit_cut}
+use Rattle.reg_files.specs.Cuts.{is_query_cut, is_find_cut, is_end_cut, is_edit_cut}
+use Rattle.reg_words.specs.declared.request.Columns.{Columns}
+use Rattle.reg_words.specs.declared.request.DataForm.{DataForm}
+use Rattle.reg_words.specs.Manuals.{IsManual}
+use Rattle.reg_words.specs.Completions.{AreCompletions}
+use Rattle.reg_files.specs.Looking.{IsReported, IsCutShort, Doing, OfImage, Looks, IsUnopened, LookFails, AnswerStops, DumpStops}
+use Rattle.reg_files.specs.Detailed.{ListsKey, ListingEnds, GetsAs, GettingEnds}
+use Rattle.reg_files.specs.Differing.{AreSame, AreOther, Compares, CompareFails}
+use Rattle.reg_files.specs.Gathering.{TellsTimes, TimesFail}
+use Rattle.reg_words.specs.declared.request.Form.TheVariants.{Reg, Json, JsonLines, Csv, Html}
 
 -- the moment at which an edit begins: that of the clock, which may be any, or the one that is asked for
 abbrev pub IsGiven : Begin → ℕ → Type 0
 IsGiven Now moment = ⊤
 IsGiven (At asked) moment = moment ≡ asked
-
--- a line was written that says what was refused or faulty, or a front of it, where the writer failed; or none was, where none need be: a
--- write of the output failed, and nobody reads that any more
-abbrev pub IsReported : (may_be_silent : Bool) → (told told_after : Option (List ℕ)) → (failed now_failed : Option ℕ) → Type 0
-IsReported may_be_silent told told_after failed now_failed =
-    ((what : List ℕ) × IsSaid (codes "error " ++ (what ++ line_feed)) told told_after failed now_failed)
-    ⊎ ((may_be_silent ≡ true) × (told_after ≡ told))
-
--- a text wasn't written to its end: so many of its first bytes were
-pub record IsCutShort (text : List ℕ) (before after : Option (List ℕ)) : Type 0 where
-  pub count : ℕ
-  pub short : count < length text
-  pub appended : Appends before after (take count text)
-
--- what ended a request of the standard streams was reported as there; or it is such a write, and nothing was
-abbrev pub StopReported : (closed : Bool) → Stop → (told told_after : Option (List ℕ)) → (failed now_failed : Option ℕ) → Type 0
-StopReported closed (stop.Write written) told told_after failed now_failed =
-    IsStopSaid (stop.Write written) told told_after failed now_failed ⊎ ((closed ≡ true) × (told_after ≡ told))
-StopReported closed ended told told_after failed now_failed = IsStopSaid ended told told_after failed now_failed
-
--- ---- files that are looked into
-
--- a file's bytes as they are read: with `--dirty` an image that wasn't written to its end is read as one that was
-abbrev pub as_read : (is_dirty : Bool) → Option (List ℕ) → Option (List ℕ)
-as_read true bytes = option_map mended bytes
-as_read false bytes = bytes
-
--- the line that tells of a file that it wasn't
-abbrev pub warning_of : (file : List ℕ) → List ℕ
-warning_of file = codes "warning " ++ (file ++ codes ": it wasn't written to its end, and is read as it stands\n")
-
--- it was told, or needn't be
-abbrev pub Warns : (is_torn : Bool) → (file : List ℕ) → (told told_after : Option (List ℕ)) → (failed now_failed : Option ℕ) → Type 0
-Warns true file told told_after failed now_failed = IsSaid (warning_of file) told told_after failed now_failed
-Warns false file told told_after failed now_failed = (told_after ≡ told) × (now_failed ≡ failed)
-
--- a file of some bytes was opened, and where it is read though it wasn't written to its end, that was told
-pub record IsOpened (is_dirty : Bool) (file : List ℕ) (bytes told told_after : Option (List ℕ)) (failed now_failed : Option ℕ) : Type 0 where
-  pub is_warned : Bool
-  pub asked : is_warned ≡ true → is_dirty ≡ true
-  pub torn : (image : List ℕ) → bytes ≡ Some image → is_warned ≡ (is_dirty && is_torn image)
-  pub warns : Warns is_warned file told told_after failed now_failed
-
--- what was done with what is read of such a file, and of the bytes left behind that, from what was told by then
-abbrev pub Doing : Type 1
-Doing = (unread left told : Option (List ℕ)) → (failed : Option ℕ) → Type 0
-
--- a file was opened, and something done with what is read of it
-abbrev pub OfImage : (is_dirty : Bool) → (file : List ℕ) → (told : Option (List ℕ)) → (failed : Option ℕ) → Doing → Type 0
-OfImage is_dirty file told failed done =
-    (bytes : Option (List ℕ)) × (left : Option (List ℕ)) × (warned : Option (List ℕ)) × (warned_failed : Option ℕ)
-    × IsOpened is_dirty file bytes told warned failed warned_failed × done (as_read is_dirty bytes) left warned warned_failed
-
--- that was done, and nothing else told
-abbrev pub Looks : (is_dirty : Bool) → (file : List ℕ) → (told told_after : Option (List ℕ)) → (failed : Option ℕ) →
-    ((unread left : Option (List ℕ)) → Type 0) → Type 0
-Looks is_dirty file told told_after failed done =
-    OfImage is_dirty file told failed (λ unread left warned warned_failed. done unread left × (told_after ≡ warned))
-
--- a file wasn't opened, which was reported, and nothing was written
-abbrev pub IsUnopened : (before after told told_after : Option (List ℕ)) → (failed now_failed : Option ℕ) → Type 0
-IsUnopened before after told told_after failed now_failed = (after ≡ before) × IsReported false told told_after failed now_failed
-
--- a file wasn't opened; or it was, and something ended what was to be done, and that was reported. Here and below `cut` says whether it
--- was a failed write of the output
-abbrev pub LookFails : (is_dirty : Bool) → (file : List ℕ) → (closed : Bool) → (before after told told_after : Option (List ℕ)) →
-    (failed now_failed : Option ℕ) → ((cut : Bool) → (unread left : Option (List ℕ)) → Type 0) → Type 0
-LookFails is_dirty file closed before after told told_after failed now_failed stops =
-    IsUnopened before after told told_after failed now_failed
-    ⊎ OfImage is_dirty file told failed (λ unread left warned warned_failed.
-    (cut : Bool) × stops cut unread left × IsReported (closed && cut) warned told_after warned_failed now_failed)
-
--- something ended a request of the standard streams, with a file in the place of standard input
-abbrev pub AnswerStops : StreamRequest → (closed : Bool) → (before after told_after : Option (List ℕ)) → (now_failed : Option ℕ) → Doing
-AnswerStops request closed before after told_after now_failed unread left told failed =
-    (ended : Stop) × Stops request ended unread left before after × StopReported closed ended told told_after failed now_failed
-
--- a file's tree wasn't written, or not to the end: the file wasn't opened; or something ended the dump
-abbrev pub DumpStops : (is_dirty : Bool) → (file : List ℕ) → (closed : Bool) → (before after told told_after : Option (List ℕ)) →
-    (failed now_failed : Option ℕ) → Type 0
-DumpStops is_dirty file closed before after told told_after failed now_failed =
-    IsUnopened before after told told_after failed now_failed
-    ⊎ OfImage is_dirty file told failed (AnswerStops stream.Dump closed before after told_after now_failed)
 
 -- ---- files that are counted
 
@@ -201,35 +118,6 @@ scope_of places =
 abbrev pub OfFile : (Option (List ℕ) → Option (List ℕ) → Type 0) → Type 0
 OfFile done = (unread : Option (List ℕ)) × (left : Option (List ℕ)) × done unread left
 
--- two files were opened, and something done with what is read of them
-abbrev pub OfTwo : (is_dirty : Bool) → (old new : List ℕ) → (told : Option (List ℕ)) → (failed : Option ℕ) →
-    ((unread unread_left other other_left warned : Option (List ℕ)) → (warned_failed : Option ℕ) → Type 0) → Type 0
-OfTwo is_dirty old new told failed done =
-    OfImage is_dirty old told failed (λ unread unread_left between between_failed.
-    OfImage is_dirty new between between_failed (λ other other_left warned warned_failed.
-    done unread unread_left other other_left warned warned_failed))
-
--- two trees were compared, and are the same: that was written behind what is written of no difference
-abbrev pub AreSame : (old old_left new new_left before after : Option (List ℕ)) → Type 0
-AreSame old old_left new new_left before after =
-    (written : Option (List ℕ)) × Differs old old_left new new_left true before written × Appends written after (codes "same\n")
-
--- they are the same, and a write of that failed
-abbrev pub AreSameCut : (old old_left new new_left before after : Option (List ℕ)) → Type 0
-AreSameCut old old_left new new_left before after =
-    (written : Option (List ℕ)) × Differs old old_left new new_left true before written × IsCutShort (codes "same\n") written after
-
--- they were compared, and aren't the same: how they differ was written
-abbrev pub AreOther : (old old_left new new_left before after : Option (List ℕ)) → Type 0
-AreOther old old_left new new_left before after = Differs old old_left new new_left false before after
-
--- two files were compared, are the same or not, and nothing else was told
-abbrev pub Compares : (is_dirty : Bool) → (old new : List ℕ) → (told told_after : Option (List ℕ)) → (failed : Option ℕ) →
-    ((old old_left new new_left : Option (List ℕ)) → Type 0) → Type 0
-Compares is_dirty old new told told_after failed done =
-    OfTwo is_dirty old new told failed (λ unread unread_left other other_left warned warned_failed.
-    done unread unread_left other other_left × (told_after ≡ warned))
-
 -- a key of an image's tree was written in a form of text
 abbrev pub WritesAs : Form → (unread left : Option (List ℕ)) → (path : List ℕ) → (before after : Option (List ℕ)) → Type 0
 WritesAs (Reg is_utf8) unread left path before after = Exports unread left path is_utf8 before after
@@ -266,39 +154,22 @@ ChangesFile edit change before after =
     × Tells (edit.dry_run && edited.is_changed) (line_of change) before after)
 
 -- why a key wasn't listed, or not to the end
-abbrev pub StopsListing : (is_look : Bool) → (path : List ℕ) → (is_tree : Bool) → (before after : Option (List ℕ)) →
+abbrev pub StopsListing : Columns → (is_tree is_whole : Bool) → (path : List ℕ) → (before after : Option (List ℕ)) →
     (cut : Bool) → (unread left : Option (List ℕ)) → Type 0
-StopsListing is_look path is_tree before after cut unread left =
-    (fault : QueryFault) × (cut ≡ is_query_cut fault) × ListEnds is_look fault unread left path is_tree before after
+StopsListing columns is_tree is_whole path before after cut unread left =
+    (fault : QueryFault) × (cut ≡ is_query_cut fault) × ListingEnds fault columns is_tree is_whole path unread left before after
 
 -- why a value wasn't written
-abbrev pub StopsGetting : (is_look : Bool) → (path name : List ℕ) → (is_raw : Bool) → (before after : Option (List ℕ)) →
+abbrev pub StopsGetting : DataForm → (is_whole : Bool) → (path name : List ℕ) → (before after : Option (List ℕ)) →
     (cut : Bool) → (unread left : Option (List ℕ)) → Type 0
-StopsGetting is_look path name is_raw before after cut unread left =
-    (fault : QueryFault) × (cut ≡ is_query_cut fault) × GetEnds is_look fault unread left path name is_raw before after
+StopsGetting form is_whole path name before after cut unread left =
+    (fault : QueryFault) × (cut ≡ is_query_cut fault) × GettingEnds form fault is_whole path name unread left before after
 
 -- why a search wasn't made, or not to the end
 abbrev pub StopsFinding : (pattern : List ℕ) → (ignores_case : Bool) → Scope → (before after : Option (List ℕ)) →
     (cut : Bool) → (unread left : Option (List ℕ)) → Type 0
 StopsFinding pattern ignores_case scope before after cut unread left =
     (fault : FindFault) × (cut ≡ is_find_cut fault) × FindStops fault unread left pattern ignores_case scope before after
-
--- why it wasn't written how two trees differ, or that they are the same, or not to the end: what ended it; or a write that they are the same
-abbrev pub StopsDiffing : (before after : Option (List ℕ)) → (cut : Bool) → (old old_left new new_left : Option (List ℕ)) → Type 0
-StopsDiffing before after cut old old_left new new_left =
-    ((fault : DiffFault) × (cut ≡ is_diff_cut fault) × DiffStops fault old old_left new new_left before after)
-    ⊎ ((cut ≡ true) × AreSameCut old old_left new new_left before after)
-
--- two files weren't compared, or not to the end: one of them wasn't opened; or something ended it, and that was reported
-abbrev pub CompareFails : (is_dirty : Bool) → (old new : List ℕ) → (closed : Bool) → (before after told told_after : Option (List ℕ)) →
-    (failed now_failed : Option ℕ) → Type 0
-CompareFails is_dirty old new closed before after told told_after failed now_failed =
-    IsUnopened before after told told_after failed now_failed
-    ⊎ OfImage is_dirty old told failed (λ unread unread_left between between_failed.
-    IsUnopened before after between told_after between_failed now_failed)
-    ⊎ OfTwo is_dirty old new told failed (λ unread unread_left other other_left warned warned_failed.
-    (cut : Bool) × StopsDiffing before after cut unread unread_left other other_left
-    × IsReported (closed && cut) warned told_after warned_failed now_failed)
 
 -- what ended the writing of a key of an image's tree as a table
 abbrev pub TableEnds : (Tree → Path → List ℕ) → (path : List ℕ) → (before after : Option (List ℕ)) → (cut : Bool) → (unread left : Option (List ℕ)) → Type 0
@@ -333,10 +204,10 @@ StopsEditing edit keeps_going cut unread left before after =
     ⊎ ((cut ≡ false) × EditsFile edit keeps_going IsAny unread left before after)
 
 -- why an import didn't end well: what ended it on the hive in some file; or the entries were made, and saving was refused
-abbrev pub StopsImporting : EditRequest → (front : Option (List ℕ)) → (unread left : Option (List ℕ)) → Type 0
-StopsImporting edit front unread left =
+abbrev pub StopsImporting : EditRequest → (front : Option (List ℕ)) → (tells_all : Bool) → (unread left : Option (List ℕ)) → Type 0
+StopsImporting edit front tells_all unread left =
     ((fault : ImportEnd) × OfFile (λ file file_left. (begin : ℕ) × IsGiven edit.begin begin
-    × ImportEnds fault front begin file file_left unread left))
+    × ImportEnds fault front tells_all begin file file_left unread left))
     ⊎ Enters edit front unread left
 
 -- why a change didn't end well: it wasn't begun, or not made, or saving it was refused, and nothing was written; or its line wasn't, or not to
@@ -344,6 +215,12 @@ StopsImporting edit front unread left =
 abbrev pub StopsChanging : KeyChange → (cut : Bool) → (before after : Option (List ℕ)) → Type 0
 StopsChanging change cut before after =
     ((cut ≡ false) × (after ≡ before)) ⊎ ((cut ≡ true) × IsCutShort (line_of change) before after)
+
+-- a text of the tool's own wasn't written to its end, or not made, for want of memory, and that was reported
+abbrev pub TextFails : (List ℕ → Type 0) → (closed : Bool) → (before after told told_after : Option (List ℕ)) → (failed now_failed : Option ℕ) → Type 0
+TextFails is_text closed before after told told_after failed now_failed =
+    ((after ≡ before) × IsReported false told told_after failed now_failed)
+    ⊎ ((text : List ℕ) × is_text text × IsCutShort text before after × IsReported closed told told_after failed now_failed)
 
 -- the tool's version, and the kit's
 abbrev pub version_text : List ℕ
@@ -359,28 +236,34 @@ Serves (Dump hive) unread left before after told told_after failed =
 Serves (Check files is_dirty) unread left before after told told_after failed =
     (left ≡ unread) × ((closed : Bool) × (now_failed : Option ℕ)
     × ChecksFiles is_dirty (map (λ file. file.now) files.items) 0 closed before after told told_after failed now_failed)
-Serves (Listing hive path is_tree is_whole) unread left before after told told_after failed =
+Serves (Listing hive path is_tree is_whole columns) unread left before after told told_after failed =
     (left ≡ unread) × Looks hive.is_dirty hive.file.now told told_after failed (λ image image_left.
-    Lists (is_look (is_tree || is_whole) path.items) image image_left path.items is_tree before after)
-Serves (Get hive path name is_raw is_whole) unread left before after told told_after failed =
+    ListsKey columns is_tree is_whole path.items image image_left before after)
+Serves (Get hive path name form is_whole) unread left before after told told_after failed =
     (left ≡ unread) × Looks hive.is_dirty hive.file.now told told_after failed (λ image image_left.
-    Gets (is_look is_whole path.items) image image_left path.items name.items is_raw before after)
+    GetsAs form is_whole path.items name.items image image_left before after)
 Serves (Find hive pattern ignores_case places) unread left before after told told_after failed =
     (left ≡ unread) × Looks hive.is_dirty hive.file.now told told_after failed (λ image image_left.
     Finds image image_left pattern.now ignores_case (scope_of places) true before after)
-Serves (Diff old new is_dirty) unread left before after told told_after failed =
+Serves (Diff old new is_dirty form) unread left before after told told_after failed =
     (left ≡ unread) × Compares is_dirty old.now new.now told told_after failed (λ one one_left other other_left.
-    AreSame one one_left other other_left before after)
+    AreSame form one one_left other other_left before after)
 Serves (Export hive path form) unread left before after told told_after failed =
     (left ≡ unread) × Looks hive.is_dirty hive.file.now told told_after failed (λ image image_left.
     WritesAs form image image_left path.items before after)
+Serves (Timeline files is_dirty from to form) unread left before after told told_after failed =
+    (left ≡ unread) × TellsTimes is_dirty (map (λ file. file.now) files.items) from to form before after told told_after failed
 Serves (New file name) unread left before after told told_after failed = IsUntouched unread left before after × (told_after ≡ told)
 Serves (Edit edit keeps_going) unread left before after told told_after failed =
     EditsFile edit keeps_going IsNone unread left before after × (told_after ≡ told)
-Serves (Import edit text prefix) unread left before after told told_after failed =
+Serves (Import edit text prefix tells_all) unread left before after told told_after failed =
     OfText (is_some text) unread left (Enters edit (option_copied prefix)) × (after ≡ before) × (told_after ≡ told)
 Serves (Change edit change) unread left before after told told_after failed =
     (left ≡ unread) × ChangesFile edit change before after × (told_after ≡ told)
+Serves Manual unread left before after told told_after failed =
+    (left ≡ unread) × ((page : List ℕ) × IsManual page × Appends before after page) × (told_after ≡ told)
+Serves (Completions shell) unread left before after told told_after failed =
+    (left ≡ unread) × ((script : List ℕ) × AreCompletions shell script × Appends before after script) × (told_after ≡ told)
 Serves Version unread left before after told told_after failed =
     (left ≡ unread) × Appends before after version_text × (told_after ≡ told)
 
@@ -394,25 +277,27 @@ Fails (Dump hive) closed unread left before after told told_after failed now_fai
     (left ≡ unread) × DumpStops hive.is_dirty hive.file.now closed before after told told_after failed now_failed
 Fails (Check files is_dirty) closed unread left before after told told_after failed now_failed =
     (left ≡ unread) × ChecksFiles is_dirty (map (λ file. file.now) files.items) 1 closed before after told told_after failed now_failed
-Fails (Diff old new is_dirty) closed unread left before after told told_after failed now_failed =
+Fails (Diff old new is_dirty form) closed unread left before after told told_after failed now_failed =
     (left ≡ unread) × (Compares is_dirty old.now new.now told told_after failed (λ one one_left other other_left.
-    AreOther one one_left other other_left before after)
-    ⊎ CompareFails is_dirty old.now new.now closed before after told told_after failed now_failed)
+    AreOther form one one_left other other_left before after)
+    ⊎ CompareFails form is_dirty old.now new.now closed before after told told_after failed now_failed)
+Fails (Timeline files is_dirty from to form) closed unread left before after told told_after failed now_failed =
+    (left ≡ unread) × TimesFail is_dirty (map (λ file. file.now) files.items) from to form closed before after told told_after failed now_failed
 Fails (New file name) closed unread left before after told told_after failed now_failed =
     IsUntouched unread left before after × IsReported false told told_after failed now_failed
 Fails (Edit edit keeps_going) closed unread left before after told told_after failed now_failed =
     (cut : Bool) × StopsEditing edit keeps_going cut unread left before after × IsReported (closed && cut) told told_after failed now_failed
-Fails (Import edit text prefix) closed unread left before after told told_after failed now_failed =
-    ((left ≡ unread) ⊎ OfText (is_some text) unread left (StopsImporting edit (option_copied prefix)))
+Fails (Import edit text prefix tells_all) closed unread left before after told told_after failed now_failed =
+    ((left ≡ unread) ⊎ OfText (is_some text) unread left (StopsImporting edit (option_copied prefix) tells_all))
     × (after ≡ before) × IsReported false told told_after failed now_failed
 Fails (Change edit change) closed unread left before after told told_after failed now_failed =
     (left ≡ unread) × ((cut : Bool) × StopsChanging change cut before after × IsReported (closed && cut) told told_after failed now_failed)
-Fails (Listing hive path is_tree is_whole) closed unread left before after told told_after failed now_failed =
+Fails (Listing hive path is_tree is_whole columns) closed unread left before after told told_after failed now_failed =
     (left ≡ unread) × LookFails hive.is_dirty hive.file.now closed before after told told_after failed now_failed
-    (StopsListing (is_look (is_tree || is_whole) path.items) path.items is_tree before after)
-Fails (Get hive path name is_raw is_whole) closed unread left before after told told_after failed now_failed =
+    (StopsListing columns is_tree is_whole path.items before after)
+Fails (Get hive path name form is_whole) closed unread left before after told told_after failed now_failed =
     (left ≡ unread) × LookFails hive.is_dirty hive.file.now closed before after told told_after failed now_failed
-    (StopsGetting (is_look is_whole path.items) path.items name.items is_raw before after)
+    (StopsGetting form is_whole path.items name.items before after)
 Fails (Find hive pattern ignores_case places) closed unread left before after told told_after failed now_failed =
     (left ≡ unread) × (Looks hive.is_dirty hive.file.now told told_after failed (λ image image_left.
     Finds image image_left pattern.now ignores_case (scope_of places) false before after)
@@ -421,6 +306,10 @@ Fails (Find hive pattern ignores_case places) closed unread left before after to
 Fails (Export hive path form) closed unread left before after told told_after failed now_failed =
     (left ≡ unread) × LookFails hive.is_dirty hive.file.now closed before after told told_after failed now_failed
     (WriteStops form path.items before after)
+Fails Manual closed unread left before after told told_after failed now_failed =
+    (left ≡ unread) × TextFails IsManual closed before after told told_after failed now_failed
+Fails (Completions shell) closed unread left before after told told_after failed now_failed =
+    (left ≡ unread) × TextFails (AreCompletions shell) closed before after told told_after failed now_failed
 Fails Version closed unread left before after told told_after failed now_failed =
     (left ≡ unread) × IsCutShort version_text before after × IsReported closed told told_after failed now_failed
 

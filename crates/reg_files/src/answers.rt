@@ -3,19 +3,25 @@
 ghost use Rattle.std.specs.Prelude.{◌≡◌, ◌≤◌, ℕ, Bool, List, Option, option_copied};
 ghost use Rattle.reg_words.specs.declared.request.Request.{Request};
 ghost use Rattle.reg_files.specs.Internal.Fronts.{bytes_of};
-ghost use Rattle.reg_files.specs.Internal.Outcomes.{Outcome, IsSameBehind, IsOtherBehind};
+ghost use Rattle.reg_files.specs.Internal.Outcomes.{Outcome, IsSameBehind, IsOtherBehind, IsTextTold, TextStops};
 
 use crate::commands::{change_file, edit_file, import_text, new_file};
 use crate::device::Output;
+use crate::differing::diff_images;
+use crate::fault::Fault;
 use crate::images::{Image, open_image};
 use crate::locks::Lockable;
-use crate::queries::{diff_images, export_key, find_in, get_value, list_key};
+use crate::queries::{export_key, find_in, get_value, list_key};
 use crate::reports::{settle, settle_diff, settle_find, settle_import, settle_save};
 use crate::streams::{check_files, dump_file, write_text};
+use crate::timelines::tell_timeline;
 use reg_command::serve_stream;
 use reg_text::Sink;
-use reg_words::{EditRequest, Form, HiveFile, KeyChange, Places, Request, StreamRequest};
-use std::alloc::Global;
+use reg_words::{
+    Columns, DataForm, DiffForm, EditRequest, Form, HiveFile, KeyChange, Places, Request, Shell,
+    StreamRequest, TimelineForm, completions, manual,
+};
+use std::alloc::{AllocError, Global};
 use std::io::Read;
 use std::rt::{Clock, Files};
 use std::sync::Wait;
@@ -89,10 +95,11 @@ fn list_asked<H: Files, W: Output, E: Sink>(
     path: Vec<u8>,
     is_tree: bool,
     is_whole: bool,
+    columns: Columns,
     output: &mut W,
     errors: &mut E,
 ) -> u8
-    ensures { (unread : Option (List ℕ)) → Outcome (Request.Listing hive.entry path is_tree is_whole) result (W.closed output.new) unread unread
+    ensures { (unread : Option (List ℕ)) → Outcome (Request.Listing hive.entry path is_tree is_whole columns) result (W.closed output.new) unread unread
         (W.contents output.old) (W.contents output.new)
         (E.contents errors.old) (E.contents errors.new) (E.failures errors.old) (E.failures errors.new) }
 {
@@ -104,6 +111,7 @@ fn list_asked<H: Files, W: Output, E: Sink>(
                 path.as_slice(),
                 is_tree,
                 is_whole,
+                columns,
                 output,
             );
             settle(alloc, errors, hive.file, output.is_closed(), done)
@@ -119,12 +127,12 @@ fn get_asked<H: Files, W: Output, E: Sink>(
     hive: HiveFile<'_>,
     path: Vec<u8>,
     name: Vec<u8>,
-    is_raw: bool,
+    form: DataForm,
     is_whole: bool,
     output: &mut W,
     errors: &mut E,
 ) -> u8
-    ensures { (unread : Option (List ℕ)) → Outcome (Request.Get hive.entry path name is_raw is_whole) result (W.closed output.new) unread unread
+    ensures { (unread : Option (List ℕ)) → Outcome (Request.Get hive.entry path name form is_whole) result (W.closed output.new) unread unread
         (W.contents output.old) (W.contents output.new)
         (E.contents errors.old) (E.contents errors.new) (E.failures errors.old) (E.failures errors.new) }
 {
@@ -135,7 +143,7 @@ fn get_asked<H: Files, W: Output, E: Sink>(
                 &mut image,
                 path.as_slice(),
                 name.as_slice(),
-                is_raw,
+                form,
                 is_whole,
                 output,
             );
@@ -199,19 +207,20 @@ fn diff_behind<H: Files, W: Output, E: Sink>(
     old: &str,
     image: &mut Image<H::File>,
     new: HiveFile<'_>,
+    form: &DiffForm,
     output: &mut W,
     errors: &mut E,
 ) -> u8
     ensures status { result ≤ 1 }
-    ensures same { result ≡ 0 → IsSameBehind new.entry (bytes_of H.File.remaining image.old) (bytes_of H.File.remaining image.new)
+    ensures same { result ≡ 0 → IsSameBehind form.now new.entry (bytes_of H.File.remaining image.old) (bytes_of H.File.remaining image.new)
         (W.contents output.old) (W.contents output.new) (E.contents errors.old) (E.contents errors.new) (E.failures errors.old) }
-    ensures other { result ≡ 1 → IsOtherBehind new.entry (W.closed output.new) (bytes_of H.File.remaining image.old) (bytes_of H.File.remaining image.new)
+    ensures other { result ≡ 1 → IsOtherBehind form.now new.entry (W.closed output.new) (bytes_of H.File.remaining image.old) (bytes_of H.File.remaining image.new)
         (W.contents output.old) (W.contents output.new)
         (E.contents errors.old) (E.contents errors.new) (E.failures errors.old) (E.failures errors.new) }
 {
     match open_image(alloc, host, new.file, new.is_dirty, errors) {
         Ok(mut other) => {
-            let done = diff_images(alloc, image, &mut other, output);
+            let done = diff_images(alloc, image, &mut other, form, output);
             settle_diff(alloc, errors, old, new.file, output.is_closed(), done)
         }
         Err(fault) => settle(alloc, errors, new.file, false, Err(fault)),
@@ -225,10 +234,11 @@ fn diff_asked<H: Files, W: Output, E: Sink>(
     old: &str,
     new: &str,
     is_dirty: bool,
+    form: DiffForm,
     output: &mut W,
     errors: &mut E,
 ) -> u8
-    ensures { (unread : Option (List ℕ)) → Outcome (Request.Diff old.entry new.entry is_dirty) result (W.closed output.new) unread unread
+    ensures { (unread : Option (List ℕ)) → Outcome (Request.Diff old.entry new.entry is_dirty form) result (W.closed output.new) unread unread
         (W.contents output.old) (W.contents output.new)
         (E.contents errors.old) (E.contents errors.new) (E.failures errors.old) (E.failures errors.new) }
 {
@@ -237,7 +247,7 @@ fn diff_asked<H: Files, W: Output, E: Sink>(
         is_dirty,
     };
     match open_image(alloc, host, old, is_dirty, errors) {
-        Ok(mut image) => diff_behind(alloc, host, old, &mut image, behind, output, errors),
+        Ok(mut image) => diff_behind(alloc, host, old, &mut image, behind, &form, output, errors),
         Err(fault) => settle(alloc, errors, old, false, Err(fault)),
     }
 }
@@ -284,16 +294,17 @@ fn import_asked<H: Files + Clock, R: Read, E: Sink>(
     edit: EditRequest<'_>,
     text: Option<&str>,
     prefix: Option<&str>,
+    tells_all: bool,
     input: &mut R,
     errors: &mut E,
 ) -> u8
 where
     H::File: Lockable,
-    ensures { (closed : Bool) → (before : Option (List ℕ)) → Outcome (Request.Import edit.entry text.entry prefix.entry) result closed
+    ensures { (closed : Bool) → (before : Option (List ℕ)) → Outcome (Request.Import edit.entry text.entry prefix.entry tells_all) result closed
         (R.remaining input.old) (R.remaining input.new) before before (E.contents errors.old) (E.contents errors.new)
         (E.failures errors.old) (E.failures errors.new) }
 {
-    let done = import_text(alloc, host, edit, text, front_of(prefix), input);
+    let done = import_text(alloc, host, edit, text, front_of(prefix), tells_all, input);
     settle_import(alloc, errors, &edit, text, done)
 }
 
@@ -314,6 +325,79 @@ where
 {
     let done = change_file(alloc, host, edit, change, output);
     settle_save(alloc, errors, &edit, output.is_closed(), done)
+}
+
+/// `timeline`.
+fn timeline_asked<H: Files, W: Output, E: Sink>(
+    alloc: Global,
+    host: &H,
+    files: Vec<&str>,
+    is_dirty: bool,
+    from: u64,
+    to: u64,
+    form: TimelineForm,
+    output: &mut W,
+    errors: &mut E,
+) -> u8
+    ensures { (unread : Option (List ℕ)) → Outcome (Request.Timeline files.entry is_dirty from to form) result (W.closed output.new) unread unread
+        (W.contents output.old) (W.contents output.new)
+        (E.contents errors.old) (E.contents errors.new) (E.failures errors.old) (E.failures errors.new) }
+{
+    tell_timeline(
+        alloc,
+        host,
+        files.as_slice(),
+        is_dirty,
+        from,
+        to,
+        form,
+        output,
+        errors,
+    )
+}
+
+/// A text of the tool's own, written.
+fn tell_text<W: Output, E: Sink>(
+    alloc: Global,
+    text: Result<String, AllocError>,
+    output: &mut W,
+    errors: &mut E,
+) -> u8
+    ensures status { result ≤ 1 }
+    ensures told { result ≡ 0 → IsTextTold text (W.contents output.old) (W.contents output.new) × (E.contents errors.new ≡ E.contents errors.old) }
+    ensures stops { result ≡ 1 → TextStops text (W.closed output.new) (W.contents output.old) (W.contents output.new) (E.contents errors.old)
+        (E.contents errors.new) (E.failures errors.old) (E.failures errors.new) }
+{
+    match text {
+        Ok(text) => {
+            let done = write_text(text.as_bytes(), output);
+            settle(alloc, errors, "", output.is_closed(), done)
+        }
+        Err(fault) => settle(alloc, errors, "", false, Err(Fault::from(fault))),
+    }
+}
+
+/// `manual`.
+fn manual_asked<W: Output, E: Sink>(alloc: Global, output: &mut W, errors: &mut E) -> u8
+    ensures { (unread : Option (List ℕ)) → Outcome Request.Manual result (W.closed output.new) unread unread
+        (W.contents output.old) (W.contents output.new)
+        (E.contents errors.old) (E.contents errors.new) (E.failures errors.old) (E.failures errors.new) }
+{
+    tell_text(alloc, manual(alloc), output, errors)
+}
+
+/// `completions`.
+fn completions_asked<W: Output, E: Sink>(
+    alloc: Global,
+    shell: Shell,
+    output: &mut W,
+    errors: &mut E,
+) -> u8
+    ensures { (unread : Option (List ℕ)) → Outcome (Request.Completions shell) result (W.closed output.new) unread unread
+        (W.contents output.old) (W.contents output.new)
+        (E.contents errors.old) (E.contents errors.new) (E.failures errors.old) (E.failures errors.new) }
+{
+    tell_text(alloc, completions(alloc, shell), output, errors)
 }
 
 /// `version`.
@@ -353,15 +437,18 @@ where
             path,
             is_tree,
             is_whole,
-        } => list_asked(alloc, host, hive, path, is_tree, is_whole, output, errors),
+            columns,
+        } => list_asked(
+            alloc, host, hive, path, is_tree, is_whole, columns, output, errors,
+        ),
         Request::Get {
             hive,
             path,
             name,
-            is_raw,
+            form,
             is_whole,
         } => get_asked(
-            alloc, host, hive, path, name, is_raw, is_whole, output, errors,
+            alloc, host, hive, path, name, form, is_whole, output, errors,
         ),
         Request::Find {
             hive,
@@ -378,22 +465,37 @@ where
             output,
             errors,
         ),
-        Request::Diff { old, new, is_dirty } => {
-            diff_asked(alloc, host, old, new, is_dirty, output, errors)
-        }
+        Request::Diff {
+            old,
+            new,
+            is_dirty,
+            form,
+        } => diff_asked(alloc, host, old, new, is_dirty, form, output, errors),
         Request::Export { hive, path, form } => {
             export_asked(alloc, host, hive, path, form, output, errors)
         }
+        Request::Timeline {
+            files,
+            is_dirty,
+            from,
+            to,
+            form,
+        } => timeline_asked(alloc, host, files, is_dirty, from, to, form, output, errors),
         Request::New { file, name } => new_asked(alloc, host, file, name, errors),
         Request::Edit { edit, keeps_going } => {
             edit_asked(alloc, host, edit, keeps_going, input, output, errors)
         }
-        Request::Import { edit, text, prefix } => {
-            import_asked(alloc, host, edit, text, prefix, input, errors)
-        }
+        Request::Import {
+            edit,
+            text,
+            prefix,
+            tells_all,
+        } => import_asked(alloc, host, edit, text, prefix, tells_all, input, errors),
         Request::Change { edit, change } => {
             change_asked(alloc, host, edit, change, output, errors)
         }
+        Request::Manual => manual_asked(alloc, output, errors),
+        Request::Completions(shell) => completions_asked(alloc, shell, output, errors),
         Request::Version => version_asked(alloc, output, errors),
     }
 }

@@ -6,12 +6,13 @@ ghost use Rattle.reg_tree_image.specs.FreeBytes.{are_sparse};
 ghost use Rattle.reg_files.specs.Saves.{is_saved, IsToSave, IsToMake, IsNotRebuilt};
 ghost use Rattle.reg_words.specs.ChangeLines.{told as told_of};
 ghost use Rattle.reg_files.specs.Serving.{IsGiven, IsNone, OfFile, OfText, EditsFile, StopsEditing, Enters, StopsImporting};
-ghost use Rattle.reg_files.specs.Serving.{IsCutShort, Tells, ChangesFile, StopsChanging};
+ghost use Rattle.reg_files.specs.Looking.{IsCutShort};
+ghost use Rattle.reg_files.specs.Serving.{Tells, ChangesFile, StopsChanging};
 ghost use Rattle.reg_files.specs.Internal.Cuts.{is_save_end_cut};
 
 use crate::device::Device;
-use crate::fault::{Fault, SaveEnd, Step, taken};
-use crate::locks::{Lockable, open_locked, real_path};
+use crate::fault::{Fault, SaveEnd, Step, import_fault, taken};
+use crate::locks::{Lockable, open_waiting, real_path};
 use crate::moments::moment_at;
 use crate::saved::{Saved, SavedTree, tree_to_save};
 use crate::saving::{create, replace};
@@ -94,7 +95,7 @@ struct Opened<F> {
 }
 
 /// Opens the file of a command that saves, with leave to write where it is saved in its place, and takes its lock.
-fn open_for<H: Files>(
+fn open_for<H: Files + Clock>(
     alloc: Global,
     host: &H,
     request: EditRequest<'_>,
@@ -104,7 +105,7 @@ where
 {
     let path = real_path(alloc, host, request.file)?;
     let saves_here = request.output.is_none() && !request.dry_run;
-    let file = open_locked(host, path.as_str(), saves_here)?;
+    let file = open_waiting(host, path.as_str(), saves_here, request.wait)?;
     Ok(Opened {
         path,
         file: Device::new(file),
@@ -128,8 +129,8 @@ where
     ensures err { IfErr result (λ end. StopsEditing request.entry keeps_going (is_save_end_cut end) (R.remaining input.old) (R.remaining input.new)
         (W.contents output.old) (W.contents output.new)) }
 {
-    let begin = begin_at(host, request.begin)?;
     let mut opened = open_for(alloc, host, request)?;
+    let begin = begin_at(host, request.begin)?;
     let edited = match edit(alloc, &mut opened.file, begin, keeps_going, input, output) {
         Ok(edited) => edited,
         Err(fault) => {
@@ -150,20 +151,21 @@ fn import_from<H: Files + Clock, R: Read>(
     host: &H,
     request: EditRequest<'_>,
     front: Option<&[u8]>,
+    tells_all: bool,
     input: &mut R,
 ) -> Result<(), SaveEnd>
 where
     H::File: Lockable,
     ensures ok { OnOk result (Enters request.entry (option_copied front.entry) (R.remaining input.old) (R.remaining input.new)) }
     ensures err { OnErr result ((R.remaining input.new ≡ R.remaining input.old)
-        ⊎ StopsImporting request.entry (option_copied front.entry) (R.remaining input.old) (R.remaining input.new)) }
+        ⊎ StopsImporting request.entry (option_copied front.entry) tells_all (R.remaining input.old) (R.remaining input.new)) }
 {
-    let begin = begin_at(host, request.begin)?;
     let mut opened = open_for(alloc, host, request)?;
-    let imported = match import(alloc, &mut opened.file, front, begin, input) {
+    let begin = begin_at(host, request.begin)?;
+    let imported = match import(alloc, &mut opened.file, front, tells_all, begin, input) {
         Ok(imported) => imported,
         Err(fault) => {
-            let fault = Fault::from(fault).of_file(&mut opened.file);
+            let fault = import_fault(fault, front.is_some()).of_file(&mut opened.file);
             return Err(SaveEnd::Hive(fault));
         }
     };
@@ -178,13 +180,14 @@ fn import_file<H: Files + Clock>(
     request: EditRequest<'_>,
     text: &str,
     front: Option<&[u8]>,
+    tells_all: bool,
 ) -> Result<(), SaveEnd>
 where
     H::File: Lockable,
     ensures { OnOk result (OfFile (Enters request.entry (option_copied front.entry))) }
 {
     match taken(Step::Open, File::open(host, text)) {
-        Ok(mut input) => import_from(alloc, host, request, front, &mut input),
+        Ok(mut input) => import_from(alloc, host, request, front, tells_all, &mut input),
         Err(fault) => Err(SaveEnd::Text(fault)),
     }
 }
@@ -196,17 +199,18 @@ pub fn import_text<H: Files + Clock, R: Read>(
     request: EditRequest<'_>,
     text: Option<&str>,
     front: Option<&[u8]>,
+    tells_all: bool,
     input: &mut R,
 ) -> Result<(), SaveEnd>
 where
     H::File: Lockable,
     ensures ok { OnOk result (OfText (is_some text.entry) (R.remaining input.old) (R.remaining input.new) (Enters request.entry (option_copied front.entry))) }
     ensures err { OnErr result ((R.remaining input.new ≡ R.remaining input.old)
-        ⊎ OfText (is_some text.entry) (R.remaining input.old) (R.remaining input.new) (StopsImporting request.entry (option_copied front.entry))) }
+        ⊎ OfText (is_some text.entry) (R.remaining input.old) (R.remaining input.new) (StopsImporting request.entry (option_copied front.entry) tells_all)) }
 {
     match text {
-        Some(text) => import_file(alloc, host, request, text, front),
-        None => import_from(alloc, host, request, front, input),
+        Some(text) => import_file(alloc, host, request, text, front, tells_all),
+        None => import_from(alloc, host, request, front, tells_all, input),
     }
 }
 
@@ -250,8 +254,8 @@ where
     ensures err { IfErr result (λ end. StopsChanging asked (is_save_end_cut end) (W.contents output.old) (W.contents output.new)) }
 {
     let line = line_of(alloc, &asked)?;
-    let begin = begin_at(host, request.begin)?;
     let mut opened = open_for(alloc, host, request)?;
+    let begin = begin_at(host, request.begin)?;
     let changed = match change(alloc, &mut opened.file, begin, asked) {
         Ok(changed) => changed,
         Err(fault) => {

@@ -4,7 +4,7 @@ ghost use Rattle.std.specs.Prelude.{◌≡◌, ◌≢◌, false, Ok, IfErr, IsEr
 ghost use Rattle.std.specs.IoError.{error_kind};
 ghost use Rattle.std.specs.declared.io.ErrorKind.TheVariants.{OutOfMemory};
 ghost use Rattle.reg_files.specs.Saves.{is_of_saving};
-ghost use Rattle.reg_files.specs.Cuts.{is_dump_cut, is_path_cut, is_query_cut, is_find_cut, is_diff_cut, is_end_cut, is_edit_cut};
+ghost use Rattle.reg_files.specs.Cuts.{is_dump_cut, is_path_cut, is_query_cut, is_find_cut, is_diff_cut, is_export_cut, is_end_cut, is_changes_cut, is_edit_cut};
 ghost use Rattle.reg_files.specs.Internal.Cuts.{is_cut, is_diff_end_cut, IsOfStep};
 
 use crate::device::Device;
@@ -12,9 +12,9 @@ use crate::images::Image;
 use reg_dotreg_import::ImportFault;
 use reg_dotreg_reader::ReadFault;
 use reg_dotreg_writer::ExportFault;
-use reg_edits::{ChangeEnd, EditFault, FreshFault, Hindrance, ImportEnd};
+use reg_edits::{BadText, ChangeEnd, EditFault, FreshFault, Hindrance, ImportEnd};
 use reg_find::PatternFault;
-use reg_queries::{DiffFault, ExportEnd, FindFault, QueryFault};
+use reg_queries::{ChangesEnd, DiffFault, ExportEnd, FindFault, QueryFault};
 use reg_script::{FailedLine, ScriptFault};
 use reg_tree_image::LoadFault;
 use reg_tree_text::{DumpFault, PathFault};
@@ -137,6 +137,9 @@ pub enum Fault {
     /// A text isn't read.
     #[error("{0}")]
     Text(ReadFault),
+    /// Lines of a text aren't understood, of keys below the root's name, or below a front that was given for it.
+    #[error("lines aren't understood")]
+    Lines { bad: BadText, is_front: bool },
     /// The entry of a line of a text was refused, with this status.
     #[error("refused with status {status}")]
     Refused { line: u64, status: u32 },
@@ -210,32 +213,40 @@ impl From<FindFault> for Fault {
     }
 }
 
+impl From<ExportFault> for Fault {
+    ghost from_gives = { λ fault made. is_cut made ≡ is_export_cut fault };
+
+    fn from(fault: ExportFault) -> Fault {
+        match fault {
+            ExportFault::NoKey => Fault::NoKey,
+            ExportFault::Name(key) => Fault::LineBreak(key),
+            ExportFault::Stopped(fault) => Fault::from(fault),
+        }
+    }
+}
+
 impl From<ExportEnd> for Fault {
     ghost from_gives = { λ fault made. is_cut made ≡ is_end_cut fault };
 
     fn from(fault: ExportEnd) -> Fault {
         match fault {
             ExportEnd::Load(fault) => Fault::Load(fault),
-            ExportEnd::Export(ExportFault::NoKey) => Fault::NoKey,
-            ExportEnd::Export(ExportFault::Name(key)) => Fault::LineBreak(key),
-            ExportEnd::Export(ExportFault::Stopped(fault)) => Fault::from(fault),
+            ExportEnd::Export(fault) => Fault::from(fault),
         }
     }
 }
 
-impl From<ImportEnd> for Fault {
-    fn from(fault: ImportEnd) -> Fault {
-        match fault {
-            ImportEnd::Load(fault) => Fault::Load(fault),
-            ImportEnd::Input(error) if error.kind() == ErrorKind::OutOfMemory => Fault::Memory,
-            ImportEnd::Input(error) => Fault::Input(error),
-            ImportEnd::Text(ReadFault::Memory) => Fault::Memory,
-            ImportEnd::Text(fault) => Fault::Text(fault),
-            ImportEnd::Entry(ImportFault::Refused { line, status }) => {
-                Fault::Refused { line, status }
-            }
-            ImportEnd::Entry(ImportFault::Memory) | ImportEnd::Memory => Fault::Memory,
-        }
+/// What ended an import of a text whose keys stand below the root's name, or below a front that was given for it.
+pub fn import_fault(end: ImportEnd, is_front: bool) -> Fault {
+    match end {
+        ImportEnd::Load(fault) => Fault::Load(fault),
+        ImportEnd::Input(error) if error.kind() == ErrorKind::OutOfMemory => Fault::Memory,
+        ImportEnd::Input(error) => Fault::Input(error),
+        ImportEnd::Text(ReadFault::Memory) => Fault::Memory,
+        ImportEnd::Text(fault) => Fault::Text(fault),
+        ImportEnd::Lines(bad) => Fault::Lines { bad, is_front },
+        ImportEnd::Entry(ImportFault::Refused { line, status }) => Fault::Refused { line, status },
+        ImportEnd::Entry(ImportFault::Memory) | ImportEnd::Memory => Fault::Memory,
     }
 }
 
@@ -280,7 +291,21 @@ impl From<DiffFault> for DiffEnd {
         match fault {
             DiffFault::Old(fault) => DiffEnd::Old(Fault::Load(fault)),
             DiffFault::New(fault) => DiffEnd::New(Fault::Load(fault)),
+            DiffFault::NoOldKey => DiffEnd::Old(Fault::NoKey),
+            DiffFault::NoNewKey => DiffEnd::New(Fault::NoKey),
             DiffFault::Stopped(fault) => DiffEnd::Old(Fault::from(fault)),
+        }
+    }
+}
+
+impl From<ChangesEnd> for DiffEnd {
+    ghost from_gives = { λ fault made. is_diff_end_cut made ≡ is_changes_cut fault };
+
+    fn from(fault: ChangesEnd) -> DiffEnd {
+        match fault {
+            ChangesEnd::Old(fault) => DiffEnd::Old(Fault::Load(fault)),
+            ChangesEnd::New(fault) => DiffEnd::New(Fault::Load(fault)),
+            ChangesEnd::Export(fault) => DiffEnd::New(Fault::from(fault)),
         }
     }
 }

@@ -5,7 +5,7 @@ ghost use Rattle.std.specs.Fmt.{option_append};
 ghost use Rattle.byteorder.specs.Endian.{little_bytes};
 ghost use Rattle.reg_heap.specs.ByteWords.{word, splice};
 ghost use Rattle.reg_files.specs.Mended.{summed, is_torn_block, mended_block};
-ghost use Rattle.reg_files.specs.Serving.{as_read, warning_of, Warns, IsOpened};
+ghost use Rattle.reg_files.specs.Looking.{as_read, warning_of, Warns, IsOpened};
 ghost use Rattle.reg_files.specs.Internal.Cuts.{is_cut};
 ghost use Rattle.reg_files.specs.Internal.Fronts.{AreBytesOf, IsFront, bytes_of, device_bytes};
 

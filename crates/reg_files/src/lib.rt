@@ -5,13 +5,14 @@
 //! touched, and of both options of `run` that is told. It stands on reg_words, which reads the words, on reg_command for the standard streams, on reg_queries and reg_edits, and on
 //! reg_tree_image, by which it saves. What is to be saved has clauses (`specs/Saves.antt`); what files hold no clause can say.
 //!
-//! `answers` answers a request, by `streams`, `queries` and `commands`; `images` opens what is looked into, `saved` is what is saved, `locks`
+//! `answers` answers a request, by `streams`, `queries`, `differing`, `timelines` and `commands`; `images` opens what is looked into, `saved` is what is saved, `locks`
 //! and `saving` have the steps on files, `device` keeps why one failed, and `reports` says it. Its types are [`Device`] and the bounds [`Output`] and [`Lockable`].
 #![tactic(auto)]
 
 mod answers;
 mod commands;
 mod device;
+mod differing;
 mod fault;
 mod images;
 mod locks;
@@ -21,6 +22,7 @@ mod reports;
 mod saved;
 mod saving;
 mod streams;
+mod timelines;
 
 ghost use Rattle.std.specs.Prelude.{◌≡◌, ◌≤◌, ◌⊎◌, codes};
 ghost use Rattle.reg_words.specs.CommandLines.{texts, HasBothOptions};

@@ -5,7 +5,8 @@ use std::alloc::Global;
 use std::fs;
 use std::fs::{File, Metadata, OpenFile, OpenOptions, TryLockError};
 use std::os::unix::fs::MetadataExt;
-use std::rt::Files;
+use std::rt::{Clock, Files};
+use std::time::Duration;
 
 /// An open file whose lock one holder at a time has.
 pub trait Lockable {
@@ -53,8 +54,33 @@ where
     }
 }
 
+/// How many milliseconds pass before a file that is busy is tried again.
+const NAP: u64 = 50;
+
+/// How often that is in a second.
+const TRIES: u64 = 20;
+
+/// Opens a file, with leave to write where it is to be saved, and takes its lock; where it is busy, it is tried again for so many seconds.
+pub fn open_waiting<H: Files + Clock>(
+    host: &H,
+    path: &str,
+    writes: bool,
+    seconds: u32,
+) -> Result<H::File, Fault>
+where
+    H::File: Lockable,
+{
+    for _nap in 0..u64::from(seconds) * TRIES {
+        match open_locked(host, path, writes) {
+            Err(Fault::Busy) => host.sleep(Duration::from_millis(NAP)),
+            opened => return opened,
+        }
+    }
+    open_locked(host, path, writes)
+}
+
 /// Opens a file, with leave to write where it is to be saved, and takes its lock.
-pub fn open_locked<H: Files>(host: &H, path: &str, writes: bool) -> Result<H::File, Fault>
+fn open_locked<H: Files>(host: &H, path: &str, writes: bool) -> Result<H::File, Fault>
 where
     H::File: Lockable,
 {

@@ -1,37 +1,72 @@
-//! The commands that only look into files.
+//! The commands that look into one file.
 
 ghost use Rattle.std.specs.Prelude.{◌≡◌, ◌≤◌, ◌||◌, ℕ, List, Option, false, IfOk, IfErr, OnOk};
-ghost use Rattle.reg_queries.specs.KeyQueries.{Lists};
-ghost use Rattle.reg_queries.specs.Queries.{is_look, Gets};
 ghost use Rattle.reg_queries.specs.Finds.{Finds};
-ghost use Rattle.reg_files.specs.Serving.{scope_of, AreSame, AreOther, WritesAs};
-ghost use Rattle.reg_files.specs.Serving.{StopsListing, StopsGetting, StopsFinding, StopsDiffing, WriteStops};
-ghost use Rattle.reg_files.specs.Internal.Cuts.{is_cut, is_diff_end_cut};
+ghost use Rattle.reg_files.specs.Detailed.{ListsKey, ListingEnds, GetsAs, GettingEnds, is_detailed as asks_for_more, table_columns as columns_asked};
+ghost use Rattle.reg_files.specs.Serving.{scope_of, WritesAs, StopsListing, StopsGetting, StopsFinding, WriteStops};
+ghost use Rattle.reg_files.specs.Internal.Cuts.{is_cut};
 ghost use Rattle.reg_files.specs.Internal.Fronts.{bytes_of};
 
 use crate::device::Device;
-use crate::fault::{DiffEnd, Fault, Step, taken};
+use crate::fault::{Fault, Step, taken};
 use crate::images::Image;
-use crate::streams::write_text;
 use reg_find::Scope;
 use reg_queries::{
-    diff, export, export_csv, export_html, export_json, export_jsonl, find, get, list,
+    QueryFault, export, export_csv, export_html, export_json, export_jsonl, find, get, get_typed,
+    list, list_long,
 };
 use reg_text::Source;
-use reg_words::{Form, Places};
+use reg_words::{Columns, DataForm, Form, Places};
 use std::alloc::Global;
 use std::fs::File;
 use std::io::{Read, Write};
 use std::rt::Files;
-
-/// What `diff` writes where two hives are the same.
-const SAME: &[u8] = b"same\n";
 
 /// Opens a file to be read.
 pub fn open<H: Files>(host: &H, file: &str) -> Result<Device<H::File>, Fault>
     ensures err { IfErr result (λ fault. is_cut fault ≡ false) }
 {
     Ok(Device::new(taken(Step::Open, File::open(host, file))?))
+}
+
+/// Whether a listing tells something beside names, or ends its lines otherwise.
+fn is_detailed(columns: Columns) -> bool
+    ensures { result ≡ asks_for_more columns }
+{
+    columns.data || columns.times || columns.securities || columns.ends_by_zero
+}
+
+/// What a listing tells, as reg_tables has it.
+fn table_columns(columns: Columns) -> reg_tables::Columns
+    ensures { result ≡ columns_asked columns }
+{
+    reg_tables::Columns {
+        is_long: columns.data,
+        has_times: columns.times,
+        has_securities: columns.securities,
+        ends_by_zero: columns.ends_by_zero,
+    }
+}
+
+/// Lists a key of an image's hive, by its path: in short, or with what is asked for beside names.
+fn list_as<R: Source, W: Write>(
+    alloc: Global,
+    image: &mut R,
+    path: &[u8],
+    is_tree: bool,
+    is_whole: bool,
+    columns: Columns,
+    output: &mut W,
+) -> Result<(), QueryFault>
+    ensures ok { OnOk result (ListsKey columns is_tree is_whole path.now (R.remaining image.old) (R.remaining image.new)
+        (W.contents output.old) (W.contents output.new)) }
+    ensures err { IfErr result (λ fault. ListingEnds fault columns is_tree is_whole path.now (R.remaining image.old) (R.remaining image.new)
+        (W.contents output.old) (W.contents output.new)) }
+{
+    if is_detailed(columns) {
+        return list_long(alloc, image, path, is_tree, table_columns(columns), output);
+    }
+    list(alloc, image, path, is_tree, is_whole, output)
 }
 
 /// Lists a key of a file's hive, by its path, with all below it or without; with `is_whole` the hive is loaded first.
@@ -41,16 +76,39 @@ pub fn list_key<F: Read, W: Write>(
     path: &[u8],
     is_tree: bool,
     is_whole: bool,
+    columns: Columns,
     output: &mut W,
 ) -> Result<(), Fault>
-    ensures ok { OnOk result (Lists (is_look (is_tree || is_whole) path.now) (bytes_of F.remaining image.old) (bytes_of F.remaining image.new)
-        path.now is_tree (W.contents output.old) (W.contents output.new)) }
-    ensures err { IfErr result (λ fault. (left : Option (List ℕ)) × StopsListing (is_look (is_tree || is_whole) path.now) path.now is_tree
+    ensures ok { OnOk result (ListsKey columns is_tree is_whole path.now (bytes_of F.remaining image.old) (bytes_of F.remaining image.new)
+        (W.contents output.old) (W.contents output.new)) }
+    ensures err { IfErr result (λ fault. (left : Option (List ℕ)) × StopsListing columns is_tree is_whole path.now
         (W.contents output.old) (W.contents output.new) (is_cut fault) (bytes_of F.remaining image.old) left) }
 {
-    match list(alloc, image, path, is_tree, is_whole, output) {
+    match list_as(alloc, image, path, is_tree, is_whole, columns, output) {
         Ok(()) => Ok(()),
         Err(fault) => Err(Fault::from(fault).of_image(image)),
+    }
+}
+
+/// Writes a value of an image's hive, by its key's path and its name, as it is asked for.
+fn get_as<R: Source, W: Write>(
+    alloc: Global,
+    image: &mut R,
+    path: &[u8],
+    name: &[u8],
+    form: DataForm,
+    is_whole: bool,
+    output: &mut W,
+) -> Result<(), QueryFault>
+    ensures ok { OnOk result (GetsAs form is_whole path.now name.now (R.remaining image.old) (R.remaining image.new)
+        (W.contents output.old) (W.contents output.new)) }
+    ensures err { IfErr result (λ fault. GettingEnds form fault is_whole path.now name.now (R.remaining image.old) (R.remaining image.new)
+        (W.contents output.old) (W.contents output.new)) }
+{
+    match form {
+        DataForm::Told => get(alloc, image, path, name, false, is_whole, output),
+        DataForm::Typed => get_typed(alloc, image, path, name, output),
+        DataForm::Raw => get(alloc, image, path, name, true, is_whole, output),
     }
 }
 
@@ -60,16 +118,16 @@ pub fn get_value<F: Read, W: Write>(
     image: &mut Image<F>,
     path: &[u8],
     name: &[u8],
-    is_raw: bool,
+    form: DataForm,
     is_whole: bool,
     output: &mut W,
 ) -> Result<(), Fault>
-    ensures ok { OnOk result (Gets (is_look is_whole path.now) (bytes_of F.remaining image.old) (bytes_of F.remaining image.new)
-        path.now name.now is_raw (W.contents output.old) (W.contents output.new)) }
-    ensures err { IfErr result (λ fault. (left : Option (List ℕ)) × StopsGetting (is_look is_whole path.now) path.now name.now is_raw
+    ensures ok { OnOk result (GetsAs form is_whole path.now name.now (bytes_of F.remaining image.old) (bytes_of F.remaining image.new)
+        (W.contents output.old) (W.contents output.new)) }
+    ensures err { IfErr result (λ fault. (left : Option (List ℕ)) × StopsGetting form is_whole path.now name.now
         (W.contents output.old) (W.contents output.new) (is_cut fault) (bytes_of F.remaining image.old) left) }
 {
-    match get(alloc, image, path, name, is_raw, is_whole, output) {
+    match get_as(alloc, image, path, name, form, is_whole, output) {
         Ok(()) => Ok(()),
         Err(fault) => Err(Fault::from(fault).of_image(image)),
     }
@@ -141,52 +199,5 @@ pub fn export_key<F: Read, W: Write>(
     match export_as(alloc, image, path, form, output) {
         Ok(()) => Ok(()),
         Err(fault) => Err(fault.of_image(image)),
-    }
-}
-
-/// Writes how the hives in two images differ, or that they are the same, and answers which: 0 where they are, else 1.
-fn compare<R: Source, S: Source, W: Write>(
-    alloc: Global,
-    old: &mut R,
-    new: &mut S,
-    output: &mut W,
-) -> Result<u8, DiffEnd>
-    ensures status { IfOk result (λ status. status ≤ 1) }
-    ensures same { IfOk result (λ status. status ≡ 0 → AreSame (R.remaining old.old) (R.remaining old.new) (S.remaining new.old)
-        (S.remaining new.new) (W.contents output.old) (W.contents output.new)) }
-    ensures other { IfOk result (λ status. status ≡ 1 → AreOther (R.remaining old.old) (R.remaining old.new) (S.remaining new.old)
-        (S.remaining new.new) (W.contents output.old) (W.contents output.new)) }
-    ensures err { IfErr result (λ end. StopsDiffing (W.contents output.old) (W.contents output.new) (is_diff_end_cut end)
-        (R.remaining old.old) (R.remaining old.new) (S.remaining new.old) (S.remaining new.new)) }
-{
-    match diff(alloc, old, new, output) {
-        Ok(true) => match write_text(SAME, output) {
-            Ok(()) => Ok(0),
-            Err(fault) => Err(DiffEnd::Old(fault)),
-        },
-        Ok(false) => Ok(1),
-        Err(fault) => Err(DiffEnd::from(fault)),
-    }
-}
-
-/// Writes how the hives of two files differ, or that they are the same, and answers which: 0 where they are, else 1.
-pub fn diff_images<F: Read, W: Write>(
-    alloc: Global,
-    old: &mut Image<F>,
-    new: &mut Image<F>,
-    output: &mut W,
-) -> Result<u8, DiffEnd>
-    ensures status { IfOk result (λ status. status ≤ 1) }
-    ensures same { IfOk result (λ status. status ≡ 0 → AreSame (bytes_of F.remaining old.old) (bytes_of F.remaining old.new)
-        (bytes_of F.remaining new.old) (bytes_of F.remaining new.new) (W.contents output.old) (W.contents output.new)) }
-    ensures other { IfOk result (λ status. status ≡ 1 → AreOther (bytes_of F.remaining old.old) (bytes_of F.remaining old.new)
-        (bytes_of F.remaining new.old) (bytes_of F.remaining new.new) (W.contents output.old) (W.contents output.new)) }
-    ensures err { IfErr result (λ end. (left : Option (List ℕ)) × (other_left : Option (List ℕ)) × StopsDiffing (W.contents output.old)
-        (W.contents output.new) (is_diff_end_cut end) (bytes_of F.remaining old.old) left (bytes_of F.remaining new.old) other_left) }
-{
-    match compare(alloc, old, new, output) {
-        Ok(status) => Ok(status),
-        Err(DiffEnd::Old(fault)) => Err(DiffEnd::Old(fault.of_image(old))),
-        Err(DiffEnd::New(fault)) => Err(DiffEnd::New(fault.of_image(new))),
     }
 }

@@ -2,13 +2,14 @@
 
 ghost use Rattle.std.specs.Prelude.{◌≡◌, ◌++◌, false, ◌&&◌, IfOk, MatchResult, codes, string_bytes, List, ℕ};
 ghost use Rattle.reg_text.specs.Texts.{line_feed};
-ghost use Rattle.reg_files.specs.Serving.{IsReported};
+ghost use Rattle.reg_files.specs.Looking.{IsReported};
 ghost use Rattle.reg_files.specs.Internal.Cuts.{is_cut, is_diff_end_cut, is_save_end_cut};
 ghost use Rattle.reg_files.specs.Internal.Outcomes.{status_of, Settles};
 
 use crate::fault::{DiffEnd, Fault, SaveEnd};
 use reg_command::say;
-use reg_dotreg_reader::ReadFault;
+use reg_dotreg_reader::{ReadFault, told};
+use reg_edits::BadText;
 use reg_model::statuses::{
     ACCESS_DENIED, FILE_NOT_FOUND, INVALID_HANDLE, INVALID_PARAMETER, KEY_DELETED,
     NO_SYSTEM_RESOURCES, NOT_ENOUGH_MEMORY,
@@ -78,6 +79,27 @@ fn failed_line_text(alloc: Global, input: &str, line: &FailedLine) -> Result<Str
     Ok(text)
 }
 
+/// What is reported of the lines of a text that aren't understood, each but the first behind `error`.
+fn lines_text(
+    alloc: Global,
+    input: &str,
+    bad: &BadText,
+    is_front: bool,
+) -> Result<String, AllocError> {
+    let mut text = String::new(alloc);
+    for line in &bad.lines {
+        if !text.is_empty() {
+            text.push_str("\nerror ")?;
+        }
+        let number = line.at;
+        let start = format!(in alloc; "line {number} of {input}: ")?;
+        text.push_str(start.as_str())?;
+        let reason = told(alloc, bad.root.as_slice(), is_front, line)?;
+        text.push_str(reason.as_str())?;
+    }
+    Ok(text)
+}
+
 /// What is reported of a text that isn't read.
 fn text_text(alloc: Global, input: &str, fault: ReadFault) -> Result<String, AllocError> {
     match fault {
@@ -118,6 +140,7 @@ fn fault_text(alloc: Global, file: &str, input: &str, fault: &Fault) -> Result<S
         Fault::LineBreak(key) => line_break_text(alloc, file, key.as_slice()),
         Fault::Input(error) => format!(in alloc; "read {input}: {error}"),
         Fault::Text(fault) => text_text(alloc, input, *fault),
+        Fault::Lines { bad, is_front } => lines_text(alloc, input, bad, *is_front),
         Fault::Refused { line, status } => {
             let name = status_name(*status);
             format!(in alloc; "line {line} of {input}: refused with status {status}{name}")

@@ -3,8 +3,10 @@
 ghost use Rattle.std.specs.Prelude.{◌≡◌, ◌≤◌, true, MatchResult, map};
 ghost use Rattle.std.specs.Io.KnownBytes.{Appends};
 ghost use Rattle.reg_command.specs.Failures.{Does};
-ghost use Rattle.reg_files.specs.Serving.{IsCutShort, name_before, NameStops, AnswerStops, CountStops, StopReported, DumpStops};
-ghost use Rattle.reg_files.specs.Serving.{Looks, Checks, ChecksEach, ChecksFiles};
+ghost use Rattle.reg_files.specs.Looking.{IsCutShort, AnswerStops, StopReported, DumpStops};
+ghost use Rattle.reg_files.specs.Serving.{name_before, NameStops, CountStops};
+ghost use Rattle.reg_files.specs.Looking.{Looks};
+ghost use Rattle.reg_files.specs.Serving.{Checks, ChecksEach, ChecksFiles};
 ghost use Rattle.reg_text.specs.Failures.{Stays, Fails};
 ghost use Rattle.reg_files.specs.Internal.Counted.{IsCounted};
 ghost use Rattle.reg_files.specs.Internal.Cuts.{is_cut, CutBlames};

@@ -9,17 +9,17 @@ returns-in-Ok g c =
     λ unread.
     (let new : HiveFile = record { file = c.args.new; is_dirty = c.args.is_dirty } in
     let opened = c.in-Ok.ensures.ok in
-    either (Diff c.args.old c.args.new c.args.is_dirty) _ unread unread _ _ _ _ _ _ c.diff_behind.result c.diff_behind.ensures.status
+    either (Diff c.args.old c.args.new c.args.is_dirty c.args.form) _ unread unread _ _ _ _ _ _ c.diff_behind.result c.diff_behind.ensures.status
     (λ e. (
       refl,
-      both_same new c.args.old.now (g.W.Output.closed c.diff_behind.new.output) _ _ _ _ _ (g.E.Sink.failures c.diff_behind.new.errors)
+      both_same c.args.form new c.args.old.now (g.W.Output.closed c.diff_behind.new.output) _ _ _ _ _ (g.E.Sink.failures c.diff_behind.new.errors)
           opened.0 _ _ _ opened.2 _ opened.1 (c.diff_behind.ensures.same e),
     )) (λ e. (
       refl,
-      both_other new c.args.old.now _ _ _ _ _ _ _ opened.0 _ _ _ opened.2 _ opened.1 (c.diff_behind.ensures.other e),
+      both_other c.args.form new c.args.old.now _ _ _ _ _ _ _ opened.0 _ _ _ opened.2 _ opened.1 (c.diff_behind.ensures.other e),
     )))
 
-pub returns-in-Err : goal.returns-in-Err
-returns-in-Err g c =
-    λ unread. unlooked (Diff c.args.old c.args.new c.args.is_dirty) _ unread _ _ _ _ _ _ _ _ c.in-Err.ensures.err.1 c.in-Err.ensures.err.2
+pub returns : goal.returns
+returns g c =
+    λ unread. unlooked (Diff c.args.old c.args.new c.args.is_dirty c.args.form) _ unread _ _ _ _ _ _ _ _ c.in-Err.ensures.err.1 c.in-Err.ensures.err.2
     c.settle.ensures.0 c.settle.ensures.1 (λ stops. (refl, inr (inl stops)))

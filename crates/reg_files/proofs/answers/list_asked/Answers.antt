@@ -1,8 +1,6 @@
 use Rattle.std.proofs.Common.{ℕ, List, Option, refl, subst, inl}
 use Rattle.std.specs.Prelude.{OnOk, IfErr}
-use Rattle.std.specs.Prelude.{◌||◌}
-use Rattle.reg_queries.specs.KeyQueries.{Lists}
-use Rattle.reg_queries.specs.Queries.{is_look}
+use Rattle.reg_files.specs.Detailed.{ListsKey}
 use Rattle.reg_files.specs.Serving.{StopsListing}
 use Rattle.reg_words.specs.declared.request.Request.TheVariants.{Listing}
 use Rattle.reg_files.specs.Internal.Cuts.{is_cut}
@@ -21,17 +19,17 @@ returns-in-Ok g c =
     looked c.args.hive.is_dirty c.args.hive.file.now (g.W.Output.closed c.list_key-done.new.output) before after
     (g.E.Sink.contents c.args.errors.now) (g.E.Sink.contents c.settle.new.errors)
     (g.E.Sink.failures c.args.errors.now) (g.E.Sink.failures c.settle.new.errors) opened.0 left _ _ opened.2 image opened.1
-    (Listing c.args.hive c.args.path c.args.is_tree c.args.is_whole) unread is_cut
-    (λ u l. Lists (is_look (c.args.is_tree || c.args.is_whole) c.args.path.items) u l c.args.path.items c.args.is_tree before after)
-    (λ cut u l. StopsListing (is_look (c.args.is_tree || c.args.is_whole) c.args.path.items) c.args.path.items c.args.is_tree before after cut u l)
+    (Listing c.args.hive c.args.path c.args.is_tree c.args.is_whole c.args.columns) unread is_cut
+    (λ u l. ListsKey c.args.columns c.args.is_tree c.args.is_whole c.args.path.items u l before after)
+    (λ cut u l. StopsListing c.args.columns c.args.is_tree c.args.is_whole c.args.path.items before after cut u l)
     c.is_closed.result c.is_closed.ensures c.list_key-done.result c.settle.result c.settle.ensures
-    (subst (λ p. OnOk c.list_key-done.result (Lists (is_look (c.args.is_tree || c.args.is_whole) p) image left p c.args.is_tree before after))
+    (subst (λ p. OnOk c.list_key-done.result (ListsKey c.args.columns c.args.is_tree c.args.is_whole p image left before after))
     c.as_slice.ensures.value c.list_key-done.ensures.ok)
-    (subst (λ p. IfErr c.list_key-done.result (λ e. (gone : Option (List ℕ)) × StopsListing (is_look (c.args.is_tree || c.args.is_whole) p) p c.args.is_tree before after (is_cut e) image gone))
+    (subst (λ p. IfErr c.list_key-done.result (λ e. (gone : Option (List ℕ)) × StopsListing c.args.columns c.args.is_tree c.args.is_whole p before after (is_cut e) image gone))
     c.as_slice.ensures.value c.list_key-done.ensures.err)
     (λ done. (refl, done)) (λ stops. (refl, stops)))
 
 pub returns : goal.returns
 returns g c =
-    λ unread. unlooked (Listing c.args.hive c.args.path c.args.is_tree c.args.is_whole) _ unread _ _ _ _ _ _ _ _ c.in-Err.ensures.err.1 c.in-Err.ensures.err.2
+    λ unread. unlooked (Listing c.args.hive c.args.path c.args.is_tree c.args.is_whole c.args.columns) _ unread _ _ _ _ _ _ _ _ c.in-Err.ensures.err.1 c.in-Err.ensures.err.2
     c.settle-in-Err.ensures.0 c.settle-in-Err.ensures.1 (λ stops. (refl, inl stops))

@@ -5,7 +5,7 @@ use Rattle.reg_files.proofs.commands.import_from.Goals as goal
 
 pub returns-in-Err-clause-err : goal.returns-in-Err-clause-err
 returns-in-Err-clause-err g c =
-    inr (import_stopped c.args.request c.in_ok-begin.begin c.in_ok-begin.ensures _ c.in-Err.fault _ _ _ _ c.in-Err.ensures.err)
+    inr (import_stopped c.args.request c.in_ok-begin.begin c.in_ok-begin.ensures _ c.args.tells_all c.in-Err.fault _ _ _ _ c.in-Err.ensures.err)
 
 pub returns-in_err-save-clause-err : goal.returns-in_err-save-clause-err
 returns-in_err-save-clause-err g c =

@@ -1,7 +1,7 @@
 use Rattle.std.proofs.Common.{ℕ, List, Option, ◌≡◌, subst, sym}
 use Rattle.std.specs.Prelude.{IfOk}
 use Rattle.std.proofs.lemmas.Result.{IfOk-weaker}
-use Rattle.reg_files.specs.Serving.{as_read, IsOpened}
+use Rattle.reg_files.specs.Looking.{as_read, IsOpened}
 use Rattle.reg_files.specs.Internal.Fronts.{bytes_of}
 use Rattle.reg_files.proofs.Fronts.{opened_plain}
 use Rattle.reg_files.proofs.images.open_image.Goals as goal

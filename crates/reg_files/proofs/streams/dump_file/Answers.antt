@@ -1,7 +1,7 @@
 use Rattle.std.proofs.Common.{arith, inl, inr, subst}
 use Rattle.reg_command.specs.Failures.{Does}
 use Rattle.reg_words.specs.declared.request.StreamRequest.TheVariants as stream
-use Rattle.reg_files.specs.Serving.{AnswerStops}
+use Rattle.reg_files.specs.Looking.{AnswerStops}
 use Rattle.reg_files.specs.Internal.Fronts.{bytes_of}
 use Rattle.reg_files.proofs.Outcomes.{looks, unopened}
 use Rattle.reg_files.proofs.streams.dump_file.Goals as goal
