@@ -12,8 +12,6 @@
 
 mod row;
 mod tables;
-#[cfg(test)]
-mod tests;
 
 pub use row::BinRow;
 pub use tables::PageTables;

@@ -13,8 +13,6 @@
 mod callback;
 mod callbacks;
 mod row;
-#[cfg(test)]
-mod tests;
 mod view;
 
 pub use callback::{Callback, NoCallback};
