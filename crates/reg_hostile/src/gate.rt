@@ -5,8 +5,6 @@ use crate::notices::run_notices;
 use crate::rows::run_rows;
 use crate::seeds::{RECORDS_END, SCRIPTS, every_record, images};
 use crate::sweeps::{all_bits, fronts, readers, sealed_bits, some_bits};
-use crate::tools::is_told_by_tool;
-use crate::trips::{make_refusals, make_trips};
 use crate::ways::{same_bits, sizes_by_ways};
 use anyhow::Result;
 use reg_fixtures::PlainHive;
@@ -101,31 +99,15 @@ fn fail_all_readers(rt: &impl Print, alloc: Global) -> Result<()> {
     fail_readers(rt, alloc, "every record", &image, STRIDE)
 }
 
-/// Images by the tool.
-fn tool_images<Rt: Print + Threads + Wait + Sync>(rt: &Rt, alloc: Global) -> Result<()> {
-    let mut told: u32 = 0;
-    let images = images::<PlainHive>(alloc)?;
-    for image in &images {
-        if is_told_by_tool(rt, alloc, image)? {
-            told = told.saturating_add(1);
-        }
-    }
-    println!(rt; "the tool told {told} of {} images", images.len())?;
-    Ok(())
-}
-
 /// Runs all that the gate runs.
 pub fn run<Rt: Print + Threads + Wait + Sync>(rt: &Rt, alloc: Global) -> Result<()> {
     sweep_fresh(rt, alloc)?;
     sweep_records(rt, alloc)?;
     sweep_own(rt, alloc)?;
     fail_all_readers(rt, alloc)?;
-    tool_images(rt, alloc)?;
     let (of_images, of_scripts) = fuzz::<PlainHive>(alloc, 1, SEEDS)?;
     println!(rt; "images of {SEEDS} seeds: {of_images}")?;
     println!(rt; "scripts of {SEEDS} seeds: {of_scripts}")?;
     run_rows::<PlainHive>(rt, alloc)?;
-    run_notices::<PlainHive>(rt, alloc)?;
-    make_trips::<PlainHive>(rt, alloc)?;
-    make_refusals::<PlainHive>(rt, alloc)
+    run_notices::<PlainHive>(rt, alloc)
 }

@@ -4,8 +4,6 @@
 use anyhow::Result;
 use reg_callbacks::{CallbackFault, Cookie, NoCallback};
 use reg_calls::Hive;
-use reg_dotreg_import::{ImportFault, import};
-use reg_dotreg_reader::Numbered;
 use reg_fixtures::{PlainHive, Registry};
 use reg_image::{LoadFault, image, load};
 use reg_script::{FRESH_DESCRIPTOR, ScriptFault, run};
@@ -32,9 +30,6 @@ pub trait Subject: Registry {
 
     /// Its image, with moment 0 and sequence 0.
     fn imaged(&self, alloc: Global) -> Result<Vec<u8>, AllocError>;
-
-    /// Applies entries of a .reg text to it, at moment 7.
-    fn imported(&mut self, alloc: Global, entries: Vec<Numbered>) -> Result<(), ImportFault>;
 
     /// Registers a callback that lets every call go on.
     fn add_callback(&mut self) -> Result<Cookie, CallbackFault<NoCallback>>;
@@ -77,10 +72,6 @@ impl Subject for PlainHive {
             Ok(bytes) => Ok(bytes),
             Err(_) => Err(AllocError),
         }
-    }
-
-    fn imported(&mut self, alloc: Global, entries: Vec<Numbered>) -> Result<(), ImportFault> {
-        import(alloc, self, 7, entries)
     }
 
     fn add_callback(&mut self) -> Result<Cookie, CallbackFault<NoCallback>> {

@@ -1,5 +1,5 @@
-//! Input at random and hostile input for the libraries: images that were changed, readers that fail, scripts and trees at
-//! random, and refused memory.
+//! Input at random and hostile input for the libraries: images that were changed, readers that fail, scripts at random, and refused
+//! memory.
 //!
 //! Without an argument it runs for some seconds and prints counts, which are the same on each run. `reg_hostile fuzz SEED COUNT`
 //! tries the images and scripts of so many seeds, `bits` each bit of an image, and `rows` runs rows of scripts on a machine that may
@@ -15,9 +15,6 @@ mod notices;
 mod rows;
 mod seeds;
 mod sweeps;
-mod tools;
-mod trees;
-mod trips;
 mod verdicts;
 mod ways;
 
