@@ -1,0 +1,2 @@
+-- Words that only private contracts and proofs use.
+pub mod Copying
