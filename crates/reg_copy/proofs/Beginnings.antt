@@ -1,27 +1,27 @@
 -- How a copy begins and ends.
-use Rattle.std.proofs.Common.{◌≡◌, ◌≢◌, ℕ, suc, ◌+◌, ◌<◌, ◌≤◌, Bool, true, false, cond, ◌||◌, ◌⊎◌, inl, inr, List, [], ◌∷◌, ◌++◌, length, reverse, Result, Ok, Err, is_some, Option, Some, None, refl, sym, ap, ◌∙◌, subst, arith, append_assoc, append-nil, length-append}
+use Rattle.std.proofs.Common.{◌≡◌, ◌≢◌, ℕ, ◌+◌, ◌≤◌, Bool, true, false, cond, ◌⊎◌, inl, inr, List, [], ◌∷◌, ◌++◌, length, reverse, Result, Ok, Err, is_some, Option, Some, None, refl, sym, ap, ◌∙◌, subst, arith, append-nil, length-append}
 use Rattle.std.specs.Prelude.{IsSome, IfErr, OnOk}
-use Rattle.std.specs.FinMap.{get, insert}
+use Rattle.std.specs.FinMap.{get}
 use Rattle.std.specs.Option.{option_map}
 use Rattle.std.proofs.lemmas.Bool.{false≢true}
 use Rattle.reg_names.specs.Names.{folded}
 use Rattle.reg_heap.specs.Paths.{Path, Tree, Rec, children_of}
 use Rattle.reg_heap.specs.Edits.{child_path, is_within, is_under, edited, at_time}
 use Rattle.reg_heap.specs.Trees.{IsTree}
-use Rattle.reg_heap.proofs.DeletedTrees.{within-self, within-append, within-long, under-parts, under-rest, under-append, under-self}
+use Rattle.reg_heap.proofs.DeletedTrees.{within-self, within-long, under-rest, under-self}
 use Rattle.reg_tree.specs.declared.node.Node.{Node}
 use Rattle.reg_tree.specs.TreeKeys.{Keys, IsAt}
 use Rattle.reg_tree.specs.SubkeyWalk.{IsSubkeyAt}
 use Rattle.reg_tree.proofs.BuildKey.BuiltTrees.{get-here, get-other}
 use Rattle.reg_tree.proofs.PruneTree.ThinnedTrees.{bare-of}
-use Rattle.reg_tree.proofs.PruneTree.TreesWithout.{same-as, same-false, false-other, true-same, get-edited}
+use Rattle.reg_tree.proofs.PruneTree.TreesWithout.{same-as, same-false, get-edited}
 use Rattle.reg_tree_text.specs.PathQueries.{key_at}
 use Rattle.reg_copy.specs.declared.copying.Pending.{Pending}
 use Rattle.reg_copy.specs.declared.fault.CopyFault.{CopyFault}
 use Rattle.reg_copy.specs.declared.fault.CopyFault.TheVariants.{NoKey, NoPlace, Taken, Limit, Full, Memory}
 use Rattle.reg_copy.specs.Copies.{copy_of, HasCopy, MayCopy, CopyStops, IsEarly}
-use Rattle.reg_copy.specs.Internal.Copying.{IsKeyCopied, is_left, AreApart, IsPending, AreLeft, copied_so_far, IsAmid, IsNoted, IsRefused, IsStopped, IsHalted}
-use Rattle.reg_copy.proofs.LeftPaths.{front-cancel, closed, left-under, left-child, apart-children}
+use Rattle.reg_copy.specs.Internal.Copying.{IsKeyCopied, is_left, AreLeft, copied_so_far, IsAmid, IsNoted, IsRefused, IsStopped, IsHalted}
+use Rattle.reg_copy.proofs.LeftPaths.{closed, left-under, left-child, apart-children}
 
 none-or-some : (o : Option Rec) → (IsSome o → ⊥) → o ≡ None
 none-or-some None n = refl

@@ -1,24 +1,22 @@
 -- The keys that were copied so far, as a copy begins, goes on by a key, and ends.
-use Rattle.std.proofs.Common.{◌≡◌, ◌≢◌, ℕ, suc, ◌+◌, ◌<◌, ◌≤◌, Bool, true, false, cond, ◌||◌, ◌⊎◌, inl, inr, List, [], ◌∷◌, ◌++◌, length, map, filter, drop, reverse, get_or, Option, Some, None, is_some, refl, sym, ap, ◌∙◌, subst, arith, append_assoc, append-nil, length-append}
+use Rattle.std.proofs.Common.{◌≡◌, ◌≢◌, ℕ, suc, ◌+◌, ◌<◌, ◌≤◌, Bool, true, false, cond, ◌||◌, inl, inr, List, [], ◌∷◌, ◌++◌, length, map, filter, drop, reverse, get_or, Some, None, is_some, refl, sym, ap, ◌∙◌, subst, arith, append_assoc, length-append}
 use Rattle.std.specs.Prelude.{IsSome}
 use Rattle.std.specs.Cmp.{IsTotalOrder}
 use Rattle.std.specs.Cmp.Lexicographic.{lists_total, nat_list_cmp_total}
 use Rattle.std.specs.Ordering.{eq_by_cmp}
 use Rattle.std.specs.declared.cmp.Ordering.{Ordering}
 use Rattle.std.specs.declared.cmp.Ordering.TheVariants.{Less, Equal, Greater}
-use Rattle.std.specs.FinMap.{get, insert, keys, entries, entries-insert}
+use Rattle.std.specs.FinMap.{get, insert, entries, entries-insert}
 use Rattle.std.specs.FinMap.Entries.{put, by_order}
 use Rattle.std.specs.Option.{option_map}
 use Rattle.std.proofs.lemmas.Bool.{false≢true}
 use Rattle.std.proofs.lemmas.List.{drop_more, drop_all, reverse-append}
-use Rattle.reg_names.specs.Names.{folded}
 use Rattle.reg_heap.specs.Paths.{Path, Tree, Rec, path_cmp, is_child, children_of}
 use Rattle.reg_heap.specs.Edits.{child_path, is_within, is_under}
 use Rattle.reg_heap.specs.Trees.{IsTree, IsWithinLimits}
 use Rattle.reg_heap.proofs.ChildrenOfPath.{named, path-is}
-use Rattle.reg_heap.proofs.DeletedTrees.{within-self, within-append, under-parts, under-rest, under-append, under-self, under-deeper}
+use Rattle.reg_heap.proofs.DeletedTrees.{within-self, within-append, under-parts, under-rest, under-append, under-self}
 use Rattle.reg_tree.specs.declared.node.Node.{Node}
-use Rattle.reg_tree.specs.declared.node.Subkey.{Subkey}
 use Rattle.reg_tree.specs.TreeKeys.{Keys, IsAt, KeepsNodes}
 use Rattle.reg_tree.specs.SubkeyWalk.{IsSubkeyAt}
 use Rattle.reg_tree.proofs.InsertKey.PathGrowth.{path-self}
@@ -31,8 +29,8 @@ use Rattle.reg_copy.specs.declared.copying.Pending.{Pending}
 use Rattle.reg_copy.specs.declared.fault.CopyFault.{CopyFault}
 use Rattle.reg_copy.specs.declared.fault.CopyFault.TheVariants.{NoKey, NoPlace, Taken, Limit, Full, Memory}
 use Rattle.reg_copy.specs.Copies.{copy_of}
-use Rattle.reg_copy.specs.Internal.Copying.{IsKeyCopied, is_left, AreApart, IsPending, AreLeft, copied_so_far, IsAmid, IsNoted, IsRefused, IsStopped}
-use Rattle.reg_copy.proofs.LeftPaths.{front-cancel, closed, left-under, left-child, apart-children, copy-below, done-here, same-elsewhere, apart-next}
+use Rattle.reg_copy.specs.Internal.Copying.{IsKeyCopied, is_left, AreApart, AreLeft, copied_so_far, IsAmid, IsNoted, IsRefused, IsStopped}
+use Rattle.reg_copy.proofs.LeftPaths.{front-cancel, copy-below, done-here, same-elsewhere, apart-next}
 
 -- ---- how many keys are right below one
 

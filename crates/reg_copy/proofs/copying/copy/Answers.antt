@@ -1,8 +1,5 @@
-use Rattle.std.proofs.Common.{◌≡◌, sym, ap, ◌∙◌, subst, refl, false, Some, None, Option, is_some}
-use Rattle.std.specs.FinMap.{get}
+use Rattle.std.proofs.Common.{sym, ◌∙◌, refl}
 use Rattle.reg_heap.specs.Edits.{child_path}
-use Rattle.reg_heap.specs.Paths.{Rec}
-use Rattle.reg_names.specs.Names.{is_key_name}
 use Rattle.reg_tree.proofs.Invariant.CellReadings.{some_of}
 use Rattle.reg_tree_text.proofs.SentTexts.{err_exits}
 use Rattle.reg_copy.proofs.Beginnings.{ended, if-ok, stops-may, late, lack-stops, may-copy}

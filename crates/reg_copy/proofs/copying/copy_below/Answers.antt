@@ -1,4 +1,4 @@
-use Rattle.std.proofs.Common.{◌≡◌, subst}
+use Rattle.std.proofs.Common.{subst}
 use Rattle.reg_heap.specs.Edits.{child_path}
 use Rattle.reg_tree.proofs.Invariant.CellReadings.{some_of}
 use Rattle.reg_tree_text.proofs.SentTexts.{err_exits}

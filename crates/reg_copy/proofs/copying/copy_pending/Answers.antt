@@ -1,4 +1,3 @@
-use Rattle.std.proofs.Common.{◌≡◌}
 use Rattle.reg_tree_text.proofs.SentTexts.{err_exits}
 use Rattle.reg_copy.proofs.CopySteps.{popped}
 use Rattle.reg_copy.proofs.copying.copy_pending.Goals as goal

@@ -1,6 +1,4 @@
-use Rattle.std.proofs.Common.{◌≡◌, sym, ap, ◌∙◌, ◌++◌, subst, Option, Some, None, is_some, false, true}
-use Rattle.std.specs.FinMap.{get}
-use Rattle.reg_heap.specs.Paths.{Path, Tree}
+use Rattle.std.proofs.Common.{◌∙◌}
 use Rattle.reg_diff.proofs.ToldPaths.{one_name}
 use Rattle.reg_copy.proofs.KeyRoom.{resolved-test}
 use Rattle.reg_copy.proofs.copying.has_child.Goals as goal

@@ -1,4 +1,4 @@
-use Rattle.std.proofs.Common.{◌≡◌, ap, ◌∙◌}
+use Rattle.std.proofs.Common.{ap, ◌∙◌}
 use Rattle.std.specs.FinMap.{get, insert}
 use Rattle.reg_heap.specs.Edits.{child_path}
 use Rattle.reg_heap.specs.Paths.{Tree}

@@ -1,4 +1,4 @@
-use Rattle.std.proofs.Common.{◌≡◌, ◌<◌, ◌≤◌, sym, ap, ◌∙◌, subst, None, Some, true, length, ℕ, List, inr, refl}
+use Rattle.std.proofs.Common.{◌≡◌, ◌<◌, ◌≤◌, sym, ap, ◌∙◌, subst, None, true, length, ℕ, List, inr, refl}
 use Rattle.reg_heap.specs.declared.limits.TheConstants.{VALUES_LIMIT, DATA_LIMIT}
 use Rattle.reg_heap.specs.Edits.{values_at}
 use Rattle.reg_heap.specs.Members.{index_named}

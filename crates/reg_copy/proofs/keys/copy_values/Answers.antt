@@ -1,4 +1,4 @@
-use Rattle.std.proofs.Common.{◌≡◌, sym, ap, ◌∙◌, arith, ◌+◌, length}
+use Rattle.std.proofs.Common.{sym, ap, ◌∙◌, arith, ◌+◌, length}
 use Rattle.std.specs.FinMap.{get, insert}
 use Rattle.reg_heap.specs.Edits.{values_of}
 use Rattle.reg_heap.specs.Paths.{Tree}
