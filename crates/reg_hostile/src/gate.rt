@@ -9,8 +9,6 @@ use crate::ways::{same_bits, sizes_by_ways};
 use anyhow::Result;
 use reg_fixtures::PlainHive;
 use std::alloc::Global;
-use std::sync::Wait;
-use std::thread::Threads;
 
 /// How many bits of the image with every record are turned over beside those of its records.
 const BITS: usize = 10_000;
@@ -25,32 +23,32 @@ const STRIDE: usize = 37;
 const SEEDS: u64 = 20_000;
 
 /// Fronts and bits of the image of a fresh hive.
-fn sweep_fresh<Rt: Print + Threads + Wait + Sync>(rt: &Rt, alloc: Global) -> Result<()> {
+fn sweep_fresh(rt: &impl Print, alloc: Global) -> Result<()> {
     let mut image = scripted::<PlainHive>(alloc, b"")?;
     let len = image.len();
-    println!(rt; "fresh hive, fronts: {}", fronts(rt, alloc, &image)?)?;
+    println!(rt; "fresh hive, fronts: {}", fronts(alloc, &image)?)?;
     println!(rt;
         "fresh hive, bits: {}",
-        all_bits(rt, alloc, &mut image, 0, len)?
+        all_bits(alloc, &mut image, 0, len)?
     )?;
     println!(rt;
         "fresh hive, bits with a checksum: {}",
-        sealed_bits(rt, alloc, &mut image)?
+        sealed_bits(alloc, &mut image)?
     )?;
     Ok(())
 }
 
 /// Fronts and bits of the image with every record.
-fn sweep_records<Rt: Print + Threads + Wait + Sync>(rt: &Rt, alloc: Global) -> Result<()> {
+fn sweep_records(rt: &impl Print, alloc: Global) -> Result<()> {
     let mut image = every_record(alloc)?;
-    println!(rt; "every record, fronts: {}", fronts(rt, alloc, &image)?)?;
+    println!(rt; "every record, fronts: {}", fronts(alloc, &image)?)?;
     println!(rt;
         "every record, bits of records: {}",
-        all_bits(rt, alloc, &mut image, 4096, RECORDS_END)?
+        all_bits(alloc, &mut image, 4096, RECORDS_END)?
     )?;
     println!(rt;
         "every record, bits: {}",
-        some_bits(rt, alloc, &mut image, BITS)?
+        some_bits(alloc, &mut image, BITS)?
     )?;
     Ok(())
 }
@@ -100,7 +98,7 @@ fn fail_all_readers(rt: &impl Print, alloc: Global) -> Result<()> {
 }
 
 /// Runs all that the gate runs.
-pub fn run<Rt: Print + Threads + Wait + Sync>(rt: &Rt, alloc: Global) -> Result<()> {
+pub fn run(rt: &impl Print, alloc: Global) -> Result<()> {
     sweep_fresh(rt, alloc)?;
     sweep_records(rt, alloc)?;
     sweep_own(rt, alloc)?;

@@ -24,8 +24,6 @@ use reg_fixtures::PlainHive;
 use std::alloc::Global;
 use std::env;
 use std::process::ExitCode;
-use std::sync::Wait;
-use std::thread::Threads;
 
 /// What is told where the words ask for nothing.
 const USAGE: &str = "usage: reg_hostile [fuzz SEED COUNT | bits | rows]";
@@ -39,12 +37,9 @@ fn print_fuzz(rt: &impl Print, alloc: Global, first: u64, count: u64) -> Result<
 }
 
 /// Prints the verdicts on each bit of the image with every record.
-fn print_bits<Rt: Print + Threads + Wait + Sync>(rt: &Rt, alloc: Global) -> Result<()> {
+fn print_bits(rt: &impl Print, alloc: Global) -> Result<()> {
     let mut image = every_record(alloc)?;
-    println!(rt;
-        "bits: {}",
-        sweeps::all_bits(rt, alloc, &mut image, 0, 24_576)?
-    )?;
+    println!(rt; "bits: {}", sweeps::all_bits(alloc, &mut image, 0, 24_576)?)?;
     let mut own = ways::own_records(alloc)?;
     let len = own.len();
     println!(rt;
@@ -56,11 +51,7 @@ fn print_bits<Rt: Print + Threads + Wait + Sync>(rt: &Rt, alloc: Global) -> Resu
 }
 
 /// Does what the words behind the program's name ask for, and tells whether they ask for anything.
-fn answer<Rt: Print + Threads + Wait + Sync>(
-    rt: &Rt,
-    alloc: Global,
-    words: &[&str],
-) -> Result<bool> {
+fn answer(rt: &impl Print, alloc: Global, words: &[&str]) -> Result<bool> {
     match words {
         [] => gate::run(rt, alloc)?,
         ["bits"] => print_bits(rt, alloc)?,

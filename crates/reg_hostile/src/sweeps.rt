@@ -1,14 +1,12 @@
 //! Every front of an image, readers that stop behind it, and its bits turned over one by one.
 ghost use Rattle.std.specs.Prelude.{◌≡◌, length};
 
-use crate::verdicts::{Tally, judge, judge_by_tool};
+use crate::verdicts::{Tally, judge, judge_bytes};
 use anyhow::Result;
 use reg_fixtures::FakeReader;
 use reg_tree_image::checksum;
 use reg_workload::Chance;
 use std::alloc::Global;
-use std::sync::Wait;
-use std::thread::Threads;
 
 /// Writes bytes over those at an offset; what would stand behind the end is left out.
 pub fn put(image: &mut [u8], at: usize, new: &[u8])
@@ -38,12 +36,12 @@ pub fn turn(image: &mut [u8], bit: usize)
 }
 
 /// The verdicts on all fronts of an image, the whole one among them.
-pub fn fronts<Rt: Threads + Wait + Sync>(rt: &Rt, alloc: Global, image: &[u8]) -> Result<Tally> {
+pub fn fronts(alloc: Global, image: &[u8]) -> Result<Tally> {
     let mut tally = Tally::NONE;
     for len in 0..image.len() {
-        tally.add(judge_by_tool(rt, alloc, &image[..len])?);
+        tally.add(judge_bytes(alloc, &image[..len])?);
     }
-    tally.add(judge_by_tool(rt, alloc, image)?);
+    tally.add(judge_bytes(alloc, image)?);
     Ok(tally)
 }
 
@@ -69,75 +67,48 @@ pub fn readers(
 }
 
 /// Counts the verdict on an image with one bit turned over. The image is as before.
-fn try_bit<Rt: Threads + Wait + Sync>(
-    rt: &Rt,
-    alloc: Global,
-    image: &mut [u8],
-    bit: usize,
-    tally: &mut Tally,
-) -> Result<()> {
+fn try_bit(alloc: Global, image: &mut [u8], bit: usize, tally: &mut Tally) -> Result<()> {
     turn(image, bit);
-    tally.add(judge_by_tool(rt, alloc, image)?);
+    tally.add(judge_bytes(alloc, image)?);
     turn(image, bit);
     Ok(())
 }
 
 /// Counts the verdict on an image with one bit turned over and the checksum made anew.
-fn try_sealed<Rt: Threads + Wait + Sync>(
-    rt: &Rt,
-    alloc: Global,
-    image: &mut [u8],
-    bit: usize,
-    tally: &mut Tally,
-) -> Result<()> {
+fn try_sealed(alloc: Global, image: &mut [u8], bit: usize, tally: &mut Tally) -> Result<()> {
     turn(image, bit);
     seal(image);
-    tally.add(judge_by_tool(rt, alloc, image)?);
+    tally.add(judge_bytes(alloc, image)?);
     turn(image, bit);
     seal(image);
     Ok(())
 }
 
 /// The verdicts on an image with each bit of its bytes from one offset to another turned over once.
-pub fn all_bits<Rt: Threads + Wait + Sync>(
-    rt: &Rt,
-    alloc: Global,
-    image: &mut [u8],
-    from: usize,
-    to: usize,
-) -> Result<Tally> {
+pub fn all_bits(alloc: Global, image: &mut [u8], from: usize, to: usize) -> Result<Tally> {
     let mut tally = Tally::NONE;
     for bit in from.saturating_mul(8)..to.saturating_mul(8) {
-        try_bit(rt, alloc, image, bit, &mut tally)?;
+        try_bit(alloc, image, bit, &mut tally)?;
     }
     Ok(tally)
 }
 
 /// Turns over the bits of the base block that its checksum is made of, one after another, and makes the checksum anew.
-pub fn sealed_bits<Rt: Threads + Wait + Sync>(
-    rt: &Rt,
-    alloc: Global,
-    image: &mut [u8],
-) -> Result<Tally> {
+pub fn sealed_bits(alloc: Global, image: &mut [u8]) -> Result<Tally> {
     let mut tally = Tally::NONE;
     for bit in 0..508 * 8 {
-        try_sealed(rt, alloc, image, bit, &mut tally)?;
+        try_sealed(alloc, image, bit, &mut tally)?;
     }
     Ok(tally)
 }
 
 /// The verdicts on an image with each of so many bits turned over once, which are taken at random.
-pub fn some_bits<Rt: Threads + Wait + Sync>(
-    rt: &Rt,
-    alloc: Global,
-    image: &mut [u8],
-    count: usize,
-) -> Result<Tally> {
+pub fn some_bits(alloc: Global, image: &mut [u8], count: usize) -> Result<Tally> {
     let mut tally = Tally::NONE;
     let mut chance = Chance::new(1);
     for _turn in 0..count {
         let bit = chance.below(image.len().saturating_mul(8));
-        try_bit(rt, alloc, image, bit, &mut tally)?;
+        try_bit(alloc, image, bit, &mut tally)?;
     }
     Ok(tally)
 }

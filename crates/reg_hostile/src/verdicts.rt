@@ -1,6 +1,5 @@
 //! What becomes of an image: the fault that refuses it, or a hive whose own image tells the same.
 use crate::hives::{Subject, dumped, image_of};
-use crate::tools::is_told_by_tool;
 use anyhow::Result;
 use reg_fixtures::PlainHive;
 use reg_tree_image::{LoadFault, NumberedTree, load_anew, load_numbered};
@@ -8,8 +7,6 @@ use reg_tree_text::dump;
 use std::alloc::Global;
 use std::fmt;
 use std::io::Read;
-use std::sync::Wait;
-use std::thread::Threads;
 
 /// What became of an image.
 #[derive(Clone, Copy, Debug, PartialEq, Eq)]
@@ -20,7 +17,7 @@ pub enum Verdict {
     Kept,
     /// It is loaded, and the hive's own image isn't, or to another dump.
     Lost,
-    /// The tool, or a load that builds its bins anew in any case, tells something else of it than its load does.
+    /// A load that builds its bins anew in any case tells something else of it than its load does.
     Astray,
 }
 
@@ -81,18 +78,6 @@ pub fn judge_bytes(alloc: Global, image: &[u8]) -> Result<Verdict> {
     }
     let mut input = image;
     judge(alloc, &mut input)
-}
-
-/// The verdict on an image, where the tool is asked for its dump, too.
-pub fn judge_by_tool<Rt: Threads + Wait + Sync>(
-    rt: &Rt,
-    alloc: Global,
-    image: &[u8],
-) -> Result<Verdict> {
-    if !is_told_by_tool(rt, alloc, image)? {
-        return Ok(Verdict::Astray);
-    }
-    judge_bytes(alloc, image)
 }
 
 /// How many images met each verdict.
