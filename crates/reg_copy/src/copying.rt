@@ -189,8 +189,8 @@ fn has_child(tree: &Tree, parent: Node, name: &[u8]) -> bool
 ///
 /// `NoKey` where the first path leads to no key, else `NoPlace` where the second one doesn't, else `Taken` where a key of that name is
 /// there; nothing has changed then. `Limit` only where a copied key would have more than 512 names on its path, or the key to copy into
-/// has 60,000 subkeys; `Full` only where a bin more would pass the limit of 268,435,456 bytes; `Memory`. Behind these the tree holds a
-/// part of the copy.
+/// has 60,000 subkeys; `Full` only where 1,310,720 bytes more would pass the bins' limit of 268,435,456; `Memory`. Behind these no clause
+/// says what the tree holds, and it is to be thrown away.
 pub fn copy(
     alloc: Global,
     source: &Tree,

@@ -4,7 +4,7 @@ ghost use Rattle.std.specs.Prelude.{◌≡◌};
 use std::alloc::AllocError;
 use thiserror::Error;
 
-/// Why a key wasn't copied. The first that holds is told.
+/// Why a key wasn't copied. Of `NoKey`, `NoPlace` and `Taken` the first that holds is told, before all others.
 #[derive(Clone, Copy, Debug, PartialEq, Eq, Error)]
 pub enum CopyFault {
     /// There is no key to be copied, or the text is no path.
