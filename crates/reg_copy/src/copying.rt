@@ -201,6 +201,7 @@ pub fn copy(
 ) -> Result<(), CopyFault>
     ensures ok { OnOk result (IsCopied source.now.tree from.now target.old.tree into.now moment target.new.tree) }
     ensures err { IfErr result (λ fault. CopyStops fault source.now.tree from.now target.old.tree into.now) }
+    ensures nodes { OnOk result (KeepsNodes target.old target.new) }
     ensures stays { IfErr result (λ fault. IsEarly fault → target.new ≡ target.old) }
     ensures full { (result ≡ Err CopyFault.Full) → BINS_LIMIT < length target.new.bins.bytes + GROWTH_BOUND }
 {

@@ -59,3 +59,7 @@ returns-clause-err c =
     may-copy c.args.source.now.tree c.args.from.now c.args.target.now.tree c.args.into.now c.name-name.result.now f.0 g.0 r.0 f.1 g.1 r.1
     (c.name-name.ensures.told f.0 f.2 r.0 r.1) (sym c.if-has_child.false ∙ c.has_child.ensures g.0 g.2) in
     lack-stops c.args.source.now.tree c.args.from.now c.args.target.now.tree c.args.into.now may c.set_time.result c.set_time.ensures.err
+
+pub returns-clause-nodes : goal.returns-clause-nodes
+returns-clause-nodes c =
+    if-ok c.set_time.result (λ stay path node a. stay path node (c.in_ok-copy_below.ensures.nodes path node a)) c.set_time.ensures.nodes
