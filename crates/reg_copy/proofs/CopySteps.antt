@@ -1,13 +1,8 @@
 -- The keys that were copied so far, as a copy begins, goes on by a key, and ends.
-use Rattle.std.proofs.Common.{◌≡◌, ◌≢◌, ℕ, suc, ◌+◌, ◌<◌, ◌≤◌, Bool, true, false, cond, ◌||◌, inl, inr, List, [], ◌∷◌, ◌++◌, length, map, filter, drop, reverse, get_or, Some, None, is_some, refl, sym, ap, ◌∙◌, subst, arith, append_assoc, length-append}
+use Rattle.std.proofs.Common.{◌≡◌, ◌≢◌, ℕ, suc, ◌+◌, ◌<◌, ◌≤◌, Bool, true, false, cond, ◌||◌, inl, inr, List, [], ◌∷◌, ◌++◌, length, drop, reverse, get_or, Some, None, is_some, refl, sym, ap, ◌∙◌, subst, arith, append_assoc, length-append}
 use Rattle.std.specs.Prelude.{IsSome}
-use Rattle.std.specs.Cmp.{IsTotalOrder}
-use Rattle.std.specs.Cmp.Lexicographic.{lists_total, nat_list_cmp_total}
 use Rattle.std.specs.Ordering.{eq_by_cmp}
-use Rattle.std.specs.declared.cmp.Ordering.{Ordering}
-use Rattle.std.specs.declared.cmp.Ordering.TheVariants.{Less, Equal, Greater}
-use Rattle.std.specs.FinMap.{get, insert, entries, entries-insert}
-use Rattle.std.specs.FinMap.Entries.{put, by_order}
+use Rattle.std.specs.FinMap.{get, insert}
 use Rattle.std.specs.Option.{option_map}
 use Rattle.std.proofs.lemmas.Bool.{false≢true}
 use Rattle.std.proofs.lemmas.List.{drop_more, drop_all, reverse-append}
@@ -30,47 +25,8 @@ use Rattle.reg_copy.specs.declared.fault.CopyFault.{CopyFault}
 use Rattle.reg_copy.specs.declared.fault.CopyFault.TheVariants.{NoKey, NoPlace, Taken, Limit, Full, Memory}
 use Rattle.reg_copy.specs.Copies.{copy_of}
 use Rattle.reg_copy.specs.Internal.Copying.{IsKeyCopied, is_left, AreApart, AreLeft, copied_so_far, IsAmid, IsNoted, IsRefused, IsStopped}
+use Rattle.reg_copy.proofs.InsertedChildren.{at-most-one, children-insert}
 use Rattle.reg_copy.proofs.LeftPaths.{front-cancel, copy-below, done-here, same-elsewhere, apart-next}
-
--- ---- how many keys are right below one
-
-one-more : (b : Bool) (x : Path) (xs : List Path) → length (cond b (x ∷ xs) xs) ≡ cond b 1 0 + length xs
-one-more true x xs = omega arith
-one-more false x xs = omega arith
-
-at-most-one : (b : Bool) → cond b 1 0 ≤ 1
-at-most-one true = omega arith
-at-most-one false = omega arith
-
-abbrev paths_of : List (Path × Rec) → List Path
-paths_of es = map (λ (e : Path × Rec). e.0) es
-
-count-put : (p q : Path) (r : Rec) (es : List (Path × Rec)) →
-    length (filter (is_child p) (paths_of (put path_cmp q r es))) ≤ cond (is_child p q) 1 0 + length (filter (is_child p) (paths_of es))
-count-put p q r [] = let l = one-more (is_child p q) q [] in omega (arith, l)
-count-put p q r (e ∷ es) = by (count-put p q r es) (path_cmp q e.0)
-  where
-    others : List Path
-    others = filter (is_child p) (paths_of es)
-
-    by : length (filter (is_child p) (paths_of (put path_cmp q r es))) ≤ cond (is_child p q) 1 0 + length others → (o : Ordering) →
-        length (filter (is_child p) (paths_of (by_order o ((q, r) ∷ e ∷ es) ((e.0, r) ∷ es) (e ∷ put path_cmp q r es)))) ≤
-        cond (is_child p q) 1 0 + length (filter (is_child p) (paths_of (e ∷ es)))
-    by c Less = let l = one-more (is_child p q) q (filter (is_child p) (paths_of (e ∷ es))) in omega (arith, l)
-    by c Equal = omega arith
-    by c Greater =
-        let a = one-more (is_child p e.0) e.0 (filter (is_child p) (paths_of (put path_cmp q r es))) in
-        let b = one-more (is_child p e.0) e.0 others in
-        omega (arith, a, b, c)
-
-total : IsTotalOrder path_cmp
-total = lists_total nat_list_cmp_total
-
-children-insert : (tree : Tree) (p q : Path) (r : Rec) →
-    length (children_of (insert tree q r) p) ≤ cond (is_child p q) 1 0 + length (children_of tree p)
-children-insert tree p q r =
-    subst (λ (es : List (Path × Rec)). length (filter (is_child p) (paths_of es)) ≤ cond (is_child p q) 1 0 + length (children_of tree p))
-    (sym (entries-insert total tree q r)) (count-put p q r (entries tree))
 
 -- ---- what is pending
 

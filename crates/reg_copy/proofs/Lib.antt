@@ -1,6 +1,7 @@
+pub mod InsertedChildren
 pub mod LeftPaths
 pub mod CopySteps
-pub mod Beginnings
+pub mod CopyEnds
 pub mod FrontValues
 pub mod KeyRoom
 pub mod KeyParts

@@ -2,7 +2,7 @@ use Rattle.std.proofs.Common.{sym, ◌∙◌, refl}
 use Rattle.reg_heap.specs.Edits.{child_path}
 use Rattle.reg_tree.proofs.Invariant.CellReadings.{some_of}
 use Rattle.reg_tree_text.proofs.SentTexts.{err_exits}
-use Rattle.reg_copy.proofs.Beginnings.{ended, if-ok, stops-may, late, lack-stops, may-copy}
+use Rattle.reg_copy.proofs.CopyEnds.{ended, if-ok, stops-may, late, lack-stops, may-copy}
 use Rattle.reg_copy.proofs.KeyParts.{good-name}
 use Rattle.reg_copy.proofs.copying.copy.Goals as goal
 

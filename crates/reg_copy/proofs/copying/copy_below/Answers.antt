@@ -2,7 +2,7 @@ use Rattle.std.proofs.Common.{subst}
 use Rattle.reg_heap.specs.Edits.{child_path}
 use Rattle.reg_tree.proofs.Invariant.CellReadings.{some_of}
 use Rattle.reg_tree_text.proofs.SentTexts.{err_exits}
-use Rattle.reg_copy.proofs.Beginnings.{begun, if-ok, if-halted, refused-halts}
+use Rattle.reg_copy.proofs.CopyEnds.{begun, if-ok, if-halted, refused-halts}
 use Rattle.reg_copy.specs.Internal.Copying.{IsNoted}
 use Rattle.reg_copy.proofs.copying.copy_below.Goals as goal
 
