@@ -6,3 +6,4 @@ pub mod RowsOfListings
 pub mod RowsOfKeys
 pub mod RowsOfValues
 pub mod RowsOfCrowds
+pub mod RowsOfPlaces

@@ -15,4 +15,7 @@ pub mod ImageParts
 pub mod FaultsOfPaths
 pub mod PathsAsLoaded
 pub mod PathsRead
+pub mod PlacesFound
+pub mod PlaceNames
+pub mod PlacesLaw
 pub mod OwnPaths

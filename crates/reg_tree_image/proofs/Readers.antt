@@ -22,6 +22,8 @@ pub mod AllValues
 pub mod SiblingTests
 pub mod BegunSteps
 pub mod CheckedSteps
+pub mod FaultSpots
+pub mod SpotSteps
 pub mod ValueRows
 pub mod PathSteps
 pub mod NamesListed

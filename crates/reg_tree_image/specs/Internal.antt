@@ -10,6 +10,7 @@ pub mod BegunKeys
 pub mod CellScans
 pub mod SegmentSteps
 pub mod Frames
+pub mod FaultSpots
 pub mod Stacks
 pub mod CheckedStacks
 pub mod FirstUses

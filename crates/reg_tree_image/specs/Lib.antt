@@ -11,5 +11,6 @@ pub mod Rooms
 pub mod WalkedKeys
 pub mod CrowdedBins
 pub mod Loads
+pub mod FaultPlaces
 pub mod FreeBytes
 pub mod Internal

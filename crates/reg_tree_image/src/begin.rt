@@ -90,6 +90,7 @@ pub fn begin_root<'a>(
     ensures fewer { OnOk result (unnamed table.new.states.items < unnamed table.old.states.items) }
 {
     let named = named_key(building.alloc, bins, table, offset)?;
+    let mut failed = 0;
     let parts = enter_key(
         building.alloc,
         bins,
@@ -97,6 +98,7 @@ pub fn begin_root<'a>(
         minor,
         offset,
         &named.node.fields,
+        &mut failed,
     )?;
     let tree = build_root(building, &named, &parts, room)?;
     let fields = named.node.fields;
@@ -144,6 +146,7 @@ pub fn begin_key<'a>(
     let named = named_key(building.alloc, bins, table, offset)?;
     let reached = reach_below(tree, above.node, &named)?;
     let met = table.state(named.node.fields.security) == CellState::NamedSecurity;
+    let mut failed = 0;
     let parts = enter_key(
         building.alloc,
         bins,
@@ -151,6 +154,7 @@ pub fn begin_key<'a>(
         minor,
         offset,
         &named.node.fields,
+        &mut failed,
     )?;
     let node = build_sharing(
         building, tree, above.node, reached, &named, &parts, met, firsts, room,

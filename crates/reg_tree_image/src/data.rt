@@ -22,7 +22,7 @@ use reg_records::SEGMENT_SIZE;
 use std::alloc::Global;
 
 /// The bit of a size field that says that the data stands in the field of its offset.
-const INLINE: u32 = 0x8000_0000;
+pub const INLINE: u32 = 0x8000_0000;
 
 /// How many bytes of data stand in that field at most.
 const INLINE_LIMIT: u32 = 4;

@@ -45,7 +45,7 @@ fn key_name<'a>(alloc: Global, node: KeyNode<'a>) -> Result<CowSlice<'a, u8>, Lo
 }
 
 /// Reads a key's record and its name from what its cell holds.
-fn read_key<'a>(alloc: Global, content: &'a [u8]) -> Result<NamedKey<'a>, LoadFault>
+pub fn read_key<'a>(alloc: Global, content: &'a [u8]) -> Result<NamedKey<'a>, LoadFault>
     ensures gives { Gives key_of (key_in content.now) result }
     ensures fit { IfOk result IsFitName }
 {

@@ -7,7 +7,8 @@
 //! The definitions right in `specs/` are the rules' own: `WalkSteps` (a step meets a fault, or gives what it read), `LoadingWalk`
 //! (the walk, record by record), `BaseBlock` (the first 4,096 bytes), `Images` (an image as it is written, and as it is loaded),
 //! `WalkedKeys` with `CrowdedBins` (the keys that the walk comes to, and that the new bins have no room for one), and `PathWalk` with
-//! `KeyListing` and `PathLoads` (the walk along one path, to a key's value, or to a key that is listed).
+//! `KeyListing` and `PathLoads` (the walk along one path, to a key's value, or to a key that is listed), and `FaultPlaces` (where in the
+//! bins the walk fails).
 //! The readers keep a table of what is known of each cell (`CellTable`): whether it is allocated, and how it was named.
 //!
 //! It stands on reg_shape, whose readings and trees the walk spells, and on reg_records for the records. Its main type is
@@ -19,11 +20,14 @@
 //! `table`. `writing` makes an image, `tree_writing` writes one bin by bin, and `parts` copies a part of one.
 //! `path_loading` finds a value of an image by its path, by `path_walk`, which reads no more keys than it passes, and `path_listing` a
 //! key with its values and the names right below it.
+//! `places` tells where a fault is met (`FaultPlaces`): a bin or a size by `bad_bins`, all else by `checking`, which keeps where it is
+//! (`spots`).
 //! `free_cells` counts what of the bins is free, and `rebuilding` builds a tree anew in bins of its own.
 //!
 //! Suhanov, Windows registry file format specification, sections "Format of primary files", "Base block", "Hive bin" and "Cell".
 #![tactic(auto)]
 
+mod bad_bins;
 mod begin;
 mod big_data;
 mod block;
@@ -47,12 +51,14 @@ mod parts;
 mod path_listing;
 mod path_loading;
 mod path_walk;
+mod places;
 mod rebuilding;
 mod room;
 mod rows;
 mod scan;
 mod security;
 mod sibling_names;
+mod spots;
 mod subkeys;
 mod table;
 mod tree_writing;
@@ -68,6 +74,7 @@ pub use loading::{NumberedTree, load_anew, load_numbered, load_tree};
 pub use parts::{fill, image_part};
 pub use path_listing::{KeyAtPath, ListedValue, key_at_path};
 pub use path_loading::{ValueAtPath, value_at_path};
+pub use places::{FaultPlace, fault_place};
 pub use rebuilding::rebuild;
 use thiserror::Error;
 pub use tree_writing::write_tree;

@@ -181,7 +181,16 @@ fn listed_below<'a>(
 {
     table.enter(key.offset);
     let fields = key.named.node.fields;
-    let values = values_from(alloc, bins, table, minor, fields.values, fields.values_list)?;
+    let mut failed = 0;
+    let values = values_from(
+        alloc,
+        bins,
+        table,
+        minor,
+        fields.values,
+        fields.values_list,
+        &mut failed,
+    )?;
     let subkeys = subkey_names(alloc, bins, table, fields.subkeys, fields.subkeys_list)?;
     Ok(Some(ReadKey { values, subkeys }))
 }

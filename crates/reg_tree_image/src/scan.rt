@@ -14,7 +14,7 @@ use crate::table::{CellState, CellTable};
 use std::alloc::Global;
 
 /// Whether a bin's header stands at a place, and the bin ends within the bytes.
-fn is_header(bins: &[u8], at: usize) -> bool
+pub fn is_header(bins: &[u8], at: usize) -> bool
     requires { at + 12 ≤ length bins.now }
     ensures { result ≡ is_header_in bins.now at }
 {
@@ -42,7 +42,7 @@ fn are_headers(bins: &[u8]) -> bool
 }
 
 /// Whether the size of the cell at a place is good, in a bin that ends at `stop`.
-fn is_size(size: u32, at: usize, stop: usize) -> bool
+pub fn is_size(size: u32, at: usize, stop: usize) -> bool
     requires { at + 4294967296 < 9223372036854775808 }
     ensures { result ≡ is_size_in size at stop }
 {

@@ -2,10 +2,13 @@
 //!
 //! Suhanov, Windows registry file format specification, section "Subkeys list".
 
-ghost use Rattle.std.specs.Prelude.{◌≡◌, ◌≤◌, ℕ, List, [], suc};
+ghost use Rattle.std.specs.Prelude.{◌≡◌, ◌≤◌, ℕ, List, [], suc, IfErr};
 ghost use Rattle.reg_arena.specs.Cells.{cell_at};
 ghost use Rattle.reg_tree_image.specs.WalkSteps.{Seen, Step};
+ghost use Rattle.reg_tree_image.specs.LoadingWalk.{list_from as list_step};
 ghost use Rattle.reg_tree_image.specs.Internal.CellStates.{IsTable, unnamed};
+ghost use Rattle.reg_tree_image.specs.Internal.FaultSpots.{NoList};
+ghost use Rattle.reg_tree_image.specs.Internal.ReaderOutcomes.{Fails};
 ghost use Rattle.reg_tree_image.specs.Internal.ListParts.{entries_in};
 ghost use Rattle.reg_tree_image.specs.Internal.BegunKeys.{keys_of, lists_of, Lists};
 
@@ -76,6 +79,8 @@ fn listed<'a>(
     ensures lists { (path : List ℕ) → (go : ℕ → Step (Unit {0})) → (more : ℕ) → (seen : Seen) →
         IsTable (cell_at bins.now) seen.found path table.old.states.items →
         Lists (cell_at bins.now) path go (suc more) offset seen table.new.states.items result }
+    ensures fails { (path : List ℕ) → (seen : Seen) → IsTable (cell_at bins.now) seen.found path table.old.states.items → IfErr result
+        (λ fault. Fails fault (list_step (cell_at bins.now) path offset) seen) }
     ensures no_more { unnamed table.new.states.items ≤ unnamed table.old.states.items }
 {
     let list = list_from(bins, table, offset)?;
@@ -92,6 +97,8 @@ pub fn subkeys_from<'a>(
     ensures lists { (path : List ℕ) → (go : ℕ → Step (Unit {0})) → (seen : Seen) →
         IsTable (cell_at bins.now) seen.found path table.old.states.items →
         Lists (cell_at bins.now) path go count offset seen table.new.states.items result }
+    ensures fails { (path : List ℕ) → (seen : Seen) → IsTable (cell_at bins.now) seen.found path table.old.states.items → IfErr result
+        (NoList (cell_at bins.now) path count offset seen) }
     ensures no_more { unnamed table.new.states.items ≤ unnamed table.old.states.items }
 {
     if count == 0 {

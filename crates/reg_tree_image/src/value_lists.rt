@@ -2,11 +2,14 @@
 //!
 //! Suhanov, Windows registry file format specification, section "Key values list".
 
-ghost use Rattle.std.specs.Prelude.{◌≤◌, ◌*◌, ℕ, List, [], length, IfOk};
+ghost use Rattle.std.specs.Prelude.{◌≤◌, ◌*◌, ℕ, List, [], length, IfOk, IfErr};
 ghost use Rattle.reg_arena.specs.Cells.{cell_at};
 ghost use Rattle.reg_records.specs.OffsetRows.{offsets_at};
 ghost use Rattle.reg_tree_image.specs.LoadingWalk.{values_each as each_step, values_from as values_step};
-ghost use Rattle.reg_tree_image.specs.Internal.CellStates.{unnamed};
+ghost use Rattle.reg_tree_image.specs.WalkSteps.{Seen};
+ghost use Rattle.reg_tree_image.specs.FaultPlaces.{values_spot, value_list_spot};
+ghost use Rattle.reg_tree_image.specs.Internal.CellStates.{IsTable, unnamed};
+ghost use Rattle.reg_tree_image.specs.Internal.FaultSpots.{IsMetAt};
 ghost use Rattle.reg_tree_image.specs.Internal.ReaderOutcomes.{Follows};
 ghost use Rattle.reg_tree_image.specs.Internal.NamedRecords.{members_in};
 ghost use Rattle.reg_tree_image.specs.Internal.FitKeys.{AreNew, AreFit};
@@ -20,7 +23,8 @@ use reg_heap::limits::VALUES_LIMIT;
 use reg_records::offset_at;
 use std::alloc::Global;
 
-/// Reads the values at the first offsets of a row, in their order.
+/// Reads the values at the first offsets of a row, in their order. Where one meets a fault, the offset of its
+/// record or of its data is in `failed`.
 fn values_each<'a>(
     alloc: Global,
     bins: &'a [u8],
@@ -28,11 +32,15 @@ fn values_each<'a>(
     minor: u32,
     row: &[u8],
     count: u32,
+    failed: &mut u32,
 ) -> Result<Vec<ReadValue<'a>>, LoadFault>
     requires { 4 * count ≤ length row.now }
     ensures follows { (path : List ℕ) →
         Follows (cell_at bins.now) path (λ values. members_in values.items)
         (each_step (cell_at bins.now) minor path [] (offsets_at count 0 row.now)) table.old.states.items table.new.states.items result }
+    ensures spots { (path : List ℕ) → (seen : Seen) → IsTable (cell_at bins.now) seen.found path table.old.states.items → IfErr result
+        (λ fault. IsMetAt fault (record { offset = failed.new; path = path })
+        (values_spot (cell_at bins.now) minor path [] (offsets_at count 0 row.now) seen)) }
     ensures new { IfOk result (λ values. AreNew [] (members_in values.items)) }
     ensures few { IfOk result (λ values. length (members_in values.items) ≤ count) }
     ensures no_more { unnamed table.new.states.items ≤ unnamed table.old.states.items }
@@ -52,6 +60,7 @@ fn values_each<'a>(
             &mut met,
             values.as_slice(),
             offset,
+            failed,
         )?;
         if values.push(value).is_err() {
             return Err(LoadFault::Memory);
@@ -61,7 +70,7 @@ fn values_each<'a>(
 }
 
 /// Names a key's list of values, unless it has none, and reads its first values, as many as are counted. `Limit` is for more than
-/// 16,384, before the list is named.
+/// 16,384, before the list is named. Where it meets a fault, the offset of the list or of the value is in `failed`.
 pub fn values_from<'a>(
     alloc: Global,
     bins: &'a [u8],
@@ -69,19 +78,24 @@ pub fn values_from<'a>(
     minor: u32,
     count: u32,
     offset: u32,
+    failed: &mut u32,
 ) -> Result<Vec<ReadValue<'a>>, LoadFault>
     ensures follows { (path : List ℕ) →
         Follows (cell_at bins.now) path (λ values. members_in values.items) (values_step (cell_at bins.now) minor path count offset)
         table.old.states.items table.new.states.items result }
+    ensures spots { (path : List ℕ) → (seen : Seen) → IsTable (cell_at bins.now) seen.found path table.old.states.items → IfErr result
+        (λ fault. IsMetAt fault (record { offset = failed.new; path = path })
+        (value_list_spot (cell_at bins.now) minor path count offset seen)) }
     ensures fit { IfOk result (λ values. AreFit (members_in values.items)) }
     ensures no_more { unnamed table.new.states.items ≤ unnamed table.old.states.items }
 {
     if count == 0 {
         return Ok(Vec::new(alloc));
     }
+    *failed = offset;
     if count > VALUES_LIMIT {
         return Err(LoadFault::Limit);
     }
     let row = row_from(bins, table, offset, count)?;
-    values_each(alloc, bins, table, minor, row, count)
+    values_each(alloc, bins, table, minor, row, count, failed)
 }

@@ -1,12 +1,15 @@
 //! Values, as the walk names them: a record and its name, and then the data.
 
-ghost use Rattle.std.specs.Prelude.{◌≡◌, ◌<◌, ◌≤◌, ℕ, true, List, [], ◌∷◌, ◌++◌, IfOk, OnOk};
+ghost use Rattle.std.specs.Prelude.{◌≡◌, ◌<◌, ◌≤◌, ℕ, true, List, [], ◌∷◌, ◌++◌, IfOk, IfErr, OnOk};
 ghost use Rattle.std.specs.Cow.{cow_slice_items};
 ghost use Rattle.reg_names.specs.Names.{is_value_name};
 ghost use Rattle.reg_heap.specs.Trees.{IsSmallValue};
 ghost use Rattle.reg_arena.specs.Cells.{cell_at};
 ghost use Rattle.reg_tree_image.specs.LoadingWalk.{value_name as name_step, named_value as named_step, value_from as value_step};
-ghost use Rattle.reg_tree_image.specs.Internal.CellStates.{unnamed};
+ghost use Rattle.reg_tree_image.specs.WalkSteps.{Seen};
+ghost use Rattle.reg_tree_image.specs.FaultPlaces.{data_offset, value_spot};
+ghost use Rattle.reg_tree_image.specs.Internal.CellStates.{IsTable, unnamed};
+ghost use Rattle.reg_tree_image.specs.Internal.FaultSpots.{IsMetAt};
 ghost use Rattle.reg_tree_image.specs.Internal.ReaderOutcomes.{Gives, Follows};
 ghost use Rattle.reg_tree_image.specs.Internal.NameReadings.{value_in};
 ghost use Rattle.reg_tree_image.specs.Internal.NamedRecords.{value_of, member_in, members_in};
@@ -15,11 +18,12 @@ ghost use Rattle.reg_tree_image.specs.Internal.FitKeys.{IsOther};
 
 use crate::LoadFault;
 use crate::cells::cell;
-use crate::data::{ReadData, data_from};
+use crate::data::{INLINE, ReadData, data_from};
 use crate::met_names::MetNames;
 use crate::names::name_from;
 use crate::security::fault_of;
 use crate::table::CellTable;
+use reg_heap::limits::DATA_LIMIT;
 use reg_names::VALUE_NAME_LIMIT;
 use reg_records::{ValueRecord, read_vk};
 use std::alloc::Global;
@@ -87,8 +91,18 @@ pub fn named_value<'a>(
     read_value(alloc, content)
 }
 
+/// Where data stands, of a size and an offset as a value's record has them, which stands at `held`.
+fn offset_of_data(held: u32, size: u32, offset: u32) -> u32
+    ensures { result ≡ data_offset held size offset }
+{
+    if size >= INLINE || size as usize > DATA_LIMIT {
+        return held;
+    }
+    offset
+}
+
 /// Names the value of a key behind these, meets its name among theirs, and reads its data, in this order. `Twice` is also for a name
-/// that folds as one of theirs.
+/// that folds as one of theirs. Where it meets a fault, the offset of the record or of the data is in `failed`.
 pub fn value_from<'a>(
     alloc: Global,
     bins: &'a [u8],
@@ -97,19 +111,25 @@ pub fn value_from<'a>(
     met: &mut MetNames,
     before: &[ReadValue<'_>],
     offset: u32,
+    failed: &mut u32,
 ) -> Result<ReadValue<'a>, LoadFault>
     requires { AreKnown (members_in before.now) met.old.folded.keys }
     ensures follows { (path : List ℕ) →
         Follows (cell_at bins.now) path member_in (value_step (cell_at bins.now) minor path (members_in before.now) offset)
         table.old.states.items table.new.states.items result }
+    ensures spots { (path : List ℕ) → (seen : Seen) → IsTable (cell_at bins.now) seen.found path table.old.states.items → IfErr result
+        (λ fault. IsMetAt fault (record { offset = failed.new; path = path })
+        (value_spot (cell_at bins.now) minor path (members_in before.now) offset seen)) }
     ensures small { IfOk result (λ value. IsSmallValue (member_in value)) }
     ensures other { IfOk result (λ value. IsOther (members_in before.now) (cow_slice_items value.name)) }
     ensures met { IfOk result (λ value. AreKnown (members_in before.now ++ member_in value ∷ []) met.new.folded.keys) }
     ensures no_more { unnamed table.new.states.items ≤ unnamed table.old.states.items }
 {
+    *failed = offset;
     let NamedValue { value, name } = named_value(alloc, bins, table, offset)?;
     met.meet(alloc, before, name.as_slice())?;
     let fields = value.fields;
+    *failed = offset_of_data(offset, fields.size, fields.offset);
     let bytes = data_from(alloc, bins, table, minor, fields.size, fields.offset)?;
     Ok(ReadValue {
         name,

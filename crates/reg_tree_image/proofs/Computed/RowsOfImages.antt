@@ -22,7 +22,7 @@ unfolding checksum_of word
 zeros-checksum = refl
 
 -- a fresh hive's image
-abbrev first_image : List ℕ
+abbrev pub first_image : List ℕ
 first_image = image_of fresh 32 0 1
 
 -- in digits: the base block, the bin's header, the key node, the security, and the free cell behind them

@@ -35,7 +35,7 @@ good-header bins at e =
     record { some = less-is 0 (word bins (at + 8)) p.0; pages = eqb-true _ _ p.1; within = most-is (at + word bins (at + 8)) (length bins) p.2 }
 
 -- one step of the bins' list
-abbrev place_at : List ℕ → ℕ → BinPlace
+abbrev pub place_at : List ℕ → ℕ → BinPlace
 place_at bins at = record { start = at; size = word bins (at + 8) }
 
 at-end : (at : ℕ) (bins : List ℕ) (steps : ℕ) → at ≡ length bins → bins_from (suc steps) bins at ≡ Some []

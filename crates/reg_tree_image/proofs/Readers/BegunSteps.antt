@@ -160,7 +160,7 @@ module _ (heap : Heap) (minor lower : ℕ) (path : List ℕ) (here : List ℕ �
       (offset ∷ path) head.0.fields.subkeys head.0.fields.subkeys_list))
       head.gives
 
-  abbrev telling : List ℕ × List ℕ × List Member → Step (Unit {0})
+  abbrev pub telling : List ℕ × List ℕ × List Member → Step (Unit {0})
   telling parts = tell its_path (record {
     name = cow_slice_items named.name;
     marks = marks_of named.node.fields.flags;

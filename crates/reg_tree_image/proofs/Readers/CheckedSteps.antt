@@ -17,7 +17,9 @@ use Rattle.reg_tree_image.specs.declared.subkeys.SubkeyParts.{SubkeyParts}
 use Rattle.reg_tree_image.specs.declared.sibling_names.SiblingNames.{SiblingNames}
 use Rattle.reg_tree_image.specs.WalkSteps.{Seen, Step, onward, give, check}
 use Rattle.reg_tree_image.specs.LoadingWalk.{is_free, named_key, head_from, parts_from, key_from}
+use Rattle.reg_tree_image.specs.FaultPlaces.{key_spot}
 use Rattle.reg_tree_image.specs.Internal.CellStates.{IsTable}
+use Rattle.reg_tree_image.specs.Internal.ListParts.{entries_in}
 use Rattle.reg_tree_image.specs.Internal.NamedRecords.{key_of, parts_in}
 use Rattle.reg_tree_image.specs.Internal.ReaderOutcomes.{IsDone, Fails, Gives}
 use Rattle.reg_tree_image.specs.Internal.BegunKeys.{Stops, told_as, IsListed, Lists}
@@ -25,6 +27,7 @@ use Rattle.reg_tree_image.specs.Internal.Stacks.{FailsAs}
 use Rattle.reg_tree_image.specs.Internal.CheckedStacks.{Meets, has_met, AreSiblings, IsChecked}
 use Rattle.reg_tree_image.proofs.Readers.SiblingTests.{free-is}
 use Rattle.reg_tree_image.proofs.Readers.BegunSteps.{stops-bind, head-is, head-done, head-stops, head-fails, parts-fail, told_then, begun, rest-gives, told-are, list-fails}
+use Rattle.reg_tree_image.proofs.Readers.SpotSteps.{spot-left}
 use Rattle.reg_tree_image.proofs.WalkedBack.KeyOffsets.{head-keys, rest-keys, listed-keys}
 
 -- ---- faults
@@ -66,14 +69,18 @@ module _ (heap : Heap) (minor levels : ℕ) (path : List ℕ) (here : List ℕ �
     free-by = are given
 
     -- a sibling has its name, or memory lacks for it
-    pub not-new : (fault : LoadFault) → Gives {X = Unit {0}} (λ _. tt) (check Twice (not (has_met siblings given))) (Err fault) → Whole fault
-    not-new fault g =
+    pub new-stops : (fault : LoadFault) → Gives {X = Unit {0}} (λ _. tt) (check Twice (not (has_met siblings given))) (Err fault) →
+        Stops levels fault (head_from heap path here offset seen)
+    new-stops fault g =
         let asked : check Twice (is_free at done.after.told) done.after ≡ check Twice (not (has_met siblings given)) done.after =
         ap (λ b. check Twice b done.after) (ap (is_free at) done.told ∙ free-by) in
         let head : head_from heap path here offset seen ≡ onward (λ _. give (key_of named)) (check Twice (not (has_met siblings given)) done.after) =
         head-is heap path here offset seen named states done ∙ ap (onward (λ _. give (key_of named))) asked in
-        stopped fault (subst (λ r. Stops levels fault r) (sym head)
-        (stops-bind levels fault (check Twice (not (has_met siblings given))) (λ _. give (key_of named)) done.after (g done.after)))
+        subst (λ r. Stops levels fault r) (sym head)
+        (stops-bind levels fault (check Twice (not (has_met siblings given))) (λ _. give (key_of named)) done.after (g done.after))
+
+    pub not-new : (fault : LoadFault) → Gives {X = Unit {0}} (λ _. tt) (check Twice (not (has_met siblings given))) (Err fault) → Whole fault
+    not-new fault g = stopped fault (new-stops fault g)
 
     -- none has
     passed : (b : Bool) → check Twice b seen ≡ Ok (tt, seen) → b ≡ true
@@ -95,8 +102,11 @@ module _ (heap : Heap) (minor levels : ℕ) (path : List ℕ) (here : List ℕ �
   module _ (named : NamedKey) (mid : List CellState)
       (head : IsDone heap path (head_from heap path here offset) seen (key_of named) mid) where
     -- no level is left for it
+    pub deep-stops : levels ≡ 0 → Stops levels Limit (head_from heap path here offset seen)
+    deep-stops z = inr (z, subst (λ (r : Result ((KeyRecord × List ℕ) × Seen) LoadFault). IsOk r) (sym head.gives) refl)
+
     pub too-deep : levels ≡ 0 → Whole Limit
-    too-deep z = stopped Limit (inr (z, subst (λ (r : Result ((KeyRecord × List ℕ) × Seen) LoadFault). IsOk r) (sym head.gives) refl))
+    too-deep z = stopped Limit (deep-stops z)
 
     -- ---- the key behind its head
 
@@ -156,4 +166,7 @@ module _ (heap : Heap) (minor levels : ℕ) (path : List ℕ) (here : List ℕ �
                   ∙ (rest-keys heap minor new (offset ∷ path) (here (cow_slice_items named.name)) (key_of named).0 (cow_slice_items named.name) head.after tt (told_then heap minor lower path here offset seen named mid head parts next own)
                   (rest-gives heap minor lower path here offset seen named mid head parts next own)
                   ∙ head-keys heap minor new path here offset seen (key_of named) head.after head.gives);
+              spot = ap (λ n. key_spot heap minor n path here offset seen) level
+                  ∙ spot-left heap minor lower path here offset seen named mid head parts next own l.after (entries_in subkeys.leaf)
+                  (entries_in subkeys.lists) l.source;
             }

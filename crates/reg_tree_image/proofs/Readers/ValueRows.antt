@@ -1,5 +1,5 @@
 -- The values at the offsets of a row, read one after the other.
-use Rattle.std.proofs.Common.{◌≡◌, ℕ, zero, suc, ◌+◌, ◌<◌, ◌≤◌, nat_le, true, Result, Ok, Err, List}
+use Rattle.std.proofs.Common.{◌≡◌, ℕ, zero, suc, ◌+◌, ◌<◌, ◌≤◌, nat_le, true, Result, Ok, Err, IfErr, List}
 use Rattle.std.proofs.Common.{[], ◌∷◌, ◌++◌, length, drop, Vec, Global, add-one, refl, sym, ap, ◌∙◌, subst}
 use Rattle.std.proofs.Common.{drop-cons, length-append, arith}
 use Rattle.std.specs.Result.{IsErrAnd}
@@ -19,14 +19,17 @@ use Rattle.reg_tree_image.specs.declared.table.CellState.{CellState}
 use Rattle.reg_tree_image.specs.declared.values.ReadValue.{ReadValue}
 use Rattle.reg_tree_image.specs.WalkSteps.{Seen, Step, ◌>>=◌, onward}
 use Rattle.reg_tree_image.specs.LoadingWalk.{row_from, value_from, values_each, values_from}
+use Rattle.reg_tree_image.specs.FaultPlaces.{then_place, value_spot, values_spot}
 use Rattle.reg_tree_image.specs.Internal.CellStates.{IsTable, unnamed}
 use Rattle.reg_tree_image.specs.Internal.NamedRecords.{member_in, members_in}
 use Rattle.reg_tree_image.specs.Internal.NamesMet.{AreKnown}
 use Rattle.reg_tree_image.specs.Internal.FitKeys.{IsOther, AreNew}
 use Rattle.reg_tree_image.specs.Internal.ReaderOutcomes.{Fails, Follows}
+use Rattle.reg_tree_image.specs.Internal.FaultSpots.{IsMetAt}
 use Rattle.reg_tree_image.proofs.Readers.ReaderSteps.{fails-on, fails-same, exit-follows, follows-then}
 use Rattle.reg_tree_image.proofs.Readers.ValueReadings.{check-follows}
 use Rattle.reg_tree_image.proofs.Readers.NewValues.{new-push}
+use Rattle.reg_tree_image.proofs.Readers.FaultSpots.{met-part, met-exit}
 
 -- ---- the row
 
@@ -63,6 +66,7 @@ module _ (heap : Heap) (minor : ℕ) (offsets : List ℕ) (old : List CellState)
     pub goes : values_each heap minor path [] offsets seen ≡ values_each heap minor path (members_in values) (drop index offsets) after
     pub table : IsTable heap after.found path now
     pub told : after.told ≡ seen.told
+    pub spots : values_spot heap minor path [] offsets seen ≡ values_spot heap minor path (members_in values) (drop index offsets) after
 
   -- the first values were read, and just their names are met
   pub record AreValuesRead {Y : Type 0} (index : ℕ) (values : List ReadValue) (met : List (ℕ × Vec ℕ Y)) (now : List CellState) : Type 0 where
@@ -79,7 +83,7 @@ module _ (heap : Heap) (minor : ℕ) (offsets : List ℕ) (old : List CellState)
     new = tt;
     many = refl;
     no_more = omega arith;
-    left = λ path seen t. record { after = seen; goes = refl; table = t; told = refl };
+    left = λ path seen t. record { after = seen; goes = refl; table = t; told = refl; spots = refl };
   })
 
   module _ {Y : Type 0} (index offset : ℕ) (next : drop index offsets ≡ offset ∷ drop (index + 1) offsets) (values : List ReadValue)
@@ -114,6 +118,10 @@ module _ (heap : Heap) (minor : ℕ) (offsets : List ℕ) (old : List CellState)
                 ∙ ap (λ ms. rest-of path ms (drop (index + 1) offsets) d.after) (sym (members-behind values v))));
             table = d.table;
             told = d.told ∙ w.told;
+            spots = w.spots ∙ (ap (λ os. values_spot heap minor path (members_in values) os w.after) next
+                ∙ (ap (then_place (value_spot heap minor path (members_in values) offset)
+                (λ member. values_spot heap minor path (members_in values ++ member ∷ []) (drop (index + 1) offsets)) w.after) d.gives
+                ∙ ap (λ ms. values_spot heap minor path ms (drop (index + 1) offsets) d.after) (sym (members-behind values v))));
           };
     })
 
@@ -128,6 +136,24 @@ module _ (heap : Heap) (minor : ℕ) (offsets : List ℕ) (old : List CellState)
         (fails-same fault (rest-of path [] offsets) (one >>= rest) seen w.after
         (w.goes ∙ ap (λ os. rest-of path (members_in values) os w.after) next)
         (fails-on fault one rest w.after (turned (Err fault) f path w.after w.table)))
+
+    -- it fails where it says
+    pub value-exit-spot : (fault : LoadFault) (r : Result (Vec ReadValue Global) LoadFault) → IsErrAnd r (λ e. e ≡ fault) → (failed : ℕ) →
+        FollowsNext before (Err fault) →
+        ((path : List ℕ) (seen : Seen) → IsTable heap seen.found path now →
+        IsMetAt fault (record { offset = failed; path = path }) (value_spot heap minor path (members_in before) offset seen)) →
+        (path : List ℕ) (seen : Seen) → IsTable heap seen.found path old →
+        IfErr r (λ e. IsMetAt e (record { offset = failed; path = path }) (values_spot heap minor path [] offsets seen))
+    value-exit-spot fault r i failed f m path seen t =
+        let w = a.left path seen t in
+        met-exit fault (record { offset = failed; path = path }) _ r i
+        (met-part fault (value_from heap minor path (members_in values) offset) (value_spot heap minor path (members_in values) offset)
+        (λ member. values_spot heap minor path (members_in values ++ member ∷ []) (drop (index + 1) offsets)) w.after
+        (record { offset = failed; path = path }) _
+        (w.spots ∙ ap (λ os. values_spot heap minor path (members_in values) os w.after) next)
+        (turned (Err fault) f path w.after w.table)
+        (subst (λ vs. IsMetAt fault (record { offset = failed; path = path }) (value_spot heap minor path (members_in vs) offset w.after)) same
+        (m path w.after w.table)))
 
   pub all-read : {Y : Type 0} (index : ℕ) (values : Vec ReadValue Global) (met : List (ℕ × Vec ℕ Y)) (now : List CellState) →
       length offsets ≤ index → AreValuesRead index values.items met now → (path : List ℕ) →

@@ -1,5 +1,5 @@
 -- The keys on the present path of a walk that builds none, as frames of what is left.
-use Rattle.std.specs.Prelude.{◌≡◌, ℕ, suc, ◌+◌, ◌==◌, ◌||◌, not, Bool, true, false, length, Result, Err, List, [], ◌∷◌, ◌++◌, ⊤}
+use Rattle.std.specs.Prelude.{◌≡◌, ℕ, suc, ◌+◌, ◌==◌, ◌||◌, not, Bool, true, false, length, reverse, Option, Result, Err, List, [], ◌∷◌, ◌++◌, ⊤}
 use Rattle.reg_names.specs.declared.TheConstants.{PATH_LIMIT}
 use Rattle.reg_heap.specs.Heaps.{Heap}
 use Rattle.reg_heap.specs.Paths.{Path, Rec}
@@ -12,10 +12,12 @@ use Rattle.reg_tree_image.specs.declared.sibling_names.SiblingNames.{SiblingName
 use Rattle.reg_tree_image.specs.declared.checking.CheckedKey.{CheckedKey}
 use Rattle.reg_tree_image.specs.WalkSteps.{Seen}
 use Rattle.reg_tree_image.specs.LoadingWalk.{is_free, key_from}
+use Rattle.reg_tree_image.specs.FaultPlaces.{Spot, key_spot}
 use Rattle.reg_tree_image.specs.Internal.CellStates.{IsTable}
 use Rattle.reg_tree_image.specs.Internal.ListParts.{entries_in}
 use Rattle.reg_tree_image.specs.Internal.NamesMet.{is_met, is_one_of}
 use Rattle.reg_tree_image.specs.Internal.Frames.{Frame, frame_left, left}
+use Rattle.reg_tree_image.specs.Internal.FaultSpots.{frame_spot, left_spot}
 use Rattle.reg_tree_image.specs.Internal.KeysNamed.{key_offsets}
 use Rattle.reg_tree_image.specs.Internal.Stacks.{path_of}
 
@@ -54,10 +56,10 @@ AreShown told levels (key ∷ above) (f ∷ frames) =
     Shows told key f × (f.path ≡ key.offset ∷ path_of frames) × (key.levels ≡ levels) × (levels + length f.at ≡ PATH_LIMIT)
     × AreShown told (suc levels) above frames
 
--- what was read so far, and the rest of the walk, are the whole walk; the keys that were named are noted, but in minor version 3, where a
--- hive's own walk reads data in another way
-pub record IsChecking (heap : Heap) (minor : ℕ) (whole : Result (Unit {0} × Seen) LoadFault) (stack : List CheckedKey)
-    (states : List CellState) (noted : List ℕ) : Type 0 where
+-- what was read so far, and the rest of the walk, are the whole walk, which fails where the rest does; the keys that were named are noted,
+-- but in minor version 3, where a hive's own walk reads data in another way; those of the present path are the trail
+pub record IsChecking (heap : Heap) (minor : ℕ) (whole : Result (Unit {0} × Seen) LoadFault) (there : Option Spot) (stack : List CheckedKey)
+    (states : List CellState) (noted trail : List ℕ) : Type 0 where
   pub seen : Seen
   pub frames : List Frame
   pub levels : ℕ
@@ -66,6 +68,8 @@ pub record IsChecking (heap : Heap) (minor : ℕ) (whole : Result (Unit {0} × S
   pub above : HasAllAbove seen.told
   pub rest : left heap minor levels frames seen ≡ whole
   pub keys : (minor == 3) ≡ false → noted ≡ key_offsets seen.found
+  pub spot : left_spot heap minor levels frames seen ≡ there
+  pub trailed : reverse trail ≡ path_of frames
 
 -- a key on the present path, of whose subkeys none was named yet
 abbrev pub frame_of : List ℕ → Path → CheckedKey → Frame
@@ -90,3 +94,4 @@ pub record IsChecked (heap : Heap) (minor levels : ℕ) (path : List ℕ) (here 
   pub table : IsTable heap after.found (offset ∷ path) states
   pub rest : key_from heap minor levels path here offset seen ≡ frame_left heap minor lower (frame_of (offset ∷ path) (here name) key) after
   pub keys : (minor == 3) ≡ false → key_offsets after.found ≡ key_offsets seen.found ++ offset ∷ []
+  pub spot : key_spot heap minor levels path here offset seen ≡ frame_spot heap minor lower (frame_of (offset ∷ path) (here name) key) after

@@ -3,7 +3,7 @@ use Rattle.reg_records.specs.OffsetRows.{offsets_at}
 use Rattle.reg_values.proofs.ValueListing.ValueListOpening.{length-offsets}
 use Rattle.reg_tree_image.specs.Internal.NamedRecords.{members_in}
 use Rattle.reg_tree_image.specs.Internal.NamesMet.{AreKnown}
-use Rattle.reg_tree_image.proofs.Readers.ValueRows.{next-offset, none-read, more-read, value-exit, all-read}
+use Rattle.reg_tree_image.proofs.Readers.ValueRows.{next-offset, none-read, more-read, value-exit, value-exit-spot, all-read}
 use Rattle.reg_tree_image.proofs.value_lists.values_each.Goals as goal
 
 pub loop-index-init : goal.loop-index-init
@@ -19,6 +19,13 @@ returns-in_err-value-clause-follows c path =
     (next-offset c.args.count c.args.row.now c.loop-index.index c.offset_at-offset.result c.loop-index-test.true c.offset_at-offset.ensures)
     c.loop-index.values.items c.loop-index.met.folded.keys _ c.loop-index.invariant _ _ c.as_slice.ensures.value _ _ c.from_residual.ensures.1
     c.in_err-value.ensures.follows path
+
+pub returns-in_err-value-clause-spots : goal.returns-in_err-value-clause-spots
+returns-in_err-value-clause-spots c path seen t =
+    value-exit-spot _ c.args.minor (offsets_at c.args.count 0 c.args.row.now) _ c.loop-index.index c.offset_at-offset.result
+    (next-offset c.args.count c.args.row.now c.loop-index.index c.offset_at-offset.result c.loop-index-test.true c.offset_at-offset.ensures)
+    c.loop-index.values.items c.loop-index.met.folded.keys _ c.loop-index.invariant c.value_from.new.table.states.items _ c.as_slice.ensures.value _ _ c.from_residual.ensures.1
+    c.value_from.new.failed c.in_err-value.ensures.follows c.in_err-value.ensures.spots path seen t
 
 pub loop-index-preserved : goal.loop-index-preserved
 loop-index-preserved c =
