@@ -66,4 +66,4 @@ module _ (tree : Tree) (i : IsTree tree) (limits : IsWithinLimits tree) (moment 
       (branch-root tree i limits moment bare b s.front s.name (subst (λ (p : Path). IsSome (get tree p)) s.is there))
 
   pub branch-tree : (path : Path) → IsTree (new path)
-  branch-tree path = tree-made moment (keys_from tree path) (begun bare) (bare-tree bare b)
+  branch-tree path = tree-made moment (keys_from (name_of (get tree [])) tree path) (begun bare) (bare-tree bare b)

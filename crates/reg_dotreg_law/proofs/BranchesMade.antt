@@ -143,7 +143,7 @@ module _ (tree : Tree) (i : IsTree tree) (limits : IsWithinLimits tree) (moment 
       ∙ sym (ap (λ (o : Option Rec). made_by moment stand (told_here (root ∷ all) o ++ rest)) key.1))
 
   whole : (levels : ℕ) → Enough tree (suc levels) path → (q : Path) →
-      seen (made_by moment (begun bare) (told_from (suc levels) tree (names_to tree path) path)).tree q
+      seen (made_by moment (begun bare) (told_from (suc levels) tree (names_to (name_of (get tree [])) tree path) path)).tree q
       ≡ cond (is_within path q) (seen tree q) (seen way q)
   whole levels enough q =
       let root : List ℕ = name_of (get tree []) in

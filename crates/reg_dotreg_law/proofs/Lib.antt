@@ -23,6 +23,7 @@ pub mod RootsBack
 pub mod KeysBack
 pub mod BlocksBack
 pub mod ToldBack
+pub mod DueOfRoots
 pub mod FileUnitsBack
 pub mod ShortTexts
 pub mod ReadTrees

@@ -1,4 +1,4 @@
--- The keys that are told of a tree from one of them on: they have the root's name in front, and can be read back.
+-- The keys that are told of a tree from one of them on: they have in front what stands for the root's name, and can be read back.
 use Rattle.std.proofs.Common.{◌≡◌, ℕ, zero, suc, ◌+◌, ◌&&◌, true, List, [], ◌∷◌, ◌++◌, length, map}
 use Rattle.std.proofs.Common.{Option, Some, None, IsSome, is_some, refl, sym, ap, ◌∙◌, subst, arith}
 use Rattle.std.specs.Prelude.{flat_map, nat_le}
@@ -118,9 +118,9 @@ module _ (tree : Tree) (i : IsTree tree) (w : IsWithinLimits tree) (o : IsOfByte
       (below-kept levels (all-kept levels) names path l named.names (child-there tree i path named.names named.are)
       (sym (ap (λ (x : List Path). list_all is_writable (flat_map (told_child levels names) x)) named.are) ∙ both.1)))
 
-pub tree-kept : (tree : Tree) (i : IsTree tree) (w : IsWithinLimits tree) (o : IsOfBytes tree) (path : Path) → IsSome (get tree path) →
-    CanWrite tree path → AllByRecursion (IsKeptBelow (name_of (get tree []))) (keys_from tree path)
+pub tree-kept : (root : List ℕ) (tree : Tree) (i : IsTree tree) (w : IsWithinLimits tree) (o : IsOfBytes tree) (path : Path) → IsSome (get tree path) →
+    CanWrite root tree path → AllByRecursion (IsKeptBelow root) (keys_from root tree path)
 unfolding keys_from
-tree-kept tree i w o path there can =
-    all-kept tree i w o (name_of (get tree [])) (PATH_LIMIT + 1) (names_behind tree [] path) path
+tree-kept root tree i w o path there can =
+    all-kept tree i w o root (PATH_LIMIT + 1) (names_behind tree [] path) path
     (record { at = behind-folded tree i [] path there; good = behind-good tree i w [] path there }) can

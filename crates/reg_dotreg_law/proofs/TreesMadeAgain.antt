@@ -145,4 +145,4 @@ module _ (tree : Tree) (i : IsTree tree) (limits : IsWithinLimits tree) (moment 
   root-named = name-shown (get new []) ∙ (ap name_seen at-root ∙ sym (ap name_of bare_root.1))
 
   pub tree-again : IsTree new
-  tree-again = tree-made moment (keys_from tree []) (begun bare) (bare-tree bare b)
+  tree-again = tree-made moment (keys_from (name_of (get tree [])) tree []) (begun bare) (bare-tree bare b)

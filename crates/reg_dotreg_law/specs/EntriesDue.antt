@@ -1,8 +1,9 @@
 -- The entries that the keys of a tree stand for (this project's own).
 use Rattle.std.specs.Prelude.{List, [], ◌∷◌, map, drop, flat_map}
+use Rattle.std.specs.FinMap.{get}
 use Rattle.reg_names.specs.Names.{text_of}
 use Rattle.reg_heap.specs.Paths.{Path, Tree, Member}
-use Rattle.reg_tree_text.specs.DumpTexts.{Told}
+use Rattle.reg_tree_text.specs.DumpTexts.{Told, name_of}
 use Rattle.reg_dotreg_writer.specs.Entries.{keys_from}
 use Rattle.reg_dotreg_reader.specs.declared.entry.Entry.{Entry}
 use Rattle.reg_dotreg_reader.specs.declared.entry.Entry.TheVariants.{Key, Value}
@@ -17,7 +18,7 @@ entries_of_key told = Key (text_of (drop 1 told.names)) ∷ map entry_of_value t
 
 -- those of a tree's keys from the one at a path on, in the order of a dump
 abbrev pub entries_below : Tree → Path → List Entry
-entries_below tree path = flat_map entries_of_key (keys_from tree path)
+entries_below tree path = flat_map entries_of_key (keys_from (name_of (get tree [])) tree path)
 
 -- those of all its keys
 abbrev pub entries_due : Tree → List Entry

@@ -40,7 +40,8 @@ pub record IsKept (value : Member) : Type 0 where
 
 -- ---- texts
 
--- the text of a tree's keys from the one at a path on is read, of keys below a root of that name, as the entries that they stand for
-abbrev pub IsReadBack : (name : List ℕ) → Tree → Path → Type 0
-IsReadBack name tree path =
-    (entries : List Numbered) × (entries_in name (entries_text tree path) ≡ Ok entries) × (entries_of entries ≡ entries_below tree path)
+-- the text of a tree's keys from the one at a path on, in which something stands for the root's name, is read, of keys below a root of
+-- that name, as the entries that they stand for
+abbrev pub IsReadBack : (name shown : List ℕ) → Tree → Path → Type 0
+IsReadBack name shown tree path =
+    (entries : List Numbered) × (entries_in name (entries_text shown tree path) ≡ Ok entries) × (entries_of entries ≡ entries_below tree path)

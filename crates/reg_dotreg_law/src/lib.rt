@@ -19,7 +19,7 @@ ghost use Rattle.reg_dotreg_law.specs.EntriesDue.{entries_below, entries_due};
 ghost use Rattle.reg_dotreg_law.specs.MadeAgain.{IsBare, HasSame, HasSameBelow, HasAlike};
 ghost use Rattle.reg_names.specs.Names.{folded};
 ghost use Rattle.reg_dotreg_writer.specs.EntryTexts.{value_entry};
-ghost use Rattle.reg_dotreg_writer.specs.Entries.{CanWrite, entries_text, file_bytes};
+ghost use Rattle.reg_dotreg_writer.specs.Entries.{CanWrite, root_shown, can_stand, entries_text, file_bytes};
 ghost use Rattle.reg_dotreg_reader.specs.FileUnits.{units_of};
 ghost use Rattle.reg_dotreg_reader.specs.declared.entry.Entry.TheVariants.{Value};
 ghost use Rattle.reg_tree.specs.ValueBytes.{IsOfBytes};
@@ -32,7 +32,7 @@ ghost use Rattle.reg_calls.specs.Views.{View};
 ghost use Rattle.reg_queries.specs.ImageExports.{Exports};
 ghost use Rattle.reg_queries.specs.ImageChanges.{ExportsChanges};
 ghost use Rattle.reg_dotreg_reader.specs.declared.entry.Numbered.{Numbered};
-ghost use Rattle.reg_edits.specs.TextImports.{root_name, Applies, IsText};
+ghost use Rattle.reg_edits.specs.TextImports.{root_name, front_of, Applies, IsText};
 
 /// The entries of the keys from one on make, at any moment, of a tree with the root alone one that has just that key, those below it and
 /// those on the way to it: below the root with the same names, at and below that key with the same values, on the way without values. It
@@ -72,18 +72,18 @@ pub fn values_are_read_back()
         Says root true (value_entry value.name value.kind value.bytes) (Value value.name value.kind value.bytes ∷ []) true }
 {}
 
-/// The text of a tree's keys from one on, whose names it can hold, is read, of keys below a root of the same name, folded, as those keys
-/// and their values in their order.
+/// The text of a tree's keys from one on, whose names it can hold, is read, of keys below a root of the name that stands for the tree's
+/// root in it, folded, as those keys and their values in their order: below the root's own name, or a front.
 pub fn text_is_read_back()
-    ensures { (name : List ℕ) → (tree : Tree) → (path : Path) → folded name ≡ folded (name_of (get tree [])) → IsTree tree →
-        IsWithinLimits tree → IsOfBytes tree → IsSome (get tree path) → CanWrite tree path → IsReadBack name tree path }
+    ensures { (name shown : List ℕ) → (tree : Tree) → (path : Path) → folded name ≡ folded shown → IsTree tree →
+        IsWithinLimits tree → IsOfBytes tree → IsSome (get tree path) → CanWrite shown tree path → IsReadBack name shown tree path }
 {}
 
-/// The file of that text, in either encoding, has the units of the text.
+/// The file of that text, in either encoding, has the units of the text: with the root's own name, or with a front.
 pub fn file_is_read_back()
-    ensures { (is_utf8 : Bool) → (tree : Tree) → (path : Path) → IsTree tree → IsWithinLimits tree → IsOfBytes tree →
-        IsSome (get tree path) → CanWrite tree path →
-        units_of (file_bytes is_utf8 (entries_text tree path)) ≡ Some (entries_text tree path) }
+    ensures { (is_utf8 : Bool) → (tree : Tree) → (path : Path) → (front : Option (List ℕ)) → IsTree tree → IsWithinLimits tree → IsOfBytes tree →
+        IsSome (get tree path) → can_stand front ≡ true → CanWrite (root_shown front tree) tree path →
+        units_of (file_bytes is_utf8 (entries_text (root_shown front tree) tree path)) ≡ Some (entries_text (root_shown front tree) tree path) }
 {}
 
 /// The text of what changes from one tree to another, whose names it can hold, is read, of keys below a root of the old tree's name,
@@ -99,20 +99,23 @@ pub fn file_of_changes_is_read_back()
         CanWriteChanges old new → units_of (file_bytes is_utf8 (changes_text old new)) ≡ Some (changes_text old new) }
 {}
 
-/// The file that is written of a tree's keys from one on, in either encoding, read and applied at any moment to a tree of the root alone
-/// whose name is the same, folded, makes that key and all below it again, and the keys on the way to it without values.
+/// The file that is written of a tree's keys from one on, in either encoding, with a front for the root's name or without, read of keys
+/// below the same name, folded, and applied at any moment to a tree of the root alone, makes that key and all below it again, and the keys
+/// on the way to it without values.
 pub fn import_of_an_export_is_the_branch()
-    ensures { (is_utf8 : Bool) → (tree bare : Tree) → (path : Path) → (moment : ℕ) → IsTree tree → IsWithinLimits tree →
-        IsOfBytes tree → IsSome (get tree path) → CanWrite tree path → IsBare bare →
-        folded (name_of (get bare [])) ≡ folded (name_of (get tree [])) → IsBranchOfFile is_utf8 tree path bare moment }
+    ensures { (is_utf8 : Bool) → (tree bare : Tree) → (path : Path) → (front : Option (List ℕ)) → (name : List ℕ) → (moment : ℕ) →
+        IsTree tree → IsWithinLimits tree → IsOfBytes tree → IsSome (get tree path) → can_stand front ≡ true →
+        CanWrite (root_shown front tree) tree path → IsBare bare → folded name ≡ folded (root_shown front tree) →
+        IsBranchOfFile is_utf8 tree path front name bare moment }
 {}
 
-/// The file that is written of a tree, in either encoding, read and applied at any moment to a tree of the root alone whose name is the
-/// same, folded, makes that tree again: the same keys, the same values, and below the root the same names.
+/// The file that is written of a tree, in either encoding, with a front for the root's name or without, read of keys below the same name,
+/// folded, and applied at any moment to a tree of the root alone, makes that tree again: the same keys, the same values, and below the
+/// root the same names.
 pub fn import_of_an_export_is_the_tree()
-    ensures { (is_utf8 : Bool) → (tree bare : Tree) → (moment : ℕ) → IsTree tree → IsWithinLimits tree → IsOfBytes tree →
-        CanWrite tree [] → IsBare bare → folded (name_of (get bare [])) ≡ folded (name_of (get tree [])) →
-        IsMadeOfFile is_utf8 tree bare moment }
+    ensures { (is_utf8 : Bool) → (tree bare : Tree) → (front : Option (List ℕ)) → (name : List ℕ) → (moment : ℕ) → IsTree tree →
+        IsWithinLimits tree → IsOfBytes tree → can_stand front ≡ true → CanWrite (root_shown front tree) tree [] → IsBare bare →
+        folded name ≡ folded (root_shown front tree) → IsMadeOfFile is_utf8 tree front name bare moment }
 {}
 
 /// The file that is written of what changes from one tree to another, in either encoding, read and applied at any moment to the old one, makes
@@ -122,23 +125,26 @@ pub fn import_of_changes_is_the_new_tree()
         IsOfBytes new → CanWriteChanges old new → IsChangedByFile is_utf8 old new moment }
 {}
 
-/// An export of the tree in an image was written to a writer that held some bytes, and appended a file to them. That file is understood
-/// for a hive that has a root alone, without values, of the same name, folded (clause `read`). Where its entries are made there, at any
+/// An export of the tree in an image was written to a writer that held some bytes, and appended a file to them: with a front for the
+/// root's name, or without. That file is understood for a hive that has a root alone, without values, where the same stands for its root's
+/// name, folded: a front, or the name (clause `read`). Where its entries are made there, at any
 /// moment, that hive has, of the keys of the image's tree, just the exported one, those below it and those on the way to it: with the same
 /// names below the root, with the same values at and below the exported one, and without values on the way (clause `branch`). Where the
 /// root was exported, it has the same keys, with the same values, and below the root the same names (clause `whole`). What the hive may
 /// still refuse are its calls: for memory or space, and by 1450 the exported key where it is more than 32 names below the root, since its
 /// call would make them all.
 pub fn what_an_export_wrote_an_import_makes()
-    ensures read { (unread left : Option (List ℕ)) → (path file held : List ℕ) → (is_utf8 : Bool) → (old : View) →
-        (export : Exports unread left path is_utf8 (Some held) (Some (held ++ file))) → IsBare old.keys.tree →
-        folded (root_name old) ≡ folded (name_of (get export.tree [])) → (entries : List Numbered) × IsText (root_name old) file entries }
-    ensures branch { (unread left : Option (List ℕ)) → (path file held : List ℕ) → (is_utf8 : Bool) → (moment : ℕ) → (old last : View) →
-        (export : Exports unread left path is_utf8 (Some held) (Some (held ++ file))) → Applies None moment file old last → IsBare old.keys.tree →
-        folded (root_name old) ≡ folded (name_of (get export.tree [])) → HasSameBelow last.keys.tree export.tree (folded_path path) }
-    ensures whole { (unread left : Option (List ℕ)) → (file held : List ℕ) → (is_utf8 : Bool) → (moment : ℕ) → (old last : View) →
-        (export : Exports unread left [] is_utf8 (Some held) (Some (held ++ file))) → Applies None moment file old last → IsBare old.keys.tree →
-        folded (root_name old) ≡ folded (name_of (get export.tree [])) → HasSame last.keys.tree export.tree }
+    ensures read { (unread left : Option (List ℕ)) → (path file held : List ℕ) → (front given : Option (List ℕ)) → (is_utf8 : Bool) →
+        (old : View) → (export : Exports unread left path front is_utf8 (Some held) (Some (held ++ file))) → IsBare old.keys.tree →
+        folded (front_of given old) ≡ folded (root_shown front export.tree) → (entries : List Numbered) × IsText (front_of given old) file entries }
+    ensures branch { (unread left : Option (List ℕ)) → (path file held : List ℕ) → (front given : Option (List ℕ)) → (is_utf8 : Bool) →
+        (moment : ℕ) → (old last : View) → (export : Exports unread left path front is_utf8 (Some held) (Some (held ++ file))) →
+        Applies given moment file old last → IsBare old.keys.tree → folded (front_of given old) ≡ folded (root_shown front export.tree) →
+        HasSameBelow last.keys.tree export.tree (folded_path path) }
+    ensures whole { (unread left : Option (List ℕ)) → (file held : List ℕ) → (front given : Option (List ℕ)) → (is_utf8 : Bool) →
+        (moment : ℕ) → (old last : View) → (export : Exports unread left [] front is_utf8 (Some held) (Some (held ++ file))) →
+        Applies given moment file old last → IsBare old.keys.tree → folded (front_of given old) ≡ folded (root_shown front export.tree) →
+        HasSame last.keys.tree export.tree }
 {}
 
 /// What changes from the tree of an old image to that of a new one was written to a writer that held some bytes, and appended a file to

@@ -13,6 +13,8 @@ pub mod StopPlaces
 pub mod StopSteps
 pub mod LinePlaces
 pub mod BadSteps
+pub mod ToldTexts
 mod RowsOfEntryLines
 mod RowsOfEntryBytes
 mod RowsOfEntryReading
+mod RowsOfBadLines

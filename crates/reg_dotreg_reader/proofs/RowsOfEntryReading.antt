@@ -311,13 +311,19 @@ unfolding on_texts
 lines-return = refl
 
 lines-feed : entries_in (codes "ROOT") (title ++ (codes "\n[ROOT]\n\"n\"=\"a \n\n b\"\n@=-\n")) ≡
-    Ok (record { line = 2; entry = Key [] } ∷ record { line = 3; entry = Value (codes "n") 1 (97 ∷ 0 ∷ 32 ∷ 0 ∷ 10 ∷ 0 ∷ 10 ∷ 0 ∷ 32 ∷ 0 ∷ 98 ∷ 0 ∷ 0 ∷ 0 ∷ []) } ∷ record { line = 6; entry = GoneValue [] } ∷ [])
+    Ok (record { line = 2; entry = Key [] }
+    ∷ record { line = 3; entry = Value (codes "n") 1 (97 ∷ 0 ∷ 32 ∷ 0 ∷ 10 ∷ 0 ∷ 10 ∷ 0 ∷ 32 ∷ 0 ∷ 98 ∷ 0 ∷ 0 ∷ 0 ∷ []) }
+    ∷ record { line = 6; entry = GoneValue [] } ∷ [])
 unfolding on_texts
 lines-feed = refl
 
 -- within, nothing but a quote and a backslash says something else
 lines-within : entries_in (codes "ROOT") (title ++ (codes "\n[ROOT]\n@=\"\n;c\n[K]\n\\\"\\\\\"\n@=-\n")) ≡
-    Ok (record { line = 2; entry = Key [] } ∷ record { line = 3; entry = Value [] 1 (10 ∷ 0 ∷ 59 ∷ 0 ∷ 99 ∷ 0 ∷ 10 ∷ 0 ∷ 91 ∷ 0 ∷ 75 ∷ 0 ∷ 93 ∷ 0 ∷ 10 ∷ 0 ∷ 34 ∷ 0 ∷ 92 ∷ 0 ∷ 0 ∷ 0 ∷ []) } ∷ record { line = 7; entry = GoneValue [] } ∷ [])
+    Ok (record { line = 2; entry = Key [] }
+    ∷ record {
+      line = 3;
+      entry = Value [] 1 (10 ∷ 0 ∷ 59 ∷ 0 ∷ 99 ∷ 0 ∷ 10 ∷ 0 ∷ 91 ∷ 0 ∷ 75 ∷ 0 ∷ 93 ∷ 0 ∷ 10 ∷ 0 ∷ 34 ∷ 0 ∷ 92 ∷ 0 ∷ 0 ∷ 0 ∷ []);
+    } ∷ record { line = 7; entry = GoneValue [] } ∷ [])
 unfolding on_texts
 lines-within = refl
 

@@ -3,12 +3,13 @@ use Rattle.std.proofs.Common.{◌≡◌, ℕ, suc, ◌+◌, ◌-◌, ◌<◌, �
 use Rattle.std.proofs.Common.{zero, Some, None, refl, sym, ap, ◌∙◌, arith, length-take, length-drop}
 use Rattle.std.specs.Prelude.{Option, is_some, option_map}
 use Rattle.std.specs.Option.{unwrap_or}
-use Rattle.std.specs.List.{slice_split, onto_first, position, position_or_len, suffix_len}
+use Rattle.std.specs.List.{slice_split, onto_first, position, position_or_len, suffix_len, before_first}
 use Rattle.std.proofs.lemmas.Bool.Decides.{nat_tests}
 use Rattle.std.proofs.lemmas.List.Sums.{prefix_len-le-length, suffix_len_is}
 use Rattle.reg_text.proofs.AppendedBytes.{rest_is}
-use Rattle.reg_dotreg_reader.specs.EntryWords.{is_blank, behind_blanks, byte_of, is_comma}
-use Rattle.reg_dotreg_reader.specs.LineStops.{Stop, left_from, behind_after, unclosed, is_no_digit, left_behind_digits, pieces_length, pieces_stop, list_stop, is_no_bracket}
+use Rattle.reg_dotreg_reader.specs.EntryWords.{behind_blanks, byte_of, is_comma}
+use Rattle.reg_dotreg_reader.specs.LineStops.{Stop, left_from, behind_after, unclosed, is_no_digit, few_digits, counted_stop, number_stop}
+use Rattle.reg_dotreg_reader.specs.LineStops.{pieces_length, pieces_stop, list_stop, is_no_bracket, behind_bracket}
 use Rattle.reg_dotreg_reader.specs.declared.expected.Expected.TheVariants as wanted
 use Rattle.reg_dotreg_reader.proofs.DigitLists.{index_is, no_index, split_first, split_last, split_some}
 
@@ -43,12 +44,18 @@ take_few n [] few = take_none n
 take_few zero (u ∷ us) few = absurd (omega (arith, few))
 take_few (suc n) (u ∷ us) few = ap (λ (w : List ℕ). u ∷ w) (take_few n us (omega (arith, few)))
 
-pub few_digits : (digits : List ℕ) (count : ℕ) → length digits < 8 → count ≡ position_or_len is_no_digit digits →
-    length digits - count ≡ left_behind_digits digits
-unfolding left_behind_digits
-few_digits digits count few is =
-    ap (λ (k : ℕ). length digits - k) is
-    ∙ ap (λ (w : List ℕ). length digits - position_or_len is_no_digit w) (sym (take_few 8 digits (omega (arith, few))))
+pub digits_few : (units : List ℕ) (count : ℕ) → length units < 8 → count ≡ position_or_len is_no_digit units → count ≡ few_digits units
+unfolding few_digits
+digits_few units count few is = is ∙ ap (λ (w : List ℕ). position_or_len is_no_digit w) (sym (take_few 8 units (omega (arith, few))))
+
+pub digits_within : (units : List ℕ) (count : ℕ) → count ≤ length (take 8 units) → count ≤ length units
+digits_within units count within = let long = length-take 8 units in omega (arith, within, long)
+
+pub number_counted : (digits : List ℕ) (count : ℕ) → count ≡ few_digits digits →
+    counted_stop count (take (length digits - count) (drop count digits)) ≡ number_stop digits
+unfolding number_stop
+number_counted digits count is =
+    ap (λ (w : List ℕ). counted_stop count w) (rest_is count digits) ∙ ap (λ (n : ℕ). counted_stop n (drop n digits)) is
 
 -- ---- lists
 
@@ -158,8 +165,12 @@ stop_last whole other rest last is_byte so_far none is some test not_byte =
 
 -- the last bracket
 pub bracket_is : (line : List ℕ) (n : ℕ) → n ≤ length line → ((k : ℕ) → n ≤ k → k < length line → is_no_bracket (get_or line k 0) ≡ true) →
-    (0 < n → is_no_bracket (get_or line (n - 1) 0) ≡ false) → length line - n ≡ suffix_len is_no_bracket line
-bracket_is line n within here stops = let count = suffix_len_is is_no_bracket line n 0 within here stops in omega (arith, count)
+    (0 < n → is_no_bracket (get_or line (n - 1) 0) ≡ false) → take (length line - n) (drop n line) ≡ behind_bracket line
+unfolding behind_bracket
+bracket_is line n within here stops =
+    let count = suffix_len_is is_no_bracket line n 0 within here stops in
+    let same : n ≡ length line - suffix_len is_no_bracket line = omega (arith, count) in
+    rest_is n line ∙ ap (λ (k : ℕ). drop k line) same
 
 -- ---- quotes
 
@@ -168,15 +179,15 @@ pub unclosed_next : (whole : Stop) (left : ℕ) (rest us : List ℕ) (u : ℕ) (
 unfolding unclosed
 unclosed_next whole left rest us u behind after so_far e is =
     so_far ∙ (ap (unclosed left behind) e
-    ∙ ap (λ (o : Option Bool). unwrap_or (option_map (λ t. unclosed left t us) o) (wanted.Escaped, suc (length us))) is)
+    ∙ ap (λ (o : Option Bool). unwrap_or (option_map (λ t. unclosed left t us) o) (wanted.Escaped, left + suc (length us))) is)
 
 pub unclosed_here : (whole : Stop) (left : ℕ) (rest us : List ℕ) (u : ℕ) (behind : Bool) → whole ≡ unclosed left behind rest → rest ≡ u ∷ us →
-    behind_after behind u ≡ None → (wanted.Escaped, length rest) ≡ whole
+    behind_after behind u ≡ None → (wanted.Escaped, left + length rest) ≡ whole
 unfolding unclosed
 unclosed_here whole left rest us u behind so_far e is =
     sym (so_far ∙ (ap (unclosed left behind) e
-    ∙ (ap (λ (o : Option Bool). unwrap_or (option_map (λ t. unclosed left t us) o) (wanted.Escaped, suc (length us))) is
-    ∙ ap (λ (w : List ℕ). (wanted.Escaped, length w)) (sym e))))
+    ∙ (ap (λ (o : Option Bool). unwrap_or (option_map (λ t. unclosed left t us) o) (wanted.Escaped, left + suc (length us))) is
+    ∙ ap (λ (w : List ℕ). (wanted.Escaped, left + length w)) (sym e))))
 
 pub unclosed_end : (whole : Stop) (left : ℕ) (rest : List ℕ) (behind : Bool) → whole ≡ unclosed left behind rest → length rest ≡ 0 →
     (wanted.Quote, left) ≡ whole
@@ -184,10 +195,19 @@ unfolding unclosed
 unclosed_end whole left [] behind so_far e = sym so_far
 unclosed_end whole left (u ∷ us) behind so_far e = absurd (omega (arith, e))
 
+-- a text's front, with what is left behind it, is no longer than the text
+pub feed_within : (p : ℕ → Bool) (text first : List ℕ) (left : ℕ) → left ≡ left_from p text → first ≡ before_first p text →
+    left + length first ≤ length text
+feed_within p text first left is front =
+    let long = ap (λ (w : List ℕ). length w) front ∙ length-take (position_or_len p text) text in
+    omega (arith, is, long)
+
 pub ruleset quotes_left = (unclosed_next, unclosed_here, unclosed_end)
 
 pub ruleset places_left = (left_some, left_none)
 
 pub ruleset digit_places = (place_some, place_none)
+
+pub ruleset few_at_start = (digits_few, digits_within)
 
 pub ruleset list_stops = (stop_start, stop_next, stop_here, stop_blank, stop_byte, stop_last)

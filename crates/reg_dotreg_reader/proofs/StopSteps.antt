@@ -1,61 +1,96 @@
 -- Where lines stop, by what stands in them.
-use Rattle.std.proofs.Common.{◌≡◌, ◌≢◌, ◌⊎◌, inl, inr, ◌≤◌, ℕ, suc, ◌+◌, ◌<◌, ◌==◌, ◌||◌, nat_lt, not, Bool, true, false, cond, List, [], ◌∷◌, length}
+use Rattle.std.proofs.Common.{◌≡◌, ◌≢◌, ◌⊎◌, inl, inr, ◌≤◌, ℕ, suc, ◌+◌, ◌<◌, ◌==◌, ◌&&◌, ◌||◌, ◌-◌, nat_lt, not, Bool, true, false, cond}
+use Rattle.std.proofs.Common.{List, [], ◌∷◌, length}
 use Rattle.std.proofs.Common.{Option, Some, None, refl, sym, ap, ◌∙◌, arith}
 use Rattle.std.specs.Prelude.{option_map, is_some, codes}
 use Rattle.std.specs.Option.{unwrap_or}
-use Rattle.std.specs.List.{suffix_len, before_first, after_first, list_all}
+use Rattle.std.specs.List.{before_first, after_first}
 use Rattle.std.proofs.lemmas.Bool.Decides.{nat_tests}
 use Rattle.reg_dotreg_reader.specs.declared.expected.Expected.TheVariants as wanted
-use Rattle.reg_dotreg_reader.specs.EntryLines.{is_feed}
+use Rattle.reg_dotreg_reader.specs.EntryLines.{is_feed, lines_of, is_value_line}
 use Rattle.reg_dotreg_reader.specs.EntryWords.{behind_blanks, before_mark, behind_word, number_of, quoted}
-use Rattle.reg_dotreg_reader.specs.EntryMeanings.{behind_name, lengthened, name_read, is_close}
-use Rattle.reg_dotreg_reader.specs.LineStops.{Stop, left_from, is_on_one_line, quoted_stop, text_stop, bad_name, name_stop}
-use Rattle.reg_dotreg_reader.specs.LineStops.{left_behind_digits, list_stop, kind_stop, bytes_stop, data_stop, behind_name_stop, unnamed_stop, value_stop}
-use Rattle.reg_dotreg_reader.specs.LineStops.{long_stop, below_stop, between_stop, open_stop, before_bracket, is_no_bracket, key_stop, line_stop}
+use Rattle.reg_dotreg_reader.specs.EntryMeanings.{lengthened, name_read, is_close}
+use Rattle.reg_dotreg_reader.specs.LineStops.{Stop, behind_stop, has_quote, lacks_quote, unclosed, first_stop, several_stop, is_open}
+use Rattle.reg_dotreg_reader.specs.LineStops.{text_stop, bad_name, name_stop, few_digits, number_stop, list_stop, kind_stop, bytes_stop}
+use Rattle.reg_dotreg_reader.specs.LineStops.{data_stop, behind_name_stop, unnamed_stop, value_stop}
+use Rattle.reg_dotreg_reader.specs.LineStops.{long_stop, below_stop, between_stop, open_stop, behind_bracket, before_bracket, key_stop, line_stop}
 
 -- ---- names and texts in quotes
 
-pub text_none : (text : List ℕ) → quoted text ≡ None → text_stop text ≡ quoted_stop text
+lack_by : (lines rest : List (List ℕ)) (line : List ℕ) → lines ≡ line ∷ rest →
+    lacks_quote lines ≡ cond (has_quote line) (is_value_line line) (lacks_quote rest)
+unfolding lacks_quote
+lack_by lines rest line e = ap lacks_quote e
+
+pub lack_next : (whole : Bool) (lines rest : List (List ℕ)) (line : List ℕ) → whole ≡ lacks_quote lines → lines ≡ line ∷ rest →
+    has_quote line ≡ false → whole ≡ lacks_quote rest
+lack_next whole lines rest line so_far e none =
+    so_far ∙ (lack_by lines rest line e ∙ ap (λ (b : Bool). cond b (is_value_line line) (lacks_quote rest)) none)
+
+pub lack_here : (whole : Bool) (lines rest : List (List ℕ)) (line : List ℕ) → whole ≡ lacks_quote lines → lines ≡ line ∷ rest →
+    has_quote line ≡ true → is_value_line line ≡ whole
+lack_here whole lines rest line so_far e some =
+    sym (so_far ∙ (lack_by lines rest line e ∙ ap (λ (b : Bool). cond b (is_value_line line) (lacks_quote rest)) some))
+
+pub lack_end : (whole : Bool) (lines : List (List ℕ)) → whole ≡ lacks_quote lines → lines ≡ [] → true ≡ whole
+unfolding lacks_quote
+lack_end whole lines so_far e = sym (so_far ∙ ap lacks_quote e)
+
+pub several_closed : (text units behind : List ℕ) → quoted text ≡ Some (units, behind) → several_stop text ≡ behind_stop behind
+unfolding several_stop
+several_closed text units behind e = rw e refl
+
+pub several_none : (text : List ℕ) → quoted text ≡ None → several_stop text ≡ unclosed 0 false text
+unfolding several_stop
+several_none text e = rw e refl
+
+pub open_closed : (text first : List ℕ) (read : List ℕ × List ℕ) → first ≡ before_first is_feed text → quoted first ≡ Some read →
+    is_open text ≡ false
+unfolding is_open
+open_closed text first read is e =
+    ap (λ (o : Option (List ℕ × List ℕ)). not (is_some o) && lacks_quote (lines_of (after_first is_feed text))) (ap quoted (sym is) ∙ e)
+
+pub open_none : (text first behind : List ℕ) → first ≡ before_first is_feed text → behind ≡ after_first is_feed text → quoted first ≡ None →
+    is_open text ≡ lacks_quote (lines_of behind)
+unfolding is_open
+open_none text first behind is left e =
+    ap (λ (o : Option (List ℕ × List ℕ)). not (is_some o) && lacks_quote (lines_of (after_first is_feed text))) (ap quoted (sym is) ∙ e)
+    ∙ ap (λ (w : List ℕ). lacks_quote (lines_of w)) (sym left)
+
+pub text_open : (text : List ℕ) (open_is : Bool) → open_is ≡ is_open text → open_is ≡ true → text_stop text ≡ first_stop text
 unfolding text_stop
-text_none text e = rw e refl
+text_open text open_is same is = ap (λ (b : Bool). cond b (first_stop text) (several_stop text)) (sym same ∙ is)
 
-abbrev closed_stop : Bool → (text behind : List ℕ) → Stop
-closed_stop on_one text behind = cond on_one (wanted.End, length behind) (wanted.Quote, left_from is_feed text)
-
-text_closed : (text units behind : List ℕ) → quoted text ≡ Some (units, behind) → text_stop text ≡ closed_stop (is_on_one_line units) text behind
+pub text_several : (text : List ℕ) (open_is : Bool) → open_is ≡ is_open text → open_is ≡ false → text_stop text ≡ several_stop text
 unfolding text_stop
-text_closed text units behind e = rw e refl
+text_several text open_is same is = ap (λ (b : Bool). cond b (first_stop text) (several_stop text)) (sym same ∙ is)
 
-pub text_more : (text units behind : List ℕ) (on_one : Bool) → quoted text ≡ Some (units, behind) → on_one ≡ is_on_one_line units → on_one ≡ true →
-    text_stop text ≡ (wanted.End, length behind)
-text_more text units behind on_one e same is =
-    text_closed text units behind e ∙ ap (λ (b : Bool). closed_stop b text behind) (sym same ∙ is)
+abbrev name_by : (text : List ℕ) → Option (List ℕ × List ℕ) → Stop
+name_by text o = unwrap_or (option_map (λ read. bad_name text read.0) o) (first_stop text)
 
-pub text_lines : (text units behind : List ℕ) (on_one : Bool) → quoted text ≡ Some (units, behind) → on_one ≡ is_on_one_line units → on_one ≡ false →
-    text_stop text ≡ (wanted.Quote, left_from is_feed text)
-text_lines text units behind on_one e same is =
-    text_closed text units behind e ∙ ap (λ (b : Bool). closed_stop b text behind) (sym same ∙ is)
-
-pub name_none : (text : List ℕ) → quoted text ≡ None → name_stop text ≡ quoted_stop text
+pub name_none : (text first : List ℕ) → first ≡ before_first is_feed text → quoted first ≡ None → name_stop text ≡ first_stop text
 unfolding name_stop
-name_none text e = rw e refl
+name_none text first is e = ap (name_by text) (ap quoted (sym is) ∙ e)
 
-pub name_closed : (text units behind : List ℕ) → quoted text ≡ Some (units, behind) → name_stop text ≡ bad_name text units
+pub name_closed : (text first units behind : List ℕ) → first ≡ before_first is_feed text → quoted first ≡ Some (units, behind) →
+    name_stop text ≡ bad_name text units
 unfolding name_stop
-name_closed text units behind e = rw e refl
+name_closed text first units behind is e = ap (name_by text) (ap quoted (sym is) ∙ e)
 
 -- ---- bytes and values
 
 abbrev kind_by : (is_number : Bool) → (text : List ℕ) → Option (List ℕ) → Stop
 kind_by is_number text list =
-    cond is_number (unwrap_or (option_map list_stop list) (wanted.Colon, length (after_first is_close text))) (wanted.Kind, left_behind_digits text)
+    cond is_number (unwrap_or (option_map list_stop list) (wanted.Colon, length (after_first is_close text)))
+    (wanted.Kind, length text - few_digits text)
 
 kind_parts : (text : List ℕ) → kind_stop text ≡
     kind_by (is_some (number_of 8 (before_first is_close text))) text (behind_word (codes ":") (after_first is_close text))
 unfolding kind_stop
 kind_parts text = refl
 
-pub kind_bad : (text digits : List ℕ) → digits ≡ before_first is_close text → number_of 8 digits ≡ None → kind_stop text ≡ (wanted.Kind, left_behind_digits text)
+pub kind_bad : (text digits : List ℕ) → digits ≡ before_first is_close text → number_of 8 digits ≡ None →
+    kind_stop text ≡ (wanted.Kind, length text - few_digits text)
 kind_bad text digits is e =
     kind_parts text ∙ ap (λ (o : Option ℕ). kind_by (is_some o) text (behind_word (codes ":") (after_first is_close text)))
     (ap (number_of 8) (sym is) ∙ e)
@@ -89,24 +124,29 @@ pub bytes_not : (rest : List ℕ) → behind_word (codes ":") rest ≡ None → 
 unfolding bytes_stop
 bytes_not rest e f = rw (e, f) refl
 
-pub data_text : (text rest : List ℕ) → behind_word (codes "\"") text ≡ Some rest → data_stop text ≡ text_stop rest
+pub data_gone : (text rest : List ℕ) → behind_word (codes "-") text ≡ Some rest → data_stop text ≡ behind_stop rest
 unfolding data_stop
-data_text text rest e = rw e refl
+data_gone text rest e = rw e refl
 
-pub data_dword : (text digits : List ℕ) → behind_word (codes "\"") text ≡ None → behind_word (codes "dword:") text ≡ Some digits →
-    data_stop text ≡ (wanted.Number, left_behind_digits digits)
+pub data_text : (text rest : List ℕ) → behind_word (codes "-") text ≡ None → behind_word (codes "\"") text ≡ Some rest →
+    data_stop text ≡ text_stop rest
 unfolding data_stop
-data_dword text digits e f = rw (e, f) refl
+data_text text rest e f = rw (e, f) refl
 
-pub data_hex : (text rest : List ℕ) → behind_word (codes "\"") text ≡ None → behind_word (codes "dword:") text ≡ None →
-    behind_word (codes "hex") text ≡ Some rest → data_stop text ≡ bytes_stop rest
+pub data_dword : (text digits : List ℕ) → behind_word (codes "-") text ≡ None → behind_word (codes "\"") text ≡ None →
+    behind_word (codes "dword:") text ≡ Some digits → data_stop text ≡ number_stop digits
 unfolding data_stop
-data_hex text rest e f g = rw (e, f, g) refl
+data_dword text digits e f g = rw (e, f, g) refl
 
-pub data_not : (text : List ℕ) → behind_word (codes "\"") text ≡ None → behind_word (codes "dword:") text ≡ None →
-    behind_word (codes "hex") text ≡ None → data_stop text ≡ (wanted.Value, length text)
+pub data_hex : (text rest : List ℕ) → behind_word (codes "-") text ≡ None → behind_word (codes "\"") text ≡ None →
+    behind_word (codes "dword:") text ≡ None → behind_word (codes "hex") text ≡ Some rest → data_stop text ≡ bytes_stop rest
 unfolding data_stop
-data_not text e f g = rw (e, f, g) refl
+data_hex text rest e f g h = rw (e, f, g, h) refl
+
+pub data_not : (text : List ℕ) → behind_word (codes "-") text ≡ None → behind_word (codes "\"") text ≡ None →
+    behind_word (codes "dword:") text ≡ None → behind_word (codes "hex") text ≡ None → data_stop text ≡ (wanted.Value, length text)
+unfolding data_stop
+data_not text e f g h = rw (e, f, g, h) refl
 
 pub behind_equals : (rest text : List ℕ) → behind_word (codes "=") rest ≡ Some text → behind_name_stop rest ≡ data_stop (behind_blanks text)
 unfolding behind_name_stop
@@ -134,18 +174,18 @@ pub below_same : (root units : List ℕ) → lengthened units ≡ None → below
 unfolding below_stop
 below_same root units e = ap (λ (o : Option (List ℕ)). long_stop (length units) root (unwrap_or o units)) e
 
-pub key_open : (root line : List ℕ) → before_mark 93 line ≡ None → key_stop root line ≡ open_stop (suffix_len is_no_bracket line) (length line)
+pub key_open : (root line : List ℕ) → before_mark 93 line ≡ None → key_stop root line ≡ open_stop (behind_bracket line) line
 unfolding key_stop
 key_open root line e =
     ap (λ (o : Option (List ℕ)). unwrap_or (option_map (λ units. before_bracket (length line) (between_stop root units)) o)
-    (open_stop (suffix_len is_no_bracket line) (length line))) e
+    (open_stop (behind_bracket line) line)) e
 
 key_closed : (root line units : List ℕ) (stop : Stop) → before_mark 93 line ≡ Some units → stop ≡ between_stop root units →
     key_stop root line ≡ before_bracket (length line) stop
 unfolding key_stop
 key_closed root line units stop e is =
     ap (λ (o : Option (List ℕ)). unwrap_or (option_map (λ units. before_bracket (length line) (between_stop root units)) o)
-    (open_stop (suffix_len is_no_bracket line) (length line))) e ∙ ap (before_bracket (length line)) (sym is)
+    (open_stop (behind_bracket line) line)) e ∙ ap (before_bracket (length line)) (sym is)
 
 pub key_within : (root line units : List ℕ) (stop : Stop) → before_mark 93 line ≡ Some units → stop ≡ between_stop root units →
     stop.1 < length line → key_stop root line ≡ (stop.0, stop.1 + 1)
@@ -210,7 +250,13 @@ line_other root line us u e b q a =
 
 pub ruleset line_stops = (line_none, line_key, line_value, line_other)
 
-pub ruleset text_stops = (text_none, text_more, text_lines)
+pub ruleset quotes_lack = (lack_next, lack_here, lack_end)
+
+pub ruleset several_stops = (several_closed, several_none)
+
+pub ruleset opens = (open_closed, open_none)
+
+pub ruleset text_stops = (text_open, text_several)
 
 pub ruleset name_stops = (name_none, name_closed)
 
@@ -218,7 +264,7 @@ pub ruleset kind_stops = (kind_bad, kind_list, kind_colon)
 
 pub ruleset bytes_stops = (bytes_list, bytes_kind, bytes_not)
 
-pub ruleset data_stops = (data_text, data_dword, data_hex, data_not)
+pub ruleset data_stops = (data_gone, data_text, data_dword, data_hex, data_not)
 
 pub ruleset equals_stops = (behind_equals, no_equals)
 

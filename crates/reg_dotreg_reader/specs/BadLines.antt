@@ -1,17 +1,16 @@
 -- The lines of a .reg text that aren't understood, each with its place (this project's own).
 use Rattle.std.specs.Prelude.{◌≡◌, ℕ, suc, zero, ◌+◌, ◌-◌, ◌==◌, ◌&&◌, ◌||◌, nat_le, not, Bool, true, false, if◌then◌else◌, List, [], ◌∷◌, ◌++◌, length, take, drop}
-use Rattle.std.specs.Prelude.{Option, Some, None, option_map, Result, Ok, Err}
+use Rattle.std.specs.Prelude.{Option, Some, None, option_map, Ok, Err}
 use Rattle.std.specs.Option.{unwrap_or}
 use Rattle.reg_dotreg_reader.specs.declared.rows.Place.{Place}
 use Rattle.reg_dotreg_reader.specs.declared.rows.Place.TheVariants.{Outside}
 use Rattle.reg_dotreg_reader.specs.declared.entry.Entry.{Entry}
-use Rattle.reg_dotreg_reader.specs.declared.entry.Numbered.{Numbered}
 use Rattle.reg_dotreg_reader.specs.declared.expected.BadLine.{BadLine}
 use Rattle.reg_dotreg_reader.specs.declared.expected.Expected.TheVariants as wanted
 use Rattle.reg_dotreg_reader.specs.EntryWords.{behind_blanks, before_blanks, trimmed}
 use Rattle.reg_dotreg_reader.specs.EntryLines.{lines_of, without_return, is_outside, is_comment, carried, ending, is_value_line, whole_of}
 use Rattle.reg_dotreg_reader.specs.EntryMeanings.{said, is_key, takes_values, is_narrow_by, long_form, Reading}
-use Rattle.reg_dotreg_reader.specs.LineStops.{Stop, line_stop, found_at}
+use Rattle.reg_dotreg_reader.specs.LineStops.{Stop, lacks_quote, line_stop, found_at}
 
 -- ---- places
 
@@ -91,14 +90,14 @@ step_said number is_open row behind (Some entry) =
       skipped = (whole_of row behind).1;
     }
 
--- one that isn't understood: behind a key's line values may stand; where a value's first row ends in quotes, since one may lack, reading
--- goes on with the next row, as a line of its own
+-- one that isn't understood: behind a key's line values may stand; where a value's first row ends in quotes, and one seems to lack there,
+-- reading goes on with the next row, as a line of its own
 abbrev pub step_not : (root : List ℕ) (number : ℕ) (is_open : Bool) (row : List ℕ) (behind : List (List ℕ)) → Step
 step_not root number is_open row behind =
     record {
       bad = Some (bad_line number row behind (whole_of row behind).0 (line_stop root (trimmed (whole_of row behind).0)));
       open_then = is_open || is_key_line row;
-      skipped = if ends_quoted row then 0 else (whole_of row behind).1;
+      skipped = if ends_quoted row && lacks_quote behind then 0 else (whole_of row behind).1;
     }
 
 abbrev pub step_by : (root : List ℕ) (number : ℕ) (is_open : Bool) (row : List ℕ) (behind : List (List ℕ)) → Option (Option Entry) → Step

@@ -1,5 +1,6 @@
 -- The units of a file's bytes: UTF-16 behind its mark, else UTF-8 (Unicode Standard, chapter 3, D90 to D98 and "Byte Order Mark").
 use Rattle.std.specs.Prelude.{◌≡◌, ℕ, ◌+◌, ◌*◌, if◌then◌else◌, List, [], ◌∷◌, flat_map, Option, Some, None, option_map}
+use Rattle.std.specs.Option.{unwrap_or}
 use Rattle.std.specs.Str.{chars, is_utf8}
 use Rattle.std.specs.Char.Escape.{encode_utf16}
 use Rattle.reg_dotreg_reader.specs.declared.fault.ReadFault.{ReadFault}
@@ -26,6 +27,10 @@ narrow_units bytes = if is_utf8 bytes then Some (flat_map encode_utf16 (chars by
 -- a file's units: two bytes each behind the mark of UTF-16, else those of UTF-8, behind its mark where it has one
 unfoldable pub units_of : List ℕ → Option (List ℕ)
 units_of bytes = behind_or wide_mark wide_units (behind_or narrow_mark narrow_units (narrow_units bytes) bytes) bytes
+
+-- the units of a front that is given in UTF-8; of bytes that are no UTF-8 each is one
+unfoldable pub front_units : List ℕ → List ℕ
+front_units bytes = unwrap_or (narrow_units bytes) bytes
 
 -- why there are no units of bytes: they have none; or memory was refused
 abbrev pub IsUnread : Option (List ℕ) → ReadFault → Type 0

@@ -4,4 +4,5 @@ pub mod EntryWords
 pub mod EntryMeanings
 pub mod LineStops
 pub mod BadLines
+pub mod ToldLines
 pub mod Internal

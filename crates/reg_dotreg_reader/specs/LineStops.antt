@@ -1,15 +1,16 @@
 -- Where a line of a .reg text that isn't understood stops, and what was expected there (this project's own). A stop has how much of the
 -- line is left behind its place.
-use Rattle.std.specs.Prelude.{ℕ, suc, ◌+◌, ◌-◌, ◌==◌, ◌||◌, not, nat_lt, Bool, true, false, if◌then◌else◌, List, [], ◌∷◌, codes, length, take}
+use Rattle.std.specs.Prelude.{ℕ, suc, ◌+◌, ◌-◌, ◌==◌, ◌&&◌, ◌||◌, not, nat_lt, Bool, true, false, if◌then◌else◌, List}
+use Rattle.std.specs.Prelude.{[], ◌∷◌, codes, length, take, drop}
 use Rattle.std.specs.Prelude.{Option, Some, None, option_map, is_some}
 use Rattle.std.specs.Option.{unwrap_or}
-use Rattle.std.specs.List.{list_all, position_or_len, suffix_len, slice_split, before_first, after_first}
+use Rattle.std.specs.List.{list_all, list_any, position_or_len, suffix_len, slice_split, before_first, after_first}
 use Rattle.hex.specs.Hex.{hex_digit_value}
 use Rattle.reg_names.specs.Names.{is_value_name_byte}
 use Rattle.reg_dotreg_reader.specs.declared.expected.Expected.{Expected}
 use Rattle.reg_dotreg_reader.specs.declared.expected.Expected.TheVariants as wanted
-use Rattle.reg_dotreg_reader.specs.EntryWords.{behind_blanks, before_mark, behind_or, number_of, byte_of, is_comma, is_escaped, quoted}
-use Rattle.reg_dotreg_reader.specs.EntryLines.{is_feed}
+use Rattle.reg_dotreg_reader.specs.EntryWords.{is_blank, behind_blanks, before_mark, behind_or, number_of, byte_of, is_comma, is_escaped, quoted}
+use Rattle.reg_dotreg_reader.specs.EntryLines.{is_feed, lines_of, is_value_line}
 use Rattle.reg_dotreg_reader.specs.EntryMeanings.{long_form, behind_name, name_read, is_close}
 
 -- what was expected, and how many units are left there
@@ -20,52 +21,81 @@ Stop = Expected × ℕ
 abbrev pub left_from : (ℕ → Bool) → List ℕ → ℕ
 left_from p units = length units - position_or_len p units
 
+-- behind a value that is whole: a comment was expected, or nothing more
+abbrev pub behind_stop : List ℕ → Stop
+behind_stop rest = (wanted.Comment, length (behind_blanks rest))
+
 -- ---- names and texts in quotes
+
+abbrev pub has_quote : List ℕ → Bool
+has_quote line = list_any (λ u. u == 34) line
+
+-- whether a quote seems to lack before some lines: the next one begins a value's line, or there is none
+unfoldable pub lacks_quote : List (List ℕ) → Bool
+lacks_quote [] = true
+lacks_quote (line ∷ lines) = if has_quote line then is_value_line line else lacks_quote lines
 
 -- whether what stands behind a unit stands behind a backslash, by whether the unit does; `None` where it does and is no quote or backslash
 abbrev pub behind_after : (is_behind_backslash : Bool) → ℕ → Option Bool
 behind_after true unit = if is_escaped unit then Some false else None
 behind_after false unit = Some (unit == 92)
 
--- from some place in a quoted text on, behind a backslash or not: a backslash stands before another unit than a quote or a backslash, or
--- else no quote closes it, which was expected with so many units left
+-- from some place in a quoted text on, behind a backslash or not, with so many units left behind the text: a backslash stands before
+-- another unit than a quote or a backslash, or else no quote closes it, which was expected at its end
 unfoldable pub unclosed : (left : ℕ) (is_behind_backslash : Bool) → List ℕ → Stop
 unclosed left behind [] = (wanted.Quote, left)
 unclosed left behind (u ∷ us) =
-    unwrap_or (option_map (λ after. unclosed left after us) (behind_after behind u)) (wanted.Escaped, suc (length us))
+    unwrap_or (option_map (λ after. unclosed left after us) (behind_after behind u)) (wanted.Escaped, left + suc (length us))
 
--- a text behind the quote that opens it: the quote that closes it was expected in its first line
-abbrev pub quoted_stop : List ℕ → Stop
-quoted_stop text = unclosed (left_from is_feed text) false text
+-- a text behind the quote that opens it, which its first line was expected to close
+unfoldable pub first_stop : List ℕ → Stop
+first_stop text = unclosed (left_from is_feed text) false (before_first is_feed text)
 
-abbrev pub is_on_one_line : List ℕ → Bool
-is_on_one_line units = list_all (λ u. not (is_feed u)) units
+-- one that may go over several lines: a quote closes it, or none does
+unfoldable pub several_stop : List ℕ → Stop
+several_stop text = unwrap_or (option_map (λ read. behind_stop read.1) (quoted text)) (unclosed 0 false text)
 
--- a value's text behind the quote that opens it: where one closes it, in the same line, nothing more was expected behind that
+-- whether a text isn't closed in its first line, and a quote seems to lack there
+unfoldable pub is_open : List ℕ → Bool
+is_open text = not (is_some (quoted (before_first is_feed text))) && lacks_quote (lines_of (after_first is_feed text))
+
+-- a value's text behind the quote that opens it
 unfoldable pub text_stop : List ℕ → Stop
-text_stop text =
-    unwrap_or (option_map (λ read. if is_on_one_line read.0 then (wanted.End, length read.1) else (wanted.Quote, left_from is_feed text)) (quoted text))
-    (quoted_stop text)
+text_stop text = if is_open text then first_stop text else several_stop text
 
 -- a name that is none, by its units
 abbrev pub bad_name : (text units : List ℕ) → Stop
 bad_name text units =
-    if is_on_one_line units then
-    (if list_all is_value_name_byte units then (wanted.ShortName, length text) else (wanted.NameCharacter, left_from (λ u. not (is_value_name_byte u)) text))
-    else (wanted.Quote, left_from is_feed text)
+    if list_all is_value_name_byte units then (wanted.ShortName, length text)
+    else (wanted.NameCharacter, left_from (λ u. not (is_value_name_byte u)) text)
 
--- a value's name behind the quote that opens it
+-- a value's name behind the quote that opens it, which stands on one line
 unfoldable pub name_stop : List ℕ → Stop
-name_stop text = unwrap_or (option_map (λ read. bad_name text read.0) (quoted text)) (quoted_stop text)
+name_stop text = unwrap_or (option_map (λ read. bad_name text read.0) (quoted (before_first is_feed text))) (first_stop text)
 
 -- ---- numbers and bytes
 
 abbrev pub is_no_digit : ℕ → Bool
 is_no_digit unit = not (is_some (hex_digit_value unit))
 
--- how many units are left behind the digits at their start, at most eight
-unfoldable pub left_behind_digits : List ℕ → ℕ
-left_behind_digits digits = length digits - position_or_len is_no_digit (take 8 digits)
+-- how many digits stand at the start of some units, at most eight
+unfoldable pub few_digits : List ℕ → ℕ
+few_digits units = position_or_len is_no_digit (take 8 units)
+
+-- whether a number of so many digits is whole before some units: it can have no more, or a blank stands there
+abbrev pub begins_blank : List ℕ → Bool
+begins_blank [] = false
+begins_blank (u ∷ us) = is_blank u
+
+abbrev pub is_whole : (count : ℕ) → List ℕ → Bool
+is_whole count rest = count == 8 || (nat_lt 0 count && begins_blank rest)
+
+-- a number of 32 bits, by how many digits it has and what stands behind them
+abbrev pub counted_stop : (count : ℕ) → (rest : List ℕ) → Stop
+counted_stop count rest = if is_whole count rest then behind_stop rest else (wanted.Number, length rest)
+
+unfoldable pub number_stop : List ℕ → Stop
+number_stop digits = counted_stop (few_digits digits) (drop (few_digits digits) digits)
 
 -- how long some pieces are, with the commas before them
 unfoldable pub pieces_length : List (List ℕ) → ℕ
@@ -90,7 +120,7 @@ unfoldable pub kind_stop : List ℕ → Stop
 kind_stop text =
     if is_some (number_of 8 (before_first is_close text)) then
     behind_or (codes ":") list_stop (wanted.Colon, length (after_first is_close text)) (after_first is_close text)
-    else (wanted.Kind, left_behind_digits text)
+    else (wanted.Kind, length text - few_digits text)
 
 -- what stands behind `hex`
 unfoldable pub bytes_stop : List ℕ → Stop
@@ -101,9 +131,9 @@ bytes_stop rest = behind_or (codes ":") list_stop (behind_or (codes "(") kind_st
 -- what stands behind a value's `=`, and blanks
 unfoldable pub data_stop : List ℕ → Stop
 data_stop text =
-    behind_or (codes "\"") text_stop
-    (behind_or (codes "dword:") (λ digits. (wanted.Number, left_behind_digits digits))
-    (behind_or (codes "hex") bytes_stop (wanted.Value, length text) text) text) text
+    behind_or (codes "-") behind_stop
+    (behind_or (codes "\"") text_stop
+    (behind_or (codes "dword:") number_stop (behind_or (codes "hex") bytes_stop (wanted.Value, length text) text) text) text) text
 
 -- what stands behind a value's name, and blanks
 unfoldable pub behind_name_stop : List ℕ → Stop
@@ -141,12 +171,16 @@ below_stop root units = long_stop (length units) root (long_form units)
 abbrev pub between_stop : (root units : List ℕ) → Stop
 between_stop root units = behind_or (codes "-") (below_stop root) (below_stop root units) units
 
--- a key that no bracket closes at its line's end: something stands behind the last one, or there is none
-abbrev pub open_stop : (behind whole : ℕ) → Stop
-open_stop behind whole = if behind == whole then (wanted.Bracket, 0) else (wanted.End, behind)
-
 abbrev pub is_no_bracket : ℕ → Bool
 is_no_bracket unit = not (unit == 93)
+
+-- what stands behind the last bracket that closes, or all
+unfoldable pub behind_bracket : List ℕ → List ℕ
+behind_bracket line = drop (length line - suffix_len is_no_bracket line) line
+
+-- a key that no bracket closes at its line's end: something stands behind the last one, or there is none
+abbrev pub open_stop : (behind line : List ℕ) → Stop
+open_stop behind line = if length behind == length line then (wanted.Bracket, 0) else (wanted.End, length (behind_blanks behind))
 
 -- a stop in a line of so many units, by that in the units before the bracket at its end
 abbrev pub before_bracket : (whole : ℕ) → Stop → Stop
@@ -156,7 +190,7 @@ before_bracket whole stop = if nat_lt stop.1 whole then (stop.0, suc stop.1) els
 unfoldable pub key_stop : (root line : List ℕ) → Stop
 key_stop root line =
     unwrap_or (option_map (λ units. before_bracket (length line) (between_stop root units)) (before_mark 93 line))
-    (open_stop (suffix_len is_no_bracket line) (length line))
+    (open_stop (behind_bracket line) line)
 
 -- ---- lines
 

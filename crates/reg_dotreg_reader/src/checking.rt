@@ -14,8 +14,9 @@ use crate::fault::LineFault;
 use crate::line_stops::line_stop;
 use crate::lines::{first_line, without_return};
 use crate::places::bad_line;
+use crate::quote_stops::lacks_quote;
 use crate::reading::{is_narrow_by, said};
-use crate::roots::long_root;
+use crate::roots::{long_root, widened};
 use crate::rows::{WholeValue, ends_quoted, whole_row};
 use crate::units::Units;
 use crate::words::{before_blanks, behind_blanks, trimmed};
@@ -47,7 +48,7 @@ fn is_key_line(line: &[u16]) -> bool
 /// A line that isn't understood, with those that it goes on in.
 fn bad_row(
     alloc: Global,
-    root: &[u8],
+    root: &[u16],
     number: u64,
     line: &[u16],
     behind: &[u16],
@@ -63,7 +64,7 @@ fn bad_row(
 /// What a line gives that isn't understood.
 fn step_not<'a>(
     alloc: Global,
-    root: &[u8],
+    root: &[u16],
     number: u64,
     is_open: bool,
     line: &'a [u16],
@@ -81,7 +82,7 @@ fn step_not<'a>(
 {
     let bad = bad_row(alloc, root, number, line, behind, &whole.units)?;
     let open_then = is_open || is_key_line(line);
-    if ends_quoted(line) {
+    if ends_quoted(line) && lacks_quote(behind) {
         return Ok(LineStep {
             bad: Some(bad),
             is_open: open_then,
@@ -160,7 +161,7 @@ fn step_said<'a>(
 /// What a line gives, with those that it goes on in, of the text behind it.
 fn line_step<'a>(
     alloc: Global,
-    root: &[u8],
+    root: &[u16],
     is_narrow: bool,
     is_open: bool,
     number: u64,
@@ -206,7 +207,7 @@ fn is_done(tells_all: bool, bad: &[BadLine]) -> bool
 #[tactic(auto, using(crate::proofs::BadSteps::bad_so_far))]
 fn bad_behind(
     alloc: Global,
-    root: &[u8],
+    root: &[u16],
     is_narrow: bool,
     may_stand: bool,
     tells_all: bool,
@@ -260,7 +261,7 @@ fn no_title(alloc: Global) -> Result<Vec<BadLine>, AllocError>
 #[tactic(auto, using(crate::proofs::BadSteps::titles))]
 fn find_bad(
     alloc: Global,
-    root: &[u8],
+    root: &[u16],
     text: &[u16],
     tells_all: bool,
 ) -> Result<Vec<BadLine>, AllocError>
@@ -283,15 +284,29 @@ fn find_bad(
 }
 
 /// The lines of a text that aren't understood, in their order: all, or the first alone. The text is of keys below a root of that name, or
-/// of a front that stands for it, as for [`crate::read_entries`]; where that answers entries there are none, and else the first of them has
+/// of a front that stands for it, as for [`crate::read_below`]; where that answers entries there are none, and else the first of them has
 /// the number that it tells.
 ///
 /// Behind one, reading goes on with the next line as if it weren't there, but for three: behind a line of keys values may stand; so they
-/// may behind a first line that is no title, and the others are read as those of version 5.00; and where a value's text isn't closed in
-/// its own line, the next line is one of its own.
+/// may behind a first line that is no title, and the others are read as those of version 5.00; and where a quote seems to lack at the end
+/// of a value's line, the next line is one of its own. One seems to lack where the next quote begins a value's line, or there is none.
 ///
 /// Its one fault is that memory was refused.
 #[tactic(auto, using(crate::proofs::BadSteps::told_first))]
+pub fn bad_lines_below(
+    alloc: Global,
+    root: &[u16],
+    text: &[u16],
+    tells_all: bool,
+) -> Result<Vec<BadLine>, AllocError>
+    ensures lines { IfOk result (λ bad. bad.items ≡ told tells_all (bad_lines_in root.now text.now)) }
+    ensures first { IfOk result (λ bad. Tells (entries_in root.now text.now) bad.items) }
+{
+    let bad = find_bad(alloc, root, text, tells_all)?;
+    Ok(bad)
+}
+
+/// The lines of a text as by [`bad_lines_below`], of keys below a root whose name has characters of one byte.
 pub fn bad_lines(
     alloc: Global,
     root: &[u8],
@@ -301,6 +316,6 @@ pub fn bad_lines(
     ensures lines { IfOk result (λ bad. bad.items ≡ told tells_all (bad_lines_in root.now text.now)) }
     ensures first { IfOk result (λ bad. Tells (entries_in root.now text.now) bad.items) }
 {
-    let bad = find_bad(alloc, root, text, tells_all)?;
-    Ok(bad)
+    let root = widened(alloc, root)?;
+    bad_lines_below(alloc, &root, text, tells_all)
 }

@@ -3,7 +3,7 @@ ghost use Rattle.std.specs.Prelude.{◌≡◌, ◌++◌, Some, option_map, optio
 ghost use Rattle.std.specs.Str.{chars};
 ghost use Rattle.std.specs.Char.Escape.{encode_utf16};
 ghost use Rattle.reg_dotreg_reader.specs.EntryWords.{behind_word};
-ghost use Rattle.reg_dotreg_reader.specs.FileUnits.{wide_units, narrow_units, units_of, IsUnread};
+ghost use Rattle.reg_dotreg_reader.specs.FileUnits.{wide_units, narrow_units, front_units, units_of, IsUnread};
 
 use crate::fault::ReadFault;
 use byteorder::{ByteOrder, LittleEndian};
@@ -48,7 +48,7 @@ fn text_units(alloc: Global, text: &str) -> Result<Vec<u16>, AllocError>
     Ok(units)
 }
 
-/// The units of ASCII: one for each byte.
+/// Bytes as units, as those of ASCII are: each byte is one.
 fn ascii_units(alloc: Global, bytes: &[u8]) -> Result<Vec<u16>, AllocError>
     ensures { IfOk result (λ units. units.items ≡ bytes.now) }
 {
@@ -70,6 +70,17 @@ fn narrow_units(alloc: Global, bytes: &[u8]) -> Result<Option<Vec<u16>>, AllocEr
     match str::from_utf8(bytes) {
         Ok(text) => Ok(Some(text_units(alloc, text)?)),
         Err(_) => Ok(None),
+    }
+}
+
+/// The units of a front that is given in UTF-8. Bytes that are no UTF-8 are units themselves. Its one fault is that memory was refused.
+#[tactic(auto, unfolding(crate::specs::FileUnits::front_units))]
+pub fn front_units(alloc: Global, front: &[u8]) -> Result<Vec<u16>, AllocError>
+    ensures { IfOk result (λ units. units.items ≡ front_units front.now) }
+{
+    match narrow_units(alloc, front)? {
+        Some(units) => Ok(units),
+        None => ascii_units(alloc, front),
     }
 }
 

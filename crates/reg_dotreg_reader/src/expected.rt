@@ -45,24 +45,49 @@ pub enum Expected {
     Byte,
     /// Characters of one byte, in a text of REGEDIT4.
     PlainBytes,
-    /// The line's end.
+    /// A comment, or the line's end, behind a value.
+    Comment,
+    /// The line's end, behind a key.
     End,
 }
 
 impl Display for Expected {
     fn fmt<W: fmt::Write>(&self, f: &mut Formatter<W>) -> fmt::Result {
-        f.pad(match self {
+        f.pad(self.words())
+    }
+}
+
+impl Expected {
+    ghost use Rattle.std.specs.Prelude.{◌≡◌};
+    ghost use Rattle.reg_dotreg_reader.specs.LineStops.{is_root as is_root_of};
+    ghost use Rattle.reg_dotreg_reader.specs.ToldLines.{words_of};
+
+    /// Whether it is the root's name.
+    pub fn is_root(self) -> bool
+        ensures { result ≡ is_root_of self }
+    {
+        match self {
+            Expected::Root => true,
+            _ => false,
+        }
+    }
+
+    /// Its words.
+    pub fn words(self) -> &'static str
+        ensures { result.now ≡ words_of self }
+    {
+        match self {
             Expected::Title => "'Windows Registry Editor Version 5.00' or 'REGEDIT4'",
             Expected::Line =>
                 "a key in brackets, a value's name in quotes or @, or a comment behind ;",
             Expected::Key => "a key that is made, in brackets, above its values",
             Expected::Root => "the name of the hive's root",
-            Expected::KeyCharacter => "a character from 01 to 7f in hexadecimal digits",
+            Expected::KeyCharacter => "a character of ASCII other than NUL",
             Expected::Path => "at most 512 names of 1 to 255 characters, a backslash between two",
             Expected::Bracket => "] at the line's end",
             Expected::Quote => "a closing quote",
             Expected::Escaped => "a quote or a backslash behind a backslash",
-            Expected::NameCharacter => "a character from 01 to 7f in hexadecimal digits",
+            Expected::NameCharacter => "a character of ASCII other than NUL",
             Expected::ShortName => "a name of at most 16383 characters",
             Expected::Equals => "= behind the value's name",
             Expected::Value => "a text in quotes, dword:, hex:, hex(TYPE): or -",
@@ -72,22 +97,8 @@ impl Display for Expected {
             Expected::Colon => "): behind the type",
             Expected::Byte => "a byte of one or two hexadecimal digits",
             Expected::PlainBytes => "bytes up to 7f, as the text is one of REGEDIT4",
+            Expected::Comment => "a comment behind ; or the line's end",
             Expected::End => "nothing more in this line",
-        })
-    }
-}
-
-impl Expected {
-    ghost use Rattle.std.specs.Prelude.{◌≡◌};
-    ghost use Rattle.reg_dotreg_reader.specs.LineStops.{is_root as is_root_of};
-
-    /// Whether it is the root's name.
-    pub fn is_root(self) -> bool
-        ensures { result ≡ is_root_of self }
-    {
-        match self {
-            Expected::Root => true,
-            _ => false,
         }
     }
 }

@@ -6,7 +6,7 @@ ghost use Rattle.reg_dotreg_reader.specs.Internal.ReadSoFar.{Reads};
 use crate::entry::Entry;
 use crate::fault::LineFault;
 use crate::quotes::narrowed;
-use crate::roots::{behind_name, lengthened};
+use crate::roots::{behind_root, lengthened};
 use crate::words::{before_mark, behind_word};
 use reg_model::Bytes;
 use reg_names::check_path;
@@ -49,10 +49,10 @@ fn path_behind(alloc: Global, units: &[u16]) -> Result<Vec<u8>, LineFault>
 
 /// The path of a key below the root, both in their long forms.
 #[tactic(auto, using(crate::proofs::EntryReadings::below_is, crate::proofs::EntryReadings::below_not))]
-fn way_below(alloc: Global, root: &[u8], units: &[u16]) -> Result<Vec<u8>, LineFault>
+fn way_below(alloc: Global, root: &[u16], units: &[u16]) -> Result<Vec<u8>, LineFault>
     ensures { Reads (λ v. v.items) (way_below root.now units.now) result }
 {
-    match behind_name(root, units) {
+    match behind_root(root, units) {
         Some(rest) => path_behind(alloc, rest),
         None => Err(LineFault::Form),
     }
@@ -60,7 +60,7 @@ fn way_below(alloc: Global, root: &[u8], units: &[u16]) -> Result<Vec<u8>, LineF
 
 /// The path of a key below the root, which is in its long form.
 #[tactic(auto, using(crate::proofs::EntryReadings::below_long, crate::proofs::EntryReadings::below_same))]
-fn path_below(alloc: Global, root: &[u8], units: &[u16]) -> Result<Vec<u8>, LineFault>
+fn path_below(alloc: Global, root: &[u16], units: &[u16]) -> Result<Vec<u8>, LineFault>
     ensures { Reads (λ v. v.items) (path_below root.now units.now) result }
 {
     match lengthened(alloc, units)? {
@@ -71,7 +71,7 @@ fn path_below(alloc: Global, root: &[u8], units: &[u16]) -> Result<Vec<u8>, Line
 
 /// The path of a key that goes.
 #[tactic(auto, using(crate::proofs::EntryReadings::gone_is, crate::proofs::EntryReadings::gone_not))]
-fn gone_below(alloc: Global, root: &[u8], units: &[u16]) -> Result<Vec<u8>, LineFault>
+fn gone_below(alloc: Global, root: &[u16], units: &[u16]) -> Result<Vec<u8>, LineFault>
     ensures { Reads (λ v. v.items) (gone_below root.now units.now) result }
 {
     match behind_word(b"-", units) {
@@ -82,7 +82,7 @@ fn gone_below(alloc: Global, root: &[u8], units: &[u16]) -> Result<Vec<u8>, Line
 
 /// What stands between brackets: a key that is made, or else one that goes.
 #[tactic(auto, using(crate::proofs::EntryReadings::keys))]
-fn bracketed(alloc: Global, root: &[u8], units: &[u16]) -> Result<Entry, LineFault>
+fn bracketed(alloc: Global, root: &[u16], units: &[u16]) -> Result<Entry, LineFault>
     ensures { Reads (λ e. e) (bracketed root.now units.now) result }
 {
     match path_below(alloc, root, units) {
@@ -97,7 +97,7 @@ fn bracketed(alloc: Global, root: &[u8], units: &[u16]) -> Result<Entry, LineFau
 
 /// A key's line behind the bracket that opens it.
 #[tactic(auto, using(crate::proofs::EntryReadings::line_key, crate::proofs::EntryReadings::line_open))]
-pub fn key_said(alloc: Global, root: &[u8], line: &[u16]) -> Result<Entry, LineFault>
+pub fn key_said(alloc: Global, root: &[u16], line: &[u16]) -> Result<Entry, LineFault>
     ensures { Reads (λ e. e) (key_said root.now line.now) result }
 {
     match before_mark(93, line) {

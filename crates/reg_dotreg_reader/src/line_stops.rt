@@ -1,13 +1,13 @@
 //! Where lines that aren't understood stop.
-ghost use Rattle.std.specs.Prelude.{◌≡◌, length, IfOk};
-ghost use Rattle.std.specs.List.{suffix_len};
-ghost use Rattle.reg_dotreg_reader.specs.LineStops.{data_stop, behind_name_stop, unnamed_stop, value_stop, path_stop, way_stop, long_stop, below_stop, between_stop, is_no_bracket, open_stop, key_stop, line_stop};
+ghost use Rattle.std.specs.Prelude.{◌≡◌, IfOk};
+ghost use Rattle.reg_dotreg_reader.specs.LineStops.{data_stop, behind_name_stop, unnamed_stop, value_stop, path_stop, way_stop, long_stop};
+ghost use Rattle.reg_dotreg_reader.specs.LineStops.{below_stop, between_stop, behind_bracket, open_stop, key_stop, line_stop};
 
 use crate::expected::Expected;
 use crate::fault::LineFault;
-use crate::number_stops::{bytes_stop, left_behind_digits};
+use crate::number_stops::{behind_stop, bytes_stop, number_stop};
 use crate::quote_stops::{are_name_units, left_from_other, name_stop, text_stop};
-use crate::roots::{behind_name, lengthened};
+use crate::roots::{behind_root, lengthened};
 use crate::values::name_read;
 use crate::words::{before_mark, behind_blanks, behind_word};
 use std::alloc::{AllocError, Global};
@@ -17,11 +17,14 @@ use std::alloc::{AllocError, Global};
 fn data_stop(alloc: Global, text: &[u16]) -> Result<(Expected, usize), AllocError>
     ensures { IfOk result (λ stop. stop ≡ data_stop text.now) }
 {
+    if let Some(rest) = behind_word(b"-", text) {
+        return Ok(behind_stop(rest));
+    }
     if let Some(rest) = behind_word(b"\"", text) {
         return text_stop(alloc, rest);
     }
     if let Some(digits) = behind_word(b"dword:", text) {
-        return Ok((Expected::Number, left_behind_digits(digits)));
+        return Ok(number_stop(digits));
     }
     match behind_word(b"hex", text) {
         Some(rest) => Ok(bytes_stop(rest)),
@@ -88,10 +91,10 @@ fn way_stop(whole: usize, rest: &[u16]) -> (Expected, usize)
 }
 
 /// Where a key without its brackets stops, by its units in the long form.
-fn long_stop(whole: usize, root: &[u8], long: &[u16]) -> (Expected, usize)
+fn long_stop(whole: usize, root: &[u16], long: &[u16]) -> (Expected, usize)
     ensures { result ≡ long_stop whole root.now long.now }
 {
-    match behind_name(root, long) {
+    match behind_root(root, long) {
         Some(rest) => way_stop(whole, rest),
         None => (Expected::Root, whole),
     }
@@ -99,7 +102,7 @@ fn long_stop(whole: usize, root: &[u8], long: &[u16]) -> (Expected, usize)
 
 /// Where a key without its brackets stops.
 #[tactic(auto, using(crate::proofs::StopSteps::below_stops))]
-fn below_stop(alloc: Global, root: &[u8], units: &[u16]) -> Result<(Expected, usize), AllocError>
+fn below_stop(alloc: Global, root: &[u16], units: &[u16]) -> Result<(Expected, usize), AllocError>
     ensures { IfOk result (λ stop. stop ≡ below_stop root.now units.now) }
 {
     match lengthened(alloc, units)? {
@@ -109,7 +112,7 @@ fn below_stop(alloc: Global, root: &[u8], units: &[u16]) -> Result<(Expected, us
 }
 
 /// Where what stands between brackets stops.
-fn between_stop(alloc: Global, root: &[u8], units: &[u16]) -> Result<(Expected, usize), AllocError>
+fn between_stop(alloc: Global, root: &[u16], units: &[u16]) -> Result<(Expected, usize), AllocError>
     ensures { IfOk result (λ stop. stop ≡ between_stop root.now units.now) }
 {
     match behind_word(b"-", units) {
@@ -118,37 +121,36 @@ fn between_stop(alloc: Global, root: &[u8], units: &[u16]) -> Result<(Expected, 
     }
 }
 
-/// How many units are left behind the last bracket that closes, or all.
+/// What stands behind the last bracket that closes, or all.
 #[tactic(auto, using(crate::proofs::StopPlaces::bracket_is))]
-fn behind_bracket(line: &[u16]) -> usize
-    ensures { result ≡ suffix_len is_no_bracket line.now }
+fn behind_bracket(line: &[u16]) -> &[u16]
+    ensures { result.now ≡ behind_bracket line.now }
 {
     let mut end = line.len();
     while end > 0 && line[end - 1] != 93 {
         end -= 1;
     }
-    line.len() - end
+    &line[end..]
 }
 
-/// Where a key stops that no bracket closes at its line's end.
-fn open_stop(line: &[u16]) -> (Expected, usize)
-    ensures { result ≡ open_stop (suffix_len is_no_bracket line.now) (length line.now) }
+/// Where a key stops that no bracket closes at its line's end, by what stands behind the last one.
+fn open_stop(behind: &[u16], line: &[u16]) -> (Expected, usize)
+    ensures { result ≡ open_stop behind.now line.now }
 {
-    let behind = behind_bracket(line);
-    if behind == line.len() {
+    if behind.len() == line.len() {
         (Expected::Bracket, 0)
     } else {
-        (Expected::End, behind)
+        (Expected::End, behind_blanks(behind).len())
     }
 }
 
 /// Where a key's line stops, behind the bracket that opens it.
 #[tactic(auto, using(crate::proofs::StopSteps::key_stops))]
-fn key_stop(alloc: Global, root: &[u8], line: &[u16]) -> Result<(Expected, usize), AllocError>
+fn key_stop(alloc: Global, root: &[u16], line: &[u16]) -> Result<(Expected, usize), AllocError>
     ensures { IfOk result (λ stop. stop ≡ key_stop root.now line.now) }
 {
     let Some(units) = before_mark(93, line) else {
-        return Ok(open_stop(line));
+        return Ok(open_stop(behind_bracket(line), line));
     };
     let (expected, left) = between_stop(alloc, root, units)?;
     if left < line.len() {
@@ -160,7 +162,7 @@ fn key_stop(alloc: Global, root: &[u8], line: &[u16]) -> Result<(Expected, usize
 
 /// Where a line without blanks at both ends stops, which isn't understood below a root in its long form.
 #[tactic(auto, using(crate::proofs::StopSteps::line_stops))]
-pub fn line_stop(alloc: Global, root: &[u8], line: &[u16]) -> Result<(Expected, usize), AllocError>
+pub fn line_stop(alloc: Global, root: &[u16], line: &[u16]) -> Result<(Expected, usize), AllocError>
     ensures { IfOk result (λ stop. stop ≡ line_stop root.now line.now) }
 {
     let Some((first, rest)) = line.split_first() else {

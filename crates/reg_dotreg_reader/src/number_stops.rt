@@ -3,12 +3,13 @@ ghost use Rattle.std.specs.Prelude.{◌≡◌, ◌≤◌, length};
 ghost use Rattle.std.specs.List.{position, position_or_len, before_first, after_first};
 ghost use Rattle.reg_dotreg_reader.specs.EntryMeanings.{is_close};
 ghost use Rattle.reg_dotreg_reader.specs.EntryWords.{behind_blanks as behind_blanks_of};
-ghost use Rattle.reg_dotreg_reader.specs.LineStops.{is_no_digit, left_behind_digits, list_stop, kind_stop, bytes_stop};
+ghost use Rattle.reg_dotreg_reader.specs.LineStops.{is_no_digit, few_digits, behind_stop, begins_blank, is_whole, counted_stop, number_stop};
+ghost use Rattle.reg_dotreg_reader.specs.LineStops.{list_stop, kind_stop, bytes_stop};
 
 use crate::expected::Expected;
 use crate::numbers::{digit, first_comma, is_byte, number};
 use crate::values::first_close;
-use crate::words::{behind_blanks, behind_word};
+use crate::words::{behind_blanks, behind_word, is_blank};
 
 fn first_other(units: &[u16]) -> Option<usize>
     ensures { result ≡ position is_no_digit units.now }
@@ -28,15 +29,60 @@ fn digits_at_start(units: &[u16]) -> usize
     }
 }
 
-/// How many units are left behind the digits at their start, at most eight.
-#[tactic(auto, using(crate::proofs::StopPlaces::few_digits), unfolding(crate::specs::LineStops::left_behind_digits))]
-pub fn left_behind_digits(digits: &[u16]) -> usize
-    ensures { result ≡ left_behind_digits digits.now }
+/// How many digits stand at the start of some units, at most eight.
+#[tactic(auto, using(crate::proofs::StopPlaces::few_at_start), unfolding(crate::specs::LineStops::few_digits))]
+fn few_digits(units: &[u16]) -> usize
+    ensures count { result ≡ few_digits units.now }
+    ensures within { result ≤ length units.now }
 {
-    if digits.len() < 8 {
-        return digits.len() - digits_at_start(digits);
+    if units.len() < 8 {
+        return digits_at_start(units);
     }
-    digits.len() - digits_at_start(&digits[..8])
+    digits_at_start(&units[..8])
+}
+
+/// Where a value stops that is whole, by what stands behind it.
+pub fn behind_stop(rest: &[u16]) -> (Expected, usize)
+    ensures { result ≡ behind_stop rest.now }
+{
+    (Expected::Comment, behind_blanks(rest).len())
+}
+
+/// Whether a blank stands at the start of some units.
+fn begins_blank(units: &[u16]) -> bool
+    ensures { result ≡ begins_blank units.now }
+{
+    match units.first() {
+        Some(unit) => is_blank(*unit),
+        None => false,
+    }
+}
+
+/// Whether a number of so many digits is whole before some units.
+fn is_whole(count: usize, rest: &[u16]) -> bool
+    ensures { result ≡ is_whole count rest.now }
+{
+    count == 8 || (count > 0 && begins_blank(rest))
+}
+
+/// Where a number of 32 bits stops, by how many digits it has and what stands behind them.
+fn counted_stop(count: usize, rest: &[u16]) -> (Expected, usize)
+    ensures { result ≡ counted_stop count rest.now }
+{
+    if is_whole(count, rest) {
+        behind_stop(rest)
+    } else {
+        (Expected::Number, rest.len())
+    }
+}
+
+/// Where a number of 32 bits stops.
+#[tactic(auto, using(crate::proofs::StopPlaces::number_counted))]
+pub fn number_stop(digits: &[u16]) -> (Expected, usize)
+    ensures { result ≡ number_stop digits.now }
+{
+    let count = few_digits(digits);
+    counted_stop(count, &digits[count..])
 }
 
 /// How many units are left without the blanks at their start.
@@ -90,7 +136,7 @@ fn kind_stop(text: &[u16]) -> (Expected, usize)
 {
     let (digits, behind) = around_close(text);
     let Ok(_kind) = number(8, digits) else {
-        return (Expected::Kind, left_behind_digits(text));
+        return (Expected::Kind, text.len() - few_digits(text));
     };
     match behind_word(b":", behind) {
         Some(list) => list_stop(list),

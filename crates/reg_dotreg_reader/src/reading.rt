@@ -8,7 +8,7 @@ use crate::entry::{Entry, Numbered};
 use crate::fault::{LineFault, ReadFault};
 use crate::keys::key_said;
 use crate::lines::{first_line, without_return};
-use crate::roots::long_root;
+use crate::roots::{long_root, widened};
 use crate::rows::{Place, is_value_line, joined, row_at};
 use crate::values::value_said;
 use crate::words::{before_blanks, is_word, trimmed};
@@ -18,7 +18,7 @@ use std::alloc::Global;
 #[tactic(auto, using(crate::proofs::EntrySteps::says))]
 fn said_by(
     alloc: Global,
-    root: &[u8],
+    root: &[u16],
     is_narrow: bool,
     line: &[u16],
 ) -> Result<Option<Entry>, LineFault>
@@ -39,7 +39,7 @@ fn said_by(
 #[tactic(auto, unfolding(crate::specs::EntryMeanings::said))]
 pub fn said(
     alloc: Global,
-    root: &[u8],
+    root: &[u16],
     is_narrow: bool,
     line: &[u16],
 ) -> Result<Option<Entry>, LineFault>
@@ -62,7 +62,7 @@ struct ReadLine<'a> {
 #[tactic(auto, using(crate::proofs::ValueRows::wholes))]
 fn whole_said<'a>(
     alloc: Global,
-    root: &[u8],
+    root: &[u16],
     is_narrow: bool,
     line: &'a [u16],
     behind: &'a [u16],
@@ -149,7 +149,7 @@ fn behind_title(text: &[u16]) -> Option<(bool, &[u16])>
 #[tactic(auto, using(crate::proofs::EntrySteps::readings))]
 fn entries_behind(
     alloc: Global,
-    root: &[u8],
+    root: &[u16],
     is_narrow: bool,
     behind: &[u16],
 ) -> Result<Vec<Numbered>, ReadFault>
@@ -175,11 +175,12 @@ fn entries_behind(
 }
 
 /// The entries of a text in their order, of keys below a root of that name: each with the number of its line. The name is any text, as
-/// `HKLM\SOFTWARE`, and stands for what the keys are below.
+/// `HKLM\SOFTWARE`, and stands for what the keys are below. Of it and of the keys, letters of ASCII are alike in either case, and each
+/// other character is like itself alone.
 ///
 /// `Line` tells the first line that isn't understood; `Memory` that memory was refused. It answers no other fault.
 #[tactic(auto, using(crate::proofs::EntrySteps::read_titled, crate::proofs::EntrySteps::read_untitled))]
-pub fn read_entries(alloc: Global, root: &[u8], text: &[u16]) -> Result<Vec<Numbered>, ReadFault>
+pub fn read_below(alloc: Global, root: &[u16], text: &[u16]) -> Result<Vec<Numbered>, ReadFault>
     ensures ok { IfOk result (λ entries. entries_in root.now text.now ≡ Ok entries.items) }
     ensures err { IfErr result (λ fault. IsRefused (entries_in root.now text.now) fault) }
 {
@@ -188,4 +189,13 @@ pub fn read_entries(alloc: Global, root: &[u8], text: &[u16]) -> Result<Vec<Numb
     };
     let long = long_root(alloc, root)?;
     entries_behind(alloc, &long, is_narrow, behind)
+}
+
+/// The entries of a text as by [`read_below`], of keys below a root whose name has characters of one byte.
+pub fn read_entries(alloc: Global, root: &[u8], text: &[u16]) -> Result<Vec<Numbered>, ReadFault>
+    ensures ok { IfOk result (λ entries. entries_in root.now text.now ≡ Ok entries.items) }
+    ensures err { IfErr result (λ fault. IsRefused (entries_in root.now text.now) fault) }
+{
+    let root = widened(alloc, root)?;
+    read_below(alloc, &root, text)
 }

@@ -20,13 +20,29 @@ fn folded(unit: u16) -> u16
 
 /// What stands behind a name, where some units begin with it, letters of either case.
 #[tactic(auto, using(crate::proofs::WordEnds::names))]
-pub fn behind_name<'a>(name: &[u8], units: &'a [u16]) -> Option<&'a [u16]>
+fn behind_name<'a>(name: &[u8], units: &'a [u16]) -> Option<&'a [u16]>
     ensures { option_copied result ≡ behind_name name.now units.now }
 {
     let mut rest = units;
     for letter in name {
         let (unit, others) = rest.split_first()?;
         if folded(*unit) != folded(u16::from(*letter)) {
+            return None;
+        }
+        rest = others;
+    }
+    Some(rest)
+}
+
+/// What stands behind a root's name, where some units begin with it, letters of ASCII of either case.
+#[tactic(auto, using(crate::proofs::WordEnds::names))]
+pub fn behind_root<'a>(root: &[u16], units: &'a [u16]) -> Option<&'a [u16]>
+    ensures { option_copied result ≡ behind_name root.now units.now }
+{
+    let mut rest = units;
+    for letter in root {
+        let (unit, others) = rest.split_first()?;
+        if folded(*unit) != folded(*letter) {
             return None;
         }
         rest = others;
@@ -98,8 +114,8 @@ fn long_front(text: &[u16]) -> Option<(&'static [u8], usize)>
     }
 }
 
-/// Bytes as units.
-fn widened(alloc: Global, bytes: &[u8]) -> Result<Vec<u16>, AllocError>
+/// Bytes as units: each byte is one.
+pub fn widened(alloc: Global, bytes: &[u8]) -> Result<Vec<u16>, AllocError>
     ensures { IfOk result (λ v. v.items ≡ bytes.now) }
 {
     let mut units = Vec::with_capacity(alloc, bytes.len())?;
@@ -122,14 +138,11 @@ pub fn lengthened(alloc: Global, text: &[u16]) -> Result<Option<Vec<u16>>, Alloc
 }
 
 /// A root's name in its long form.
-pub fn long_root(alloc: Global, root: &[u8]) -> Result<Vec<u8>, AllocError>
+pub fn long_root(alloc: Global, root: &[u16]) -> Result<Vec<u16>, AllocError>
     ensures { IfOk result (λ v. v.items ≡ long_form root.now) }
 {
-    let units = widened(alloc, root)?;
-    let Some((long, end)) = long_front(&units) else {
-        return Vec::from_slice(alloc, root);
-    };
-    let mut name = Vec::from_slice(alloc, long)?;
-    name.extend_from_slice(&root[end..])?;
-    Ok(name)
+    match lengthened(alloc, root)? {
+        Some(long) => Ok(long),
+        None => Vec::from_slice(alloc, root),
+    }
 }

@@ -1,39 +1,55 @@
 //! What is told of a line that isn't understood.
+ghost use Rattle.std.specs.Prelude.{◌≡◌, map, take, string_bytes, IfOk};
+ghost use Rattle.std.specs.List.{list_all};
+ghost use Rattle.reg_dotreg_reader.specs.ToldLines.{is_control, plain_unit, shown, has_hives, hive_front, is_typed, ends_name, may_be_typed, hint};
+ghost use Rattle.reg_dotreg_reader.specs.ToldLines.{found_told, whose, root_told, expected_told, told_line};
 
-use crate::expected::BadLine;
-use crate::roots::{is_name, name_end};
+use crate::expected::{BadLine, Expected};
+use crate::roots::{is_name, name_end, widened};
 use std::alloc::{AllocError, Global};
 
 /// How many units are told of what was found.
 const FOUND_LIMIT: usize = 200;
 
-/// Appends units as text, with `?` in the place of a control character.
-fn push_units(alloc: Global, text: &mut String, units: &[u16]) -> Result<(), AllocError> {
-    let shown = String::from_utf16_lossy(alloc, units)?;
-    for character in shown.chars() {
-        text.push(if character.is_control() {
-            '?'
-        } else {
-            character
-        })?;
-    }
-    Ok(())
+/// Whether a unit is a control character.
+fn is_control(unit: u16) -> bool
+    ensures { result ≡ is_control unit }
+{
+    unit < 32 || (unit >= 127 && unit < 160)
 }
 
-/// Appends bytes as characters, with `?` in the place of one that isn't printable.
-fn push_bytes(text: &mut String, bytes: &[u8]) -> Result<(), AllocError> {
-    for byte in bytes {
-        text.push(if *byte >= 32 && *byte <= 126 {
-            char::from(*byte)
-        } else {
-            '?'
-        })?;
+/// `?` for a control character.
+fn plain_unit(unit: u16) -> u16
+    ensures { result ≡ plain_unit unit }
+{
+    if is_control(unit) { 63 } else { unit }
+}
+
+/// Units with `?` in the place of each control character.
+#[tactic(auto, using(crate::proofs::ToldTexts::plain))]
+fn plain_units(alloc: Global, units: &[u16]) -> Result<Vec<u16>, AllocError>
+    ensures { IfOk result (λ v. v.items ≡ map plain_unit units.now) }
+{
+    let mut plain = Vec::with_capacity(alloc, units.len())?;
+    for unit in units {
+        plain.push(plain_unit(*unit))?;
     }
-    Ok(())
+    Ok(plain)
+}
+
+/// Units as text, with `?` in the place of a control character.
+#[tactic(auto, using(crate::proofs::ToldTexts::shown_is))]
+fn shown(alloc: Global, units: &[u16]) -> Result<String, AllocError>
+    ensures { IfOk result (λ text. string_bytes text ≡ shown units.now) }
+{
+    let plain = plain_units(alloc, units)?;
+    String::from_utf16_lossy(alloc, &plain)
 }
 
 /// Whether the root key of that name has a hive in each of its keys.
-fn has_hives(name: &[u16]) -> bool {
+fn has_hives(name: &[u16]) -> bool
+    ensures { result ≡ has_hives name.now }
+{
     is_name(b"HKEY_LOCAL_MACHINE", name)
         || is_name(b"HKLM", name)
         || is_name(b"HKEY_USERS", name)
@@ -41,61 +57,153 @@ fn has_hives(name: &[u16]) -> bool {
 }
 
 /// The front of a key that may stand for a hive's root: its first name, or the first two below a root key that has hives.
-fn hive_front(key: &[u16]) -> &[u16] {
+#[tactic(auto, using(crate::proofs::ToldTexts::fronts))]
+fn hive_front(key: &[u16]) -> &[u16]
+    ensures { result.now ≡ hive_front key.now }
+{
     let end = name_end(key);
-    if end >= key.len() || !has_hives(&key[..end]) {
+    if end >= key.len() {
+        return &key[..end];
+    }
+    if !has_hives(&key[..end]) {
         return &key[..end];
     }
     let second = name_end(&key[end + 1..]);
     &key[..end + 1 + second]
 }
 
-/// Whether units can stand between single quotes on a command line as they are.
-fn are_typed(units: &[u16]) -> bool {
-    units
-        .iter()
-        .all(|unit| *unit >= 32 && *unit <= 126 && *unit != 39)
+/// Whether a unit is a character of ASCII that stands between single quotes on a command line as it is.
+fn is_typed(unit: u16) -> bool
+    ensures { result ≡ is_typed unit }
+{
+    unit >= 32 && unit <= 126 && unit != 39
 }
 
-/// Appends what was found in the place of the root's name, and the option by which that would stand for it.
-fn push_found(alloc: Global, text: &mut String, found: &[u16]) -> Result<(), AllocError> {
-    let limit = if found.len() < FOUND_LIMIT {
-        found.len()
-    } else {
-        FOUND_LIMIT
+fn are_typed(units: &[u16]) -> bool
+    ensures { result ≡ list_all is_typed units.now }
+{
+    units.iter().all(|unit| is_typed(*unit))
+}
+
+/// Whether a front has units, of which the last is no backslash.
+fn ends_name(front: &[u16]) -> bool
+    ensures { result ≡ ends_name front.now }
+{
+    let Some(last) = front.last() else {
+        return false;
     };
-    text.push_str(" but found ")?;
-    push_units(alloc, text, &found[..limit])?;
-    let front = hive_front(found);
-    if front.is_empty() || front.len() > FOUND_LIMIT || !are_typed(front) {
-        return Ok(());
+    *last != 92
+}
+
+/// Whether a front may be typed.
+fn may_be_typed(front: &[u16]) -> bool
+    ensures { result ≡ may_be_typed front.now }
+{
+    ends_name(front) && (front.len() <= FOUND_LIMIT && are_typed(front))
+}
+
+/// The option by which a front would stand for the root; nothing of one that can't be typed.
+#[tactic(auto, unfolding(crate::specs::ToldLines::hint))]
+fn hint(alloc: Global, front: &[u16]) -> Result<String, AllocError>
+    ensures { IfOk result (λ text. string_bytes text ≡ hint front.now) }
+{
+    if !may_be_typed(front) {
+        return Ok(String::new(alloc));
     }
-    text.push_str("; --prefix '")?;
-    push_units(alloc, text, front)?;
-    text.push_str("' has that stand for it")
+    let shown = shown(alloc, front)?;
+    format!(in alloc; "; --prefix '{shown}' has that stand for it")
+}
+
+/// The first units of what was found, as many as are told.
+#[tactic(auto, using(crate::proofs::ToldTexts::few_found))]
+fn found_front(found: &[u16]) -> &[u16]
+    ensures { result.now ≡ take 200 found.now }
+{
+    if found.len() < FOUND_LIMIT {
+        found
+    } else {
+        &found[..FOUND_LIMIT]
+    }
+}
+
+/// What was found in the place of the root's name, and the option by which that would stand for it.
+#[tactic(auto, unfolding(crate::specs::ToldLines::found_told))]
+fn found_text(alloc: Global, found: &[u16]) -> Result<String, AllocError>
+    ensures { IfOk result (λ text. string_bytes text ≡ found_told found.now) }
+{
+    if found.is_empty() {
+        return format!(in alloc; "]");
+    }
+    let front = shown(alloc, found_front(found))?;
+    let hint = hint(alloc, hive_front(found))?;
+    format!(in alloc; "{front}{hint}")
+}
+
+/// Whose name was expected.
+fn whose(is_front: bool) -> &'static str
+    ensures { result.now ≡ whose is_front }
+{
+    if is_front {
+        ", which --prefix gives,"
+    } else {
+        ", the name of the hive's root,"
+    }
+}
+
+/// A root's name that was expected, and what was found.
+#[tactic(auto, unfolding(crate::specs::ToldLines::root_told))]
+fn root_text(
+    alloc: Global,
+    root: &[u16],
+    is_front: bool,
+    found: &[u16],
+) -> Result<String, AllocError>
+    ensures { IfOk result (λ text. string_bytes text ≡ root_told root.now is_front found.now) }
+{
+    let name = shown(alloc, root)?;
+    let whose = whose(is_front);
+    let found = found_text(alloc, found)?;
+    format!(in alloc; "{name}{whose} but found {found}")
+}
+
+/// What was expected, and what was found in its place.
+#[tactic(auto, unfolding(crate::specs::ToldLines::expected_told))]
+fn expected_text(
+    alloc: Global,
+    root: &[u16],
+    is_front: bool,
+    bad: &BadLine,
+) -> Result<String, AllocError>
+    ensures { IfOk result (λ text. string_bytes text ≡ expected_told root.now is_front bad.now) }
+{
+    if bad.expected.is_root() {
+        return root_text(alloc, root, is_front, bad.found.as_slice());
+    }
+    let words = bad.expected.words();
+    format!(in alloc; "{words}")
 }
 
 /// What is told of a line that isn't understood, without its number: the column, and what was expected there. The text is of keys below a
 /// root of that name, or of a front that was given for it. Where a key begins otherwise, it tells what was found, and the option that takes
 /// it.
-pub fn told(
+#[tactic(auto, unfolding(crate::specs::ToldLines::told_line))]
+pub fn told_below(
     alloc: Global,
-    root: &[u8],
+    root: &[u16],
     is_front: bool,
     bad: &BadLine,
-) -> Result<String, AllocError> {
+) -> Result<String, AllocError>
+    ensures { IfOk result (λ text. string_bytes text ≡ told_line root.now is_front bad.now) }
+{
     let column = bad.column;
-    let expected = bad.expected;
-    if !expected.is_root() {
-        return format!(in alloc; "column {column}: expected {expected}");
-    }
-    let mut text = format!(in alloc; "column {column}: expected ")?;
-    push_bytes(&mut text, root)?;
-    text.push_str(if is_front {
-        ", which --prefix gives,"
-    } else {
-        ", the name of the hive's root,"
-    })?;
-    push_found(alloc, &mut text, bad.found.as_slice())?;
-    Ok(text)
+    let expected = expected_text(alloc, root, is_front, bad)?;
+    format!(in alloc; "column {column}: expected {expected}")
+}
+
+/// What is told of a line as by [`told_below`], of keys below a root whose name has characters of one byte, or of such a front.
+pub fn told(alloc: Global, root: &[u8], is_front: bool, bad: &BadLine) -> Result<String, AllocError>
+    ensures { IfOk result (λ text. string_bytes text ≡ told_line root.now is_front bad.now) }
+{
+    let root = widened(alloc, root)?;
+    told_below(alloc, &root, is_front, bad)
 }

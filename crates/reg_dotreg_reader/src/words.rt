@@ -4,7 +4,7 @@ ghost use Rattle.std.specs.Str.{bytes_eq};
 ghost use Rattle.reg_dotreg_reader.specs.EntryWords.{is_blank, behind_blanks, before_blanks, trimmed, before_mark, behind_word};
 
 /// Whether a unit is a blank.
-fn is_blank(unit: u16) -> bool
+pub fn is_blank(unit: u16) -> bool
     ensures { result ≡ is_blank unit }
 {
     unit == 32 || unit == 9 || unit == 10

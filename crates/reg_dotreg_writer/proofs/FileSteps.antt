@@ -46,12 +46,13 @@ unfolding head_pieces
 heading_told u old mid new p q = two old mid new (mark u) (plain u heading) p q
 
 -- the keys' blocks are next
-pub blocks_start : (begin now : WriterState) (whole : List ℕ) (u : Bool) (tree : Tree) (path : Path) (left gathered more : List ℕ) (written : ℕ) →
-    IsSoFar begin now whole (file_pieces u tree path ++ left) gathered written → more ≡ gathered ++ head_pieces u →
-    IsSoFar begin now whole (flat_map (block_pieces u) (keys_from tree path) ++ left) more written
+pub blocks_start : (begin now : WriterState) (whole : List ℕ) (u : Bool) (root : List ℕ) (tree : Tree) (path : Path) (left gathered more : List ℕ)
+    (written : ℕ) →
+    IsSoFar begin now whole (file_pieces u root tree path ++ left) gathered written → more ≡ gathered ++ head_pieces u →
+    IsSoFar begin now whole (flat_map (block_pieces u) (keys_from root tree path) ++ left) more written
 unfolding file_pieces
-blocks_start begin now whole u tree path left gathered more written s e =
-    then_gathered begin now whole (head_pieces u) (flat_map (block_pieces u) (keys_from tree path)) left gathered more written s e
+blocks_start begin now whole u root tree path left gathered more written s e =
+    then_gathered begin now whole (head_pieces u) (flat_map (block_pieces u) (keys_from root tree path)) left gathered more written s e
 
 -- ---- the key that a text leads to
 
@@ -90,17 +91,17 @@ all-fine : (told : List Told) → option_map (λ (t : Told). text_of t.names) (f
 all-fine [] e = refl
 all-fine (t ∷ told) e = fine-by t told (is_writable t) refl (λ f. all-fine told f) e
 
-pub none_unwritable : (tree : Tree) (path : Path) →
-    None ≡ option_map (λ (t : Told). text_of t.names) (unwritable tree path) → CanWrite tree path
-none_unwritable tree path e = all-fine (keys_from tree path) (sym e)
+pub none_unwritable : (root : List ℕ) (tree : Tree) (path : Path) →
+    None ≡ option_map (λ (t : Told). text_of t.names) (unwritable root tree path) → CanWrite root tree path
+none_unwritable root tree path e = all-fine (keys_from root tree path) (sym e)
 
-pub first_unwritable : (tree : Tree) (path : Path) (key : List ℕ) →
-    Some key ≡ option_map (λ (t : Told). text_of t.names) (unwritable tree path) →
-    (told : Told) × (unwritable tree path ≡ Some told) × (key ≡ text_of told.names)
-first_unwritable tree path key e = by (unwritable tree path) refl e
+pub first_unwritable : (root : List ℕ) (tree : Tree) (path : Path) (key : List ℕ) →
+    Some key ≡ option_map (λ (t : Told). text_of t.names) (unwritable root tree path) →
+    (told : Told) × (unwritable root tree path ≡ Some told) × (key ≡ text_of told.names)
+first_unwritable root tree path key e = by (unwritable root tree path) refl e
   where
-    by : (o : Option Told) → unwritable tree path ≡ o → Some key ≡ option_map (λ (t : Told). text_of t.names) o →
-        (told : Told) × (unwritable tree path ≡ Some told) × (key ≡ text_of told.names)
+    by : (o : Option Told) → unwritable root tree path ≡ o → Some key ≡ option_map (λ (t : Told). text_of t.names) o →
+        (told : Told) × (unwritable root tree path ≡ Some told) × (key ≡ text_of told.names)
     by None u f = absurd (cc)
     by (Some told) u f = (told, u, same_Some _ _ f)
 

@@ -7,6 +7,7 @@ pub mod WritableNames
 pub mod EncodedTexts
 pub mod WholeEntries
 pub mod FileSteps
+pub mod ShownRoots
 pub mod ToldNames
 mod RowsOfEntries
 mod RowsOfFiles

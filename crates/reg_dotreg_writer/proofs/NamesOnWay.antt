@@ -8,7 +8,7 @@ use Rattle.reg_names.specs.declared.TheConstants.{PATH_LIMIT}
 use Rattle.reg_names.specs.Names.{folded, is_key_name, path_of, text_of, are_key_names, is_path, IsFirst}
 use Rattle.reg_heap.specs.Paths.{Path, Tree, Rec, children_of}
 use Rattle.reg_heap.specs.Edits.{folded_path}
-use Rattle.reg_heap.specs.Trees.{IsTree, IsWithinLimits}
+use Rattle.reg_heap.specs.Trees.{IsTree}
 use Rattle.reg_tree.specs.declared.node.Node.{Node}
 use Rattle.reg_tree.specs.TreeKeys.{Keys, IsAt, IsResolved}
 use Rattle.reg_tree.proofs.BuildKey.OneName.{name-path}
@@ -17,7 +17,7 @@ use Rattle.reg_tree_text.specs.declared.walk.Pending.{Pending}
 use Rattle.reg_tree_text.specs.declared.walk.Walk.{Walk}
 use Rattle.reg_tree_text.specs.DumpTexts.{Told, name_of, told_here}
 use Rattle.reg_tree_text.specs.Internal.Walking.{told_below, ArePending, Goes}
-use Rattle.reg_tree_text.proofs.WalkSteps.{told-open, name-some}
+use Rattle.reg_tree_text.proofs.WalkSteps.{told-open}
 use Rattle.reg_tree_text.proofs.LineTexts.{root_named}
 use Rattle.reg_dotreg_writer.specs.Entries.{names_behind, names_to, keys_from}
 
@@ -46,28 +46,26 @@ one_name name good =
     ∙ ap (λ (b : Bool). (b && true) && true) good
 
 -- the node of a key on the way, the names that lead to it, and the path behind it
-pub record IsOnWay (keys : Keys) (path : List ℕ) (node : Node) (text rest : List ℕ) : Type 0 where
+pub record IsOnWay (keys : Keys) (root path : List ℕ) (node : Node) (text rest : List ℕ) : Type 0 where
   pub over : Path
   pub at : IsAt keys over node
   pub valid : is_path rest ≡ true
   pub whole : over ++ folded_path rest ≡ folded_path path
-  pub told : text ++ names_tail (names_behind keys.tree over (folded_path rest)) ≡ text_of (names_to keys.tree (folded_path path))
+  pub told : text ++ names_tail (names_behind keys.tree over (folded_path rest)) ≡ text_of (names_to root keys.tree (folded_path path))
 
-pub way_start : (keys : Keys) (path : List ℕ) (node : Node) (name empty text : List ℕ) → IsAt keys [] node → is_path path ≡ true →
-    IsSome (get keys.tree []) → ((r : Rec) → get keys.tree [] ≡ Some r → name ≡ r.name) → empty ≡ [] → text ≡ empty ++ name →
-    IsOnWay keys path node text path
-way_start keys path node name empty text at valid there named none e =
+pub way_start : (keys : Keys) (root path : List ℕ) (node : Node) (empty text : List ℕ) → IsAt keys [] node → is_path path ≡ true →
+    empty ≡ [] → text ≡ empty ++ root → IsOnWay keys root path node text path
+way_start keys root path node empty text at valid none e =
     record {
       over = [];
       at = at;
       valid = valid;
       whole = refl;
       told = ap (λ (w : List ℕ). w ++ names_tail (names_behind keys.tree [] (folded_path path)))
-          (e ∙ (ap (λ (w : List ℕ). w ++ name) none ∙ root_named (get keys.tree []) name there named))
-          ∙ sym (text-tail (name_of (get keys.tree [])) (names_behind keys.tree [] (folded_path path)));
+          (e ∙ ap (λ (w : List ℕ). w ++ root) none) ∙ sym (text-tail root (names_behind keys.tree [] (folded_path path)));
     }
 
-module _ (keys : Keys) (path : List ℕ) (node : Node) (text rest name behind : List ℕ) (w : IsOnWay keys path node text rest)
+module _ (keys : Keys) (root path : List ℕ) (node : Node) (text rest name behind : List ℕ) (w : IsOnWay keys root path node text rest)
     (first : IsFirst rest name behind) where
   abbrev below : Path
   below = w.over ++ folded name ∷ []
@@ -101,7 +99,7 @@ module _ (keys : Keys) (path : List ℕ) (node : Node) (text rest name behind : 
       (subst (λ (o : Option Node). IsResolved keys (w.over ++ folded_path name) o) e r).0
 
   pub way_on : (child : Node) (spelt new : List ℕ) → IsAt keys below child → IsSome (get keys.tree below) →
-      ((r : Rec) → get keys.tree below ≡ Some r → spelt ≡ r.name) → new ≡ text ++ 92 ∷ spelt → IsOnWay keys path child new behind
+      ((r : Rec) → get keys.tree below ≡ Some r → spelt ≡ r.name) → new ≡ text ++ 92 ∷ spelt → IsOnWay keys root path child new behind
   way_on child spelt new at there told e =
       let behind_names = names_behind keys.tree below (folded_path behind) in
       record {
@@ -115,9 +113,9 @@ module _ (keys : Keys) (path : List ℕ) (node : Node) (text rest name behind : 
       }
 
 -- no name is left
-pub way_ends : (keys : Keys) (path : List ℕ) (node : Node) (text rest : List ℕ) → IsOnWay keys path node text rest → path_of rest ≡ [] →
-    text ≡ text_of (names_to keys.tree (folded_path path))
-way_ends keys path node text rest w none =
+pub way_ends : (keys : Keys) (root path : List ℕ) (node : Node) (text rest : List ℕ) → IsOnWay keys root path node text rest → path_of rest ≡ [] →
+    text ≡ text_of (names_to root keys.tree (folded_path path))
+way_ends keys root path node text rest w none =
     sym (append-nil text)
     ∙ (ap (λ (names : List (List ℕ)). text ++ names_tail (names_behind keys.tree w.over (map folded names))) (sym none) ∙ w.told)
 
@@ -127,18 +125,14 @@ long-text : (x : List ℕ) (names : List (List ℕ)) → 0 < length x → length
 long-text x names some e =
     let t = ap length (text-tail x names) in let l = length-append x (names_tail names) in absurd (omega (arith, e, t, l, some))
 
-pub start_goes : (keys : Keys) (path : Path) (walk : Walk) (node : Node) → IsTree keys.tree → IsWithinLimits keys.tree → IsAt keys path node →
-    IsSome (get keys.tree path) → walk.node ≡ node → walk.pending.items ≡ [] → walk.path.items ≡ text_of (names_to keys.tree path) →
-    Goes keys walk (keys_from keys.tree path)
+pub start_goes : (keys : Keys) (root : List ℕ) (path : Path) (walk : Walk) (node : Node) → 0 < length root → IsAt keys path node →
+    IsSome (get keys.tree path) → walk.node ≡ node → walk.pending.items ≡ [] → walk.path.items ≡ text_of (names_to root keys.tree path) →
+    Goes keys walk (keys_from root keys.tree path)
 unfolding keys_from
-start_goes keys path walk node is limits at there same none text =
-    let names = names_to keys.tree path in
+start_goes keys root path walk node some at there same none text =
+    let names = names_to root keys.tree path in
     let k = some_of (get keys.tree path) there in
-    let root = some_of (get keys.tree []) is.root in
     let below = told_below PATH_LIMIT keys.tree names (children_of keys.tree path) in
-    let named : name_of (get keys.tree []) ≡ root.0.name = ap name_of root.1 in
-    let some : 0 < length (name_of (get keys.tree [])) =
-    subst (λ (w : List ℕ). 0 < length w) (sym named) (name-some root.0.name (limits.keys [] root.0 root.1).name) in
     record {
       told = record { names = names; key = k.0 };
       rest = below ++ [];
@@ -149,7 +143,7 @@ start_goes keys path walk node is limits at there same none text =
         path = path;
         levels = PATH_LIMIT;
         more = [];
-        place = record { deep = omega arith; long = long-text (name_of (get keys.tree [])) (names_behind keys.tree [] path) some };
+        place = record { deep = omega arith; long = long-text root (names_behind keys.tree [] path) some };
         at = subst (λ (n : Node). IsAt keys path n) (sym same) at;
         key = k.1;
         text = text;

@@ -1,5 +1,5 @@
 -- Files, computed of a tree that was worked out by hand; and bytes, of units.
-use Rattle.std.proofs.Common.{◌≡◌, ℕ, zero, suc, ◌+◌, true, false, List, [], ◌∷◌, ◌++◌, map, Option, refl, ap, ◌∙◌}
+use Rattle.std.proofs.Common.{◌≡◌, ℕ, zero, suc, ◌+◌, true, false, List, [], ◌∷◌, ◌++◌, map, Option, Some, None, refl, ap, ◌∙◌}
 use Rattle.std.specs.Prelude.{codes, filter, flat_map}
 use Rattle.std.specs.FinMap.{from_sorted, entries-from_sorted, get-from_sorted, get}
 use Rattle.std.specs.FinMap.Entries.{find}
@@ -10,8 +10,8 @@ use Rattle.reg_names.specs.declared.TheConstants.{PATH_LIMIT}
 use Rattle.reg_heap.specs.Paths.{Path, Tree, Rec, Member, path_cmp, is_child, children_of}
 use Rattle.reg_tree_text.specs.DumpTexts.{Told, name_of, told_here, told_from}
 use Rattle.reg_dotreg_writer.specs.EntryTexts.{quoted, hex_from, hex_head, plain_data}
-use Rattle.reg_dotreg_writer.specs.Entries.{names_behind, names_to, keys_from, heading, key_line, key_block, entries_text, is_writable}
-use Rattle.reg_dotreg_writer.specs.Entries.{is_line_name, encoded, file_bytes}
+use Rattle.reg_dotreg_writer.specs.Entries.{root_shown, names_behind, names_to, keys_from, heading, key_line, key_block, entries_text, is_writable}
+use Rattle.reg_dotreg_writer.specs.Entries.{is_line_name, can_stand, encoded, file_bytes}
 
 -- ---- the definitions, over functions that compute
 
@@ -51,22 +51,32 @@ module _ (tree : Tree) (at : Path → Option Rec) (below : Path → List Path) (
       ap (λ (o : Option Rec). name_of o ∷ names_behind tree (path ++ name ∷ []) rest) (a (path ++ name ∷ []))
       ∙ ap (λ (w : List (List ℕ)). name_of (at (path ++ name ∷ [])) ∷ w) (behind-same (path ++ name ∷ []) rest)
 
-  keys_by : Path → List Told
-  keys_by path = told_by (PATH_LIMIT + 1) at below (name_of (at []) ∷ behind_by at [] path) path
+  keys_by : (root : List ℕ) → Path → List Told
+  keys_by root path = told_by (PATH_LIMIT + 1) at below (root ∷ behind_by at [] path) path
 
-  keys-same : (path : Path) → keys_from tree path ≡ keys_by path
+  keys-same : (root : List ℕ) (path : Path) → keys_from root tree path ≡ keys_by root path
   unfolding keys_from keys_by
-  keys-same path =
-      told-same (PATH_LIMIT + 1) (names_to tree path) path
-      ∙ (ap (λ (o : Option Rec). told_by (PATH_LIMIT + 1) at below (name_of o ∷ names_behind tree [] path) path) (a [])
-      ∙ ap (λ (w : List (List ℕ)). told_by (PATH_LIMIT + 1) at below (name_of (at []) ∷ w) path) (behind-same [] path))
+  keys-same root path =
+      told-same (PATH_LIMIT + 1) (names_to root tree path) path
+      ∙ ap (λ (w : List (List ℕ)). told_by (PATH_LIMIT + 1) at below (root ∷ w) path) (behind-same [] path)
 
-  text_by : Path → List ℕ
-  text_by path = heading ++ flat_map key_block (keys_by path)
+  root_by : (front : Option (List ℕ)) → List ℕ
+  root_by (Some front) = front
+  root_by None = name_of (at [])
 
-  text-same : (path : Path) → entries_text tree path ≡ text_by path
+  root-same : (front : Option (List ℕ)) → root_shown front tree ≡ root_by front
+  unfolding root_by
+  root-same (Some front) = refl
+  root-same None = ap name_of (a [])
+
+  text_by : (front : Option (List ℕ)) → Path → List ℕ
+  text_by front path = heading ++ flat_map key_block (keys_by (root_by front) path)
+
+  text-same : (front : Option (List ℕ)) (path : Path) → entries_text (root_shown front tree) tree path ≡ text_by front path
   unfolding entries_text text_by
-  text-same path = ap (λ (x : List Told). heading ++ flat_map key_block x) (keys-same path)
+  text-same front path =
+      ap (λ (x : List Told). heading ++ flat_map key_block x)
+      (ap (λ (r : List ℕ). keys_from r tree path) (root-same front) ∙ keys-same (root_by front) path)
 
 -- ---- a tree of five keys, two with values
 
@@ -101,17 +111,57 @@ below-same p =
 -- ---- files
 
 -- the root, which has no values, and all below it: each key before those below it
-text-root : entries_text tree [] ≡
+text-root : entries_text (root_shown None tree) tree [] ≡
     codes "Windows Registry Editor Version 5.00\r\n\r\n[Root]\r\n\r\n[Root\\a]\r\n\"v\"=dword:00000001\r\n@=\"H\"\r\n\r\n[Root\\a\\c]\r\n\r\n"
     ++ codes "[Root\\a\\c\\d e]\r\n\"w\"=hex:09\r\n\r\n[Root\\B]\r\n\r\n"
-unfolding text_by keys_by behind_by told_by heading key_line quoted hex_from hex_head plain_data digits utf16_chars hex_on_literals
-text-root = text-same tree at below at-same below-same [] ∙ refl
+unfolding text_by root_by keys_by behind_by told_by heading key_line quoted hex_from hex_head plain_data digits utf16_chars hex_on_literals
+text-root = text-same tree at below at-same below-same None [] ∙ refl
 
 -- a key with the names that lead to it from the root on, as given
-text-inner : entries_text tree (codes "A" ∷ codes "C" ∷ []) ≡
+text-inner : entries_text (root_shown None tree) tree (codes "A" ∷ codes "C" ∷ []) ≡
     codes "Windows Registry Editor Version 5.00\r\n\r\n[Root\\a\\c]\r\n\r\n[Root\\a\\c\\d e]\r\n\"w\"=hex:09\r\n\r\n"
-unfolding text_by keys_by behind_by told_by heading key_line quoted hex_from hex_head plain_data digits utf16_chars hex_on_literals
-text-inner = text-same tree at below at-same below-same (codes "A" ∷ codes "C" ∷ []) ∙ refl
+unfolding text_by root_by keys_by behind_by told_by heading key_line quoted hex_from hex_head plain_data digits utf16_chars hex_on_literals
+text-inner = text-same tree at below at-same below-same None (codes "A" ∷ codes "C" ∷ []) ∙ refl
+
+-- with a front of two names, which stands in each line of a key for the root's name
+text-fronted : entries_text (root_shown (Some (codes "HKLM\\It")) tree) tree [] ≡
+    codes "Windows Registry Editor Version 5.00\r\n\r\n[HKLM\\It]\r\n\r\n[HKLM\\It\\a]\r\n\"v\"=dword:00000001\r\n@=\"H\"\r\n\r\n[HKLM\\It\\a\\c]\r\n\r\n"
+    ++ codes "[HKLM\\It\\a\\c\\d e]\r\n\"w\"=hex:09\r\n\r\n[HKLM\\It\\B]\r\n\r\n"
+unfolding text_by root_by keys_by behind_by told_by heading key_line quoted hex_from hex_head plain_data digits utf16_chars hex_on_literals
+text-fronted = text-same tree at below at-same below-same (Some (codes "HKLM\\It")) [] ∙ refl
+
+-- of a key below the root
+text-fronted_inner : entries_text (root_shown (Some (codes "HKLM\\It")) tree) tree (codes "A" ∷ codes "C" ∷ []) ≡
+    codes "Windows Registry Editor Version 5.00\r\n\r\n[HKLM\\It\\a\\c]\r\n\r\n[HKLM\\It\\a\\c\\d e]\r\n\"w\"=hex:09\r\n\r\n"
+unfolding text_by root_by keys_by behind_by told_by heading key_line quoted hex_from hex_head plain_data digits utf16_chars hex_on_literals
+text-fronted_inner = text-same tree at below at-same below-same (Some (codes "HKLM\\It")) (codes "A" ∷ codes "C" ∷ []) ∙ refl
+
+-- ---- fronts
+
+front-plain : can_stand (Some (codes "HKEY_LOCAL_MACHINE\\SOFTWARE")) ≡ true
+front-plain = refl
+
+front-none : can_stand None ≡ true
+front-none = refl
+
+front-empty : can_stand (Some []) ≡ false
+front-empty = refl
+
+-- a CR, an LF, a zero, and the first character that isn't of ASCII
+front-return : can_stand (Some (codes "A\rB")) ≡ false
+front-return = refl
+
+front-feed : can_stand (Some (codes "A\n")) ≡ false
+front-feed = refl
+
+front-zero : can_stand (Some (65 ∷ 0 ∷ [])) ≡ false
+front-zero = refl
+
+front-wide : can_stand (Some (65 ∷ 128 ∷ [])) ≡ false
+front-wide = refl
+
+front-neighbours : can_stand (Some (1 ∷ 9 ∷ 11 ∷ 12 ∷ 14 ∷ 34 ∷ 91 ∷ 93 ∷ 127 ∷ [])) ≡ true
+front-neighbours = refl
 
 -- ---- names that can't be written
 

@@ -22,7 +22,7 @@ use Rattle.reg_dotreg_writer.proofs.WholeEntries.{is_ascii_named, is_ascii_told,
 byte-ascii : (b : ℕ) → is_value_name_byte b ≡ true → nat_lt b 128 ≡ true
 byte-ascii b e = let both = and_parts (nat_le 1 b) (nat_le b 127) e in grind (arith, nat_tests, both.1)
 
-value-bytes : (name : List ℕ) → list_all is_value_name_byte name ≡ true → are_ascii name ≡ true
+pub value-bytes : (name : List ℕ) → list_all is_value_name_byte name ≡ true → are_ascii name ≡ true
 value-bytes [] e = refl
 value-bytes (b ∷ name) e =
     let both = and_parts (is_value_name_byte b) (list_all is_value_name_byte name) e in
@@ -62,9 +62,8 @@ module _ (tree : Tree) (limits : IsWithinLimits tree) where
       and_from (are_ascii (name_of (get tree (path ++ name ∷ [])))) (list_all are_ascii (names_behind tree (path ++ name ∷ []) rest))
       (found-ascii (path ++ name ∷ [])) (behind-ascii (path ++ name ∷ []) rest)
 
-  names-ascii : (path : Path) → list_all are_ascii (names_to tree path) ≡ true
-  names-ascii path =
-      and_from (are_ascii (name_of (get tree []))) (list_all are_ascii (names_behind tree [] path)) (found-ascii []) (behind-ascii [] path)
+  names-ascii : (root : List ℕ) → are_ascii root ≡ true → (path : Path) → list_all are_ascii (names_to root tree path) ≡ true
+  names-ascii root r path = and_from (are_ascii root) (list_all are_ascii (names_behind tree [] path)) r (behind-ascii [] path)
 
   here-ascii : (names : List (List ℕ)) (path : Path) → list_all are_ascii names ≡ true →
       list_all is_ascii_told (told_here names (get tree path)) ≡ true
@@ -106,21 +105,22 @@ module _ (tree : Tree) (limits : IsWithinLimits tree) where
       (list_all is_ascii_told (flat_map (λ child. told_from levels tree (below_name names child) child) (children_of tree path)))
       (here-ascii names path e) (below-ascii levels (told-ascii levels) names e (children_of tree path))
 
-  pub keys-ascii : (path : Path) → list_all is_ascii_told (keys_from tree path) ≡ true
+  pub keys-ascii : (root : List ℕ) → are_ascii root ≡ true → (path : Path) → list_all is_ascii_told (keys_from root tree path) ≡ true
   unfolding keys_from
-  keys-ascii path = told-ascii (PATH_LIMIT + 1) (names_to tree path) path (names-ascii path)
+  keys-ascii root r path = told-ascii (PATH_LIMIT + 1) (names_to root tree path) path (names-ascii root r path)
 
   -- ---- the file
 
-  pub text-well : (path : Path) → IsWell (entries_text tree path)
+  pub text-well : (root : List ℕ) → are_ascii root ≡ true → (path : Path) → IsWell (entries_text root tree path)
   unfolding entries_text heading
-  text-well path =
-      well-append heading (flat_map key_block (keys_from tree path)) (ascii-well heading refl) (blocks-well (keys_from tree path) (keys-ascii path))
+  text-well root r path =
+      well-append heading (flat_map key_block (keys_from root tree path)) (ascii-well heading refl)
+      (blocks-well (keys_from root tree path) (keys-ascii root r path))
 
-  pub file-told : (u : Bool) (path : Path) → file_pieces u tree path ≡ file_bytes u (entries_text tree path)
+  pub file-told : (root : List ℕ) → are_ascii root ≡ true → (u : Bool) (path : Path) → file_pieces u root tree path ≡ file_bytes u (entries_text root tree path)
   unfolding file_pieces head_pieces file_bytes entries_text heading
-  file-told u path =
-      append_assoc (mark u) (plain u heading) (flat_map (block_pieces u) (keys_from tree path))
+  file-told root r u path =
+      append_assoc (mark u) (plain u heading) (flat_map (block_pieces u) (keys_from root tree path))
       ∙ ap (λ (x : List ℕ). mark u ++ x)
-      (ap (λ (x : List ℕ). plain u heading ++ x) (sym (blocks-encoded u (keys_from tree path) (keys-ascii path)))
-      ∙ sym (ascii-before u heading (flat_map key_block (keys_from tree path)) refl))
+      (ap (λ (x : List ℕ). plain u heading ++ x) (sym (blocks-encoded u (keys_from root tree path) (keys-ascii root r path)))
+      ∙ sym (ascii-before u heading (flat_map key_block (keys_from root tree path)) refl))

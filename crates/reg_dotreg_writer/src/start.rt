@@ -1,5 +1,5 @@
 //! The key that a path leads to, with the names on the way.
-ghost use Rattle.std.specs.Prelude.{◌≡◌, true, ◌∷◌, ◌++◌, IsSome, OnOk, IfOk};
+ghost use Rattle.std.specs.Prelude.{◌≡◌, ◌<◌, true, ◌∷◌, ◌++◌, length, IsSome, OnOk, IfOk};
 ghost use Rattle.std.specs.FinMap.{get};
 ghost use Rattle.reg_names.specs.Names.{is_path, text_of};
 ghost use Rattle.reg_heap.specs.Edits.{folded_path};
@@ -21,15 +21,15 @@ fn push_below(text: &mut Vec<u8>, name: &[u8]) -> Result<(), AllocError>
     Ok(())
 }
 
-/// The root's name, and those of the keys on the path to one, as given, joined by backslashes.
-fn names_text(alloc: Global, tree: &Tree, path: &[u8]) -> Result<Vec<u8>, AllocError>
+/// What stands for the root's name, and the names of the keys on the path to one, as given, joined by backslashes.
+fn names_text(alloc: Global, tree: &Tree, root: &[u8], path: &[u8]) -> Result<Vec<u8>, AllocError>
     requires path { is_path path.now ≡ true }
     requires there { IsSome (get tree.now.tree (folded_path path.now)) }
-    ensures { IfOk result (λ text. text.items ≡ text_of (names_to tree.now.tree (folded_path path.now))) }
+    ensures { IfOk result (λ text. text.items ≡ text_of (names_to root.now tree.now.tree (folded_path path.now))) }
 {
     let mut node = tree.root();
     let mut text = Vec::new(alloc);
-    text.extend_from_slice(tree.name(node))?;
+    text.extend_from_slice(root)?;
     let mut rest = path;
     while let Some((name, behind)) = first_name(rest) {
         let Some(below) = tree.resolve(node, name) else {
@@ -42,16 +42,22 @@ fn names_text(alloc: Global, tree: &Tree, path: &[u8]) -> Result<Vec<u8>, AllocE
     Ok(text)
 }
 
-/// A walk that begins at the key that a path leads to, and tells with each key the names from the root on.
-pub fn start(alloc: Global, tree: &Tree, path: &[u8], node: Node) -> Result<Walk, AllocError>
+/// A walk that begins at the key that a path leads to, and tells with each key the names from the root on, for whose name something
+/// stands.
+pub fn start(
+    alloc: Global,
+    tree: &Tree,
+    root: &[u8],
+    path: &[u8],
+    node: Node,
+) -> Result<Walk, AllocError>
+    requires root { 0 < length root.now }
     requires path { is_path path.now ≡ true }
     requires there { IsSome (get tree.now.tree (folded_path path.now)) }
     requires at { IsAt tree.now (folded_path path.now) node }
-    ensures { IfOk result (λ walk. Goes tree.now walk (keys_from tree.now.tree (folded_path path.now))) }
+    ensures { IfOk result (λ walk. Goes tree.now walk (keys_from root.now tree.now.tree (folded_path path.now))) }
 {
-    // No name is empty, as this call's contract says.
-    let _root = tree.root();
     let mut walk = Walk::new(alloc, node);
-    walk.path = names_text(alloc, tree, path)?;
+    walk.path = names_text(alloc, tree, root, path)?;
     Ok(walk)
 }

@@ -45,7 +45,7 @@ pub enum DiffFault {
 pub enum ExportEnd {
     /// The image doesn't load.
     Load(LoadFault),
-    /// There is no such key, a name can't be written, or a write or memory failed.
+    /// The front can't stand in a .reg text, there is no such key, a name can't be written, or a write or memory failed.
     Export(ExportFault),
 }
 

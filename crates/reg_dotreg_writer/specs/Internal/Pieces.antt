@@ -51,8 +51,8 @@ unfoldable pub head_pieces : (is_utf8 : Bool) → List ℕ
 head_pieces is_utf8 = mark is_utf8 ++ plain is_utf8 heading
 
 -- the file
-unfoldable pub file_pieces : (is_utf8 : Bool) → Tree → Path → List ℕ
-file_pieces is_utf8 tree path = head_pieces is_utf8 ++ flat_map (block_pieces is_utf8) (keys_from tree path)
+unfoldable pub file_pieces : (is_utf8 : Bool) → (root : List ℕ) → Tree → Path → List ℕ
+file_pieces is_utf8 root tree path = head_pieces is_utf8 ++ flat_map (block_pieces is_utf8) (keys_from root tree path)
 
 -- units behind the first character, which is no surrogate without its partner, and begins with this unit
 pub record IsBehind (first : ℕ) (rest behind : List ℕ) : Type 0 where

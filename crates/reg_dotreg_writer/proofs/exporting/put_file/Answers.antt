@@ -12,13 +12,13 @@ returns-in_err-walk g c =
     λ begin whole left s.
     exits _ _ _ _ c.from_residual-in_err-walk.ensures.1
     (stops_full begin _ whole _ _ _
-    (blocks_start begin _ whole c.args.is_utf8 c.args.tree.now.tree (folded_path c.args.path.now) left _ _ _ s c.in_ok-push_heading.ensures))
+    (blocks_start begin _ whole c.args.is_utf8 c.args.root.now c.args.tree.now.tree (folded_path c.args.path.now) left _ _ _ s c.in_ok-push_heading.ensures))
 
 pub put_blocks-requires : goal.put_blocks-requires
-put_blocks-requires g c = (keys_from c.args.tree.now.tree (folded_path c.args.path.now), c.in_ok-walk.ensures)
+put_blocks-requires g c = (keys_from c.args.root.now c.args.tree.now.tree (folded_path c.args.path.now), c.in_ok-walk.ensures)
 
 pub returns : goal.returns
 returns g c =
     λ begin whole left s.
-    c.put_blocks.ensures (keys_from c.args.tree.now.tree (folded_path c.args.path.now)) c.in_ok-walk.ensures begin whole left
-    (blocks_start begin _ whole c.args.is_utf8 c.args.tree.now.tree (folded_path c.args.path.now) left _ _ _ s c.in_ok-push_heading.ensures)
+    c.put_blocks.ensures (keys_from c.args.root.now c.args.tree.now.tree (folded_path c.args.path.now)) c.in_ok-walk.ensures begin whole left
+    (blocks_start begin _ whole c.args.is_utf8 c.args.root.now c.args.tree.now.tree (folded_path c.args.path.now) left _ _ _ s c.in_ok-push_heading.ensures)

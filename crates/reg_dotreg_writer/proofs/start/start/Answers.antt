@@ -4,5 +4,5 @@ use Rattle.reg_dotreg_writer.proofs.start.start.Goals as goal
 
 pub returns : goal.returns
 returns c =
-    start_goes c.args.tree.now (folded_path c.args.path.now) _ c.args.node c.root-root.ensures.tree c.root-root.ensures.limits c.requires.at c.requires.there
+    start_goes c.args.tree.now c.args.root.now (folded_path c.args.path.now) _ c.args.node c.requires.root c.requires.at c.requires.there
     c.new-walk.ensures.node c.new-walk.ensures.pending c.in_ok-walk.ensures
