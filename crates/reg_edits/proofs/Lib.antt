@@ -9,3 +9,4 @@ pub mod TextFaults
 pub mod ParentPaths
 pub mod ChangeSteps
 pub mod InputReads
+pub mod CopySteps

@@ -1,3 +1,4 @@
 pub mod Edits
 pub mod KeyChanges
+pub mod KeyCopies
 pub mod TextImports

@@ -7,7 +7,7 @@ use Rattle.reg_words.specs.declared.typed.change.KeyChange.{KeyChange}
 use Rattle.reg_edits.specs.KeyChanges.{Changes}
 use Rattle.reg_edits.specs.declared.edits.Edited.{Edited}
 use Rattle.reg_files.specs.Looking.{IsCutShort}
-use Rattle.reg_files.specs.Serving.{IsGiven, Tells, ChangesFile, StopsChanging}
+use Rattle.reg_files.specs.Editing.{IsGiven, Tells, ChangesFile, StopsChanging}
 use Rattle.reg_files.specs.Internal.Cuts.{is_save_end_cut}
 use Rattle.reg_files.specs.declared.fault.SaveEnd.{SaveEnd}
 

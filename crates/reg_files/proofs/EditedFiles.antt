@@ -7,7 +7,7 @@ use Rattle.reg_edits.specs.declared.edits.Edited.{Edited}
 use Rattle.reg_edits.specs.declared.edits.EditFault.{EditFault}
 use Rattle.reg_edits.specs.declared.importing.ImportEnd.{ImportEnd}
 use Rattle.reg_files.specs.Cuts.{is_edit_cut}
-use Rattle.reg_files.specs.Serving.{IsGiven, IsNone, EditsFile, StopsEditing, Enters, OfText, StopsImporting}
+use Rattle.reg_files.specs.Editing.{IsGiven, IsNone, EditsFile, StopsEditing, Enters, OfText, StopsImporting}
 
 module _ (edit : EditRequest) (begin : ℕ) (given : IsGiven edit.begin begin) where
   -- something ended the script

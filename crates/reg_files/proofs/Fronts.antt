@@ -1,5 +1,6 @@
 -- What is read of a file ahead.
-use Rattle.std.proofs.Common.{◌≡◌, ◌∙◌, ℕ, ◌<◌, ◌≤◌, List, [], ◌++◌, length, take, drop, Bool, true, false, nat_lt, sym, ap, ap₂, subst, refl, arith, append-nil}
+use Rattle.std.proofs.Common.{◌≡◌, ◌∙◌, ℕ, ◌<◌, ◌≤◌, List, [], ◌++◌, length, take, drop, Bool, true, false, nat_lt, sym, ap, ap₂, subst, refl, arith}
+use Rattle.std.proofs.Common.{append-nil}
 use Rattle.std.specs.Prelude.{Option, Some, None}
 use Rattle.std.specs.Fmt.{option_append}
 use Rattle.std.specs.Io.KnownBytes.{Consumes, IsAtEnd}
@@ -32,7 +33,8 @@ read_end a b c bytes part n none room within before read = record {
 }
 
 -- a front is as long as a base block, or it is all
-seam : (front rest : List ℕ) → length front ≤ 4096 → (length front < 4096 → rest ≡ []) → (take 4096 (front ++ rest) ≡ front) × (drop 4096 (front ++ rest) ≡ rest)
+seam : (front rest : List ℕ) → length front ≤ 4096 → (length front < 4096 → rest ≡ []) →
+    (take 4096 (front ++ rest) ≡ front) × (drop 4096 (front ++ rest) ≡ rest)
 seam front rest within ends = go (nat_lt (length front) 4096) refl
   where
     short : nat_lt (length front) 4096 ≡ true → (take 4096 (front ++ rest) ≡ front) × (drop 4096 (front ++ rest) ≡ rest)

@@ -28,7 +28,8 @@ module _ (is_dirty : Bool) (file : List ℕ) (told : Option (List ℕ)) (failed 
   pub unread_file : (told_after : Option (List ℕ)) (now_failed : Option ℕ) (bytes warned : Option (List ℕ)) (warned_failed : Option ℕ) →
       IsOpened is_dirty file bytes told warned failed warned_failed → (image : Option (List ℕ)) → image ≡ as_read is_dirty bytes →
       IsUngathered image → IsReported false warned told_after warned_failed now_failed →
-      OfImage is_dirty file told failed (λ unread left warned warned_failed. IsUngathered unread × IsReported false warned told_after warned_failed now_failed)
+      OfImage is_dirty file told failed
+      (λ unread left warned warned_failed. IsUngathered unread × IsReported false warned told_after warned_failed now_failed)
   unread_file told_after now_failed bytes warned warned_failed opened image is h reports =
       (bytes, bytes, warned, warned_failed, opened, (subst IsUngathered is h, reports))
 
@@ -36,4 +37,5 @@ module _ (is_dirty : Bool) (file : List ℕ) (told : Option (List ℕ)) (failed 
   pub unopened_file : (told_then told_after : Option (List ℕ)) (failed_then now_failed : Option ℕ) → told_then ≡ told → failed_then ≡ failed →
       IsReported false told_then told_after failed_then now_failed → IsReported false told told_after failed now_failed
   unopened_file told_then told_after failed_then now_failed same same_failed h =
-      subst (λ t. IsReported false t told_after failed now_failed) same (subst (λ f. IsReported false told_then told_after f now_failed) same_failed h)
+      subst (λ t. IsReported false t told_after failed now_failed) same
+      (subst (λ f. IsReported false told_then told_after f now_failed) same_failed h)

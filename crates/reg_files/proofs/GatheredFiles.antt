@@ -9,7 +9,8 @@ use Rattle.reg_files.specs.Gathering.{MissesOne, MissesTree, ReadsEach, ReadsFil
 -- what becomes of the files that are left is what becomes of all
 pub record Goes (is_dirty : Bool) (all left : List (List ℕ)) (trees : List Tree) (first_told told : Option (List ℕ)) (first_failed failed : Option ℕ)
     : Type 0 where
-  pub reads : (more : List Tree) (told_after : Option (List ℕ)) (now_failed : Option ℕ) → ReadsEach is_dirty left more told told_after failed now_failed →
+  pub reads : (more : List Tree) (told_after : Option (List ℕ)) (now_failed : Option ℕ) →
+      ReadsEach is_dirty left more told told_after failed now_failed →
       ReadsEach is_dirty all (trees ++ more) first_told told_after first_failed now_failed
   pub misses : (told_after : Option (List ℕ)) (now_failed : Option ℕ) → MissesOne is_dirty left told told_after failed now_failed →
       MissesOne is_dirty all first_told told_after first_failed now_failed
@@ -31,7 +32,8 @@ module _ (is_dirty : Bool) (all left rest : List (List ℕ)) (file : List ℕ) (
   -- one more was read
   module _ (tree : Tree) (reads : ReadsFile is_dirty file tree told told_between failed failed_between) where
     here : (more : List Tree) (told_after : Option (List ℕ)) (now_failed : Option ℕ) →
-        ReadsEach is_dirty rest more told_between told_after failed_between now_failed → ReadsEach is_dirty left (tree ∷ more) told told_after failed now_failed
+        ReadsEach is_dirty rest more told_between told_after failed_between now_failed →
+        ReadsEach is_dirty left (tree ∷ more) told told_after failed now_failed
     here more told_after now_failed h =
         let behind = subst (λ t. ReadsEach is_dirty rest more t told_after reads.3 now_failed) reads.5.1
         (subst (λ f. ReadsEach is_dirty rest more told_between told_after f now_failed) reads.5.2 h) in
@@ -55,7 +57,8 @@ module _ (is_dirty : Bool) (all left rest : List (List ℕ)) (file : List ℕ) (
     }
 
   -- it wasn't
-  pub missed : MissesTree is_dirty file told told_between failed failed_between → MissesOne is_dirty all first_told told_between first_failed failed_between
+  pub missed : MissesTree is_dirty file told told_between failed failed_between →
+      MissesOne is_dirty all first_told told_between first_failed failed_between
   missed h =
       goes.misses told_between failed_between
       (subst (λ (files : List (List ℕ)). MissesOne is_dirty files told told_between failed failed_between) (sym is) (inl h))

@@ -1,9 +1,11 @@
 mod CheckedFiles
 mod ChangedFiles
+mod CopiedFiles
 mod Detailed
 mod EditedFiles
 mod Gathered
 mod GatheredFiles
+mod ToldPlaces
 mod ToldTexts
 mod ToldTimelines
 mod Fronts
@@ -11,4 +13,3 @@ mod Mending
 mod Outcomes
 mod Statuses
 mod StoppedCommands
-mod StreamStops

@@ -1,6 +1,7 @@
 -- What stopped a command on a file, put together of what stopped the call that did it.
 use Rattle.std.proofs.Common.{◌≡◌, List, ℕ, Bool, true, inr, inl, subst, sym}
-use Rattle.std.specs.Prelude.{Option, Result, Ok, Err, IfErr, IsErrAnd, codes}
+use Rattle.std.specs.Borrow.{Bor}
+use Rattle.std.specs.Prelude.{Option, Result, Ok, Err, IfErr, IsErrAnd, codes, option_copied}
 use Rattle.reg_tables.specs.Pages.{html_text}
 use Rattle.reg_tables.specs.Tables.{json_text, jsonl_text, csv_text}
 use Rattle.reg_diff.specs.declared.ignored.Ignored.{Ignored}
@@ -22,9 +23,9 @@ from_err P Q (Err e) made says = says e made
 
 module _ (form : Form) (path : List ℕ) (before after : Option (List ℕ)) (cut : Bool) (unread left : Option (List ℕ)) where
   -- a key wasn't written as a .reg text
-  pub reg_stops : (fault : ExportEnd) → cut ≡ is_end_cut fault → (is_utf8 : Bool) → form ≡ Reg is_utf8 →
-      ExportEnds fault unread left path is_utf8 before after → WriteStops form path before after cut unread left
-  reg_stops fault same_cut is_utf8 is h =
+  pub reg_stops : (fault : ExportEnd) → cut ≡ is_end_cut fault → (is_utf8 : Bool) → (prefix : Option (Bor (List ℕ))) → form ≡ Reg is_utf8 prefix →
+      ExportEnds fault unread left path (option_copied prefix) is_utf8 before after → WriteStops form path before after cut unread left
+  reg_stops fault same_cut is_utf8 prefix is h =
       subst (λ (f : Form). WriteStops f path before after cut unread left) (sym is) (fault, same_cut, h)
 
   -- or as a table

@@ -13,13 +13,13 @@ use Rattle.reg_words.specs.declared.request.TimelineForm.{TimelineForm}
 use Rattle.reg_files.specs.Gathering.{IsTimelineCut, ReadsEach, TellsTimes, TimesFail, table_form}
 use Rattle.reg_files.specs.Serving.{Fails, Serves}
 use Rattle.reg_files.specs.Internal.Outcomes.{Outcome, Settles}
-use Rattle.reg_files.proofs.Outcomes.{reported_as}
 
-module _ (is_dirty : Bool) (files : List (List ℕ)) (from to : ℕ) (form : TimelineForm) (closed : Bool) (before after told warned told_after : Option (List ℕ))
+module _ (is_dirty : Bool) (files : List (List ℕ)) (from to : ℕ) (form : TimelineForm) (closed : Bool)
+    (before after told warned told_after : Option (List ℕ))
     (failed warned_failed now_failed : Option ℕ) (trees : List Tree) (reads : ReadsEach is_dirty files trees told warned failed warned_failed) where
   -- all files were read, and their keys written, or not
-  module _ {A E : Type 0} (is_cut : E → Bool) (shut : Bool) (same : shut ≡ closed) where
-    pub written : (r : Result A E) (status : ℕ) → Settles is_cut shut r status warned told_after warned_failed now_failed →
+  module _ {A E : Type 0} (is_cut : E → Bool) where
+    pub written : (r : Result A E) (status : ℕ) → Settles is_cut closed r status warned told_after warned_failed now_failed →
         OnOk r (Appends before after (timeline_text (table_form form) files trees from to)) → status ≡ 0 →
         TellsTimes is_dirty files from to form before after told told_after failed
     written (Ok a) status s h nil = (
@@ -30,18 +30,12 @@ module _ (is_dirty : Bool) (files : List (List ℕ)) (from to : ℕ) (form : Tim
     )
     written (Err e) status s h nil = let one = s.0 in absurd (omega (arith, one, nil))
 
-    pub unwritten : (r : Result A E) (status : ℕ) → Settles is_cut shut r status warned told_after warned_failed now_failed →
+    pub unwritten : (r : Result A E) (status : ℕ) → Settles is_cut closed r status warned told_after warned_failed now_failed →
         IfErr r (λ e. IsTimelineCut (is_cut e) (timeline_text (table_form form) files trees from to) before after) → status ≡ 1 →
         TimesFail is_dirty files from to form closed before after told told_after failed now_failed
     unwritten (Ok a) status s h one = let nil = s.0 in absurd (omega (arith, one, nil))
     unwritten (Err e) status s h one =
-        inr (
-          trees,
-          warned,
-          warned_failed,
-          reads,
-          (is_cut e, h, reported_as shut closed (is_cut e) warned told_after warned_failed now_failed same s.1),
-        )
+        inr (trees, warned, warned_failed, reads, (is_cut e, h, s.1))
 
 -- what is written of a form, as it is handed on
 pub cut_as_asked : (given form : TableForm) (cut : Bool) (files : List (List ℕ)) (trees : List Tree) (from to : ℕ) (before after : Option (List ℕ))
@@ -62,7 +56,8 @@ module _ (request : Request) (is_dirty closed : Bool) (unread before after told 
   pub all_told : (asked texts : List (List ℕ)) (status : ℕ) → asked ≡ texts → status ≤ 1
       → (status ≡ 0 → TellsTimes is_dirty asked from to form before after told told_after failed)
       → (status ≡ 1 → TimesFail is_dirty asked from to form closed before after told told_after failed now_failed)
-      → (TellsTimes is_dirty texts from to form before after told told_after failed → Serves request unread unread before after told told_after failed)
+      → (TellsTimes is_dirty texts from to form before after told told_after failed →
+      Serves request unread unread before after told told_after failed)
       → (TimesFail is_dirty texts from to form closed before after told told_after failed now_failed
       → Fails request closed unread unread before after told told_after failed now_failed)
       → Outcome request status closed unread unread before after told told_after failed now_failed

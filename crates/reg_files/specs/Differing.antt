@@ -62,7 +62,8 @@ AreSameCut path ignored old old_left new new_left before after =
     (written : Option (List ℕ)) × Differs path ignored old old_left new new_left true before written × IsCutShort (codes "same\n") written after
 
 -- why it wasn't written how two trees differ, or that they are the same, or not to the end: what ended it; or a write that they are the same
-abbrev pub StopsLines : (path : List ℕ) → DiffIgnored → (before after : Option (List ℕ)) → (cut : Bool) → (old old_left new new_left : Option (List ℕ)) → Type 0
+abbrev pub StopsLines : (path : List ℕ) → DiffIgnored → (before after : Option (List ℕ)) → (cut : Bool) →
+    (old old_left new new_left : Option (List ℕ)) → Type 0
 StopsLines path ignored before after cut old old_left new new_left =
     ((fault : DiffFault) × (cut ≡ is_diff_cut fault) × DiffStops fault path ignored old old_left new new_left before after)
     ⊎ ((cut ≡ true) × AreSameCut path ignored old old_left new new_left before after)

@@ -22,7 +22,8 @@ table_form Csv = table.Csv
 table_form Bodyfile = table.Bodyfile
 
 -- of some files each was opened, one after another, and read as a tree
-abbrev pub ReadsEach : (is_dirty : Bool) → (files : List (List ℕ)) → List Tree → (told told_after : Option (List ℕ)) → (failed now_failed : Option ℕ) → Type 0
+abbrev pub ReadsEach : (is_dirty : Bool) → (files : List (List ℕ)) → List Tree → (told told_after : Option (List ℕ)) →
+    (failed now_failed : Option ℕ) → Type 0
 ReadsEach is_dirty [] [] told told_after failed now_failed = (told_after ≡ told) × (now_failed ≡ failed)
 ReadsEach is_dirty (file ∷ files) (tree ∷ trees) told told_after failed now_failed =
     OfImage is_dirty file told failed (λ unread left warned warned_failed.
@@ -60,7 +61,8 @@ MissesOne is_dirty (file ∷ files) told told_after failed now_failed =
     ((tree : Tree) × ReadsImage unread left tree) × MissesOne is_dirty files warned told_after warned_failed now_failed)
 
 -- the timeline of the trees of some files was written, each named by its file
-abbrev pub TellsTimes : (is_dirty : Bool) → (files : List (List ℕ)) → (from to : ℕ) → TimelineForm → (before after told told_after : Option (List ℕ)) →
+abbrev pub TellsTimes : (is_dirty : Bool) → (files : List (List ℕ)) → (from to : ℕ) → TimelineForm →
+    (before after told told_after : Option (List ℕ)) →
     (failed : Option ℕ) → Type 0
 TellsTimes is_dirty files from to form before after told told_after failed =
     (trees : List Tree) × (now_failed : Option ℕ) × ReadsEach is_dirty files trees told told_after failed now_failed

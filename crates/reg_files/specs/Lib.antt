@@ -3,7 +3,10 @@ pub mod Saves
 pub mod Looking
 pub mod Detailed
 pub mod Differing
+pub mod Editing
 pub mod Gathering
+pub mod Copying
+pub mod Counting
 pub mod Serving
 pub mod Moments
 pub mod Cuts

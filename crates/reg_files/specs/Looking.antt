@@ -1,6 +1,7 @@
 -- Files that are looked into, and what is told of what was done with them (this project's own).
 use Rattle.std.specs.Prelude.{◌≡◌, ◌<◌, ◌⊎◌, ℕ, Bool, true, false, ◌&&◌, Option, Some, option_map}
 use Rattle.std.specs.Prelude.{List, ◌++◌, length, take, codes}
+use Rattle.std.specs.Fmt.{decimal}
 use Rattle.std.specs.Io.KnownBytes.{Appends}
 use Rattle.reg_text.specs.Texts.{line_feed}
 use Rattle.reg_words.specs.declared.request.StreamRequest.{StreamRequest}
@@ -17,16 +18,27 @@ IsReported may_be_silent told told_after failed now_failed =
     ((what : List ℕ) × IsSaid (codes "error " ++ (what ++ line_feed)) told told_after failed now_failed)
     ⊎ ((may_be_silent ≡ true) × (told_after ≡ told))
 
+-- the line that tells what a failed write of the output ended, and why it failed
+abbrev pub told_cut : (what reason : List ℕ) → List ℕ
+told_cut what reason = codes "error " ++ (what ++ (codes ": " ++ (reason ++ line_feed)))
+
+-- it was told, or want of memory for that; or nothing was, as nobody reads the output any more
+abbrev pub IsCutReported : (closed : Bool) → (what : List ℕ) → (told told_after : Option (List ℕ)) → (failed now_failed : Option ℕ) → Type 0
+IsCutReported closed what told told_after failed now_failed =
+    ((reason : List ℕ) × IsSaid (told_cut what reason) told told_after failed now_failed)
+    ⊎ IsSaid (codes "error 8\n") told told_after failed now_failed
+    ⊎ ((closed ≡ true) × (told_after ≡ told))
+
 -- a text wasn't written to its end: so many of its first bytes were
 pub record IsCutShort (text : List ℕ) (before after : Option (List ℕ)) : Type 0 where
   pub count : ℕ
   pub short : count < length text
   pub appended : Appends before after (take count text)
 
--- what ended a request of the standard streams was reported as there; or it is such a write, and nothing was
+-- what ended a request of the standard streams was reported as there; or it is a failed write, of which the reason is told, too
 abbrev pub StopReported : (closed : Bool) → Stop → (told told_after : Option (List ℕ)) → (failed now_failed : Option ℕ) → Type 0
 StopReported closed (stop.Write written) told told_after failed now_failed =
-    IsStopSaid (stop.Write written) told told_after failed now_failed ⊎ ((closed ≡ true) × (told_after ≡ told))
+    IsCutReported closed (codes "1013 written " ++ decimal written) told told_after failed now_failed
 StopReported closed ended told told_after failed now_failed = IsStopSaid ended told told_after failed now_failed
 
 -- ---- files that are looked into

@@ -4,6 +4,7 @@ use Rattle.reg_callbacks.specs.declared.callback.NoCallback.{NoCallback}
 use Rattle.reg_calls.specs.HiveView.{view_of}
 use Rattle.reg_calls.specs.declared.hive.Hive.{Hive}
 use Rattle.reg_edits.specs.declared.edits.Edited.{Edited}
+use Rattle.reg_edits.specs.declared.copying.CopiedTree.{CopiedTree}
 use Rattle.reg_tree.specs.TreeKeys.{Keys}
 use Rattle.reg_tree_image.specs.FreeBytes.{are_sparse}
 use Rattle.reg_tree_image.specs.Images.{image_of}
@@ -38,6 +39,12 @@ IsToSave edit edited None = is_saved edit edited ≡ false
 IsToSave edit edited (Some saved) =
     (is_saved edit edited ≡ true) × IsTreeToSave (view_of edited.seated.hive).keys saved.tree × (saved.moment ≡ edited.moment)
     × (saved.sequence ≡ edited.sequence)
+
+-- what is to be saved of a tree with a copy: nothing of a dry run, or just its keys, with the copy's moment and its sequence number
+abbrev pub IsCopyToSave : EditRequest → CopiedTree → Option Saved → Type 0
+IsCopyToSave edit copied None = edit.dry_run ≡ true
+IsCopyToSave edit copied (Some saved) =
+    (edit.dry_run ≡ false) × IsTreeToSave copied.tree saved.tree × (saved.moment ≡ copied.moment) × (saved.sequence ≡ copied.sequence)
 
 -- of a fresh hive: its bins as they stand, at moment 0, with sequence number 1
 abbrev pub IsToMake : Hive NoCallback → Saved → Type 0

@@ -1,25 +1,28 @@
 //! A request answered: it is done, or what hinders that is reported.
 
-ghost use Rattle.std.specs.Prelude.{◌≡◌, ◌≤◌, ℕ, Bool, List, Option, option_copied};
+ghost use Rattle.std.specs.Prelude.{◌≡◌, ◌≤◌, ℕ, Bool, List, Option};
 ghost use Rattle.reg_words.specs.declared.request.Request.{Request};
 ghost use Rattle.reg_files.specs.Internal.Fronts.{bytes_of};
 ghost use Rattle.reg_files.specs.Internal.Outcomes.{Outcome, IsSameBehind, IsOtherBehind, IsTextTold, TextStops};
 
 use crate::commands::{change_file, edit_file, import_text, new_file};
+use crate::copying::copy_file;
 use crate::device::Output;
 use crate::differing::diff_images;
 use crate::fault::Fault;
 use crate::images::{Image, open_image};
 use crate::locks::Lockable;
-use crate::queries::{export_key, find_in, get_value, list_key};
-use crate::reports::{settle, settle_diff, settle_find, settle_import, settle_save};
+use crate::queries::{export_key, find_in, front_of, get_value, list_key};
+use crate::reports::{
+    settle, settle_copy, settle_diff, settle_find, settle_import, settle_output, settle_save,
+};
 use crate::streams::{check_files, dump_file, write_text};
 use crate::timelines::tell_timeline;
 use reg_command::serve_stream;
 use reg_text::Sink;
 use reg_words::{
-    Columns, DataForm, DiffForm, EditRequest, Form, HiveFile, KeyChange, Places, Request, Shell,
-    StreamRequest, TimelineForm, completions, manual,
+    DiffForm, EditRequest, FindRequest, Form, GetRequest, HiveFile, KeyChange, ListRequest,
+    Request, Shell, StreamRequest, TimelineRequest, completions, manual,
 };
 use std::alloc::{AllocError, Global};
 use std::io::Read;
@@ -28,17 +31,7 @@ use std::sync::Wait;
 use std::thread::Threads;
 
 /// What `version` writes: the tool's version, and that of the kit that proves and builds it.
-const VERSION: &[u8] = b"regtool 1.0.0\nrattle-kit-13f logic dac8208d650f15bf\n";
-
-/// The bytes of a front that stands for a hive's root.
-fn front_of<'a>(prefix: Option<&'a str>) -> Option<&'a [u8]>
-    ensures { option_copied result ≡ option_copied prefix.entry }
-{
-    match prefix {
-        Some(text) => Some(text.as_bytes()),
-        None => None,
-    }
-}
+const VERSION: &[u8] = b"regtool 1.0.0\nrattle-kit-13b logic dac8208d650f15bf\n";
 
 /// `run`, and `dump` and `check` without files.
 fn stream_asked<Rt: Threads + Wait + Sync, R: Read, W: Output, E: Sink>(
@@ -77,46 +70,52 @@ fn check_asked<H: Files, W: Output, E: Sink>(
     host: &H,
     files: Vec<&str>,
     is_dirty: bool,
+    is_verbose: bool,
     output: &mut W,
     errors: &mut E,
 ) -> u8
-    ensures { (unread : Option (List ℕ)) → Outcome (Request.Check files.entry is_dirty) result (W.closed output.new) unread unread
+    ensures { (unread : Option (List ℕ)) → Outcome (Request.Check files.entry is_dirty is_verbose) result (W.closed output.new) unread unread
         (W.contents output.old) (W.contents output.new)
         (E.contents errors.old) (E.contents errors.new) (E.failures errors.old) (E.failures errors.new) }
 {
-    check_files(alloc, host, files.as_slice(), is_dirty, output, errors)
+    check_files(
+        alloc,
+        host,
+        files.as_slice(),
+        is_dirty,
+        is_verbose,
+        output,
+        errors,
+    )
 }
 
 /// `ls`.
 fn list_asked<H: Files, W: Output, E: Sink>(
     alloc: Global,
     host: &H,
-    hive: HiveFile<'_>,
-    path: Vec<u8>,
-    is_tree: bool,
-    is_whole: bool,
-    columns: Columns,
+    asked: ListRequest<'_>,
     output: &mut W,
     errors: &mut E,
 ) -> u8
-    ensures { (unread : Option (List ℕ)) → Outcome (Request.Listing hive.entry path is_tree is_whole columns) result (W.closed output.new) unread unread
+    ensures { (unread : Option (List ℕ)) → Outcome (Request.Listing asked.entry) result (W.closed output.new) unread unread
         (W.contents output.old) (W.contents output.new)
         (E.contents errors.old) (E.contents errors.new) (E.failures errors.old) (E.failures errors.new) }
 {
+    let hive = asked.hive;
     match open_image(alloc, host, hive.file, hive.is_dirty, errors) {
         Ok(mut image) => {
             let done = list_key(
                 alloc,
                 &mut image,
-                path.as_slice(),
-                is_tree,
-                is_whole,
-                columns,
+                asked.path.as_slice(),
+                asked.is_tree,
+                asked.is_whole,
+                asked.columns,
                 output,
             );
-            settle(alloc, errors, hive.file, output.is_closed(), done)
+            settle_output(alloc, errors, output, hive.file, done)
         }
-        Err(fault) => settle(alloc, errors, hive.file, false, Err(fault)),
+        Err(fault) => settle(alloc, errors, hive.file, Err(fault)),
     }
 }
 
@@ -124,32 +123,29 @@ fn list_asked<H: Files, W: Output, E: Sink>(
 fn get_asked<H: Files, W: Output, E: Sink>(
     alloc: Global,
     host: &H,
-    hive: HiveFile<'_>,
-    path: Vec<u8>,
-    name: Vec<u8>,
-    form: DataForm,
-    is_whole: bool,
+    asked: GetRequest<'_>,
     output: &mut W,
     errors: &mut E,
 ) -> u8
-    ensures { (unread : Option (List ℕ)) → Outcome (Request.Get hive.entry path name form is_whole) result (W.closed output.new) unread unread
+    ensures { (unread : Option (List ℕ)) → Outcome (Request.Get asked.entry) result (W.closed output.new) unread unread
         (W.contents output.old) (W.contents output.new)
         (E.contents errors.old) (E.contents errors.new) (E.failures errors.old) (E.failures errors.new) }
 {
+    let hive = asked.hive;
     match open_image(alloc, host, hive.file, hive.is_dirty, errors) {
         Ok(mut image) => {
             let done = get_value(
                 alloc,
                 &mut image,
-                path.as_slice(),
-                name.as_slice(),
-                form,
-                is_whole,
+                asked.path.as_slice(),
+                asked.name.as_slice(),
+                asked.form,
+                asked.is_whole,
                 output,
             );
-            settle(alloc, errors, hive.file, output.is_closed(), done)
+            settle_output(alloc, errors, output, hive.file, done)
         }
-        Err(fault) => settle(alloc, errors, hive.file, false, Err(fault)),
+        Err(fault) => settle(alloc, errors, hive.file, Err(fault)),
     }
 }
 
@@ -157,23 +153,28 @@ fn get_asked<H: Files, W: Output, E: Sink>(
 fn find_asked<H: Files, W: Output, E: Sink>(
     alloc: Global,
     host: &H,
-    hive: HiveFile<'_>,
-    pattern: &str,
-    ignores_case: bool,
-    places: Places,
+    asked: FindRequest<'_>,
     output: &mut W,
     errors: &mut E,
 ) -> u8
-    ensures { (unread : Option (List ℕ)) → Outcome (Request.Find hive.entry pattern.entry ignores_case places) result (W.closed output.new) unread unread
+    ensures { (unread : Option (List ℕ)) → Outcome (Request.Find asked.entry) result (W.closed output.new) unread unread
         (W.contents output.old) (W.contents output.new)
         (E.contents errors.old) (E.contents errors.new) (E.failures errors.old) (E.failures errors.new) }
 {
+    let hive = asked.hive;
     match open_image(alloc, host, hive.file, hive.is_dirty, errors) {
         Ok(mut image) => {
-            let done = find_in(alloc, &mut image, pattern, ignores_case, places, output);
-            settle_find(alloc, errors, hive.file, output.is_closed(), done)
+            let done = find_in(
+                alloc,
+                &mut image,
+                asked.pattern,
+                asked.ignores_case,
+                asked.places,
+                output,
+            );
+            settle_find(alloc, errors, output, hive.file, done)
         }
-        Err(fault) => settle(alloc, errors, hive.file, false, Err(fault)),
+        Err(fault) => settle(alloc, errors, hive.file, Err(fault)),
     }
 }
 
@@ -183,20 +184,20 @@ fn export_asked<H: Files, W: Output, E: Sink>(
     host: &H,
     hive: HiveFile<'_>,
     path: Vec<u8>,
-    form: Form,
+    form: Form<'_>,
     output: &mut W,
     errors: &mut E,
 ) -> u8
-    ensures { (unread : Option (List ℕ)) → Outcome (Request.Export hive.entry path form) result (W.closed output.new) unread unread
+    ensures { (unread : Option (List ℕ)) → Outcome (Request.Export hive.entry path form.entry) result (W.closed output.new) unread unread
         (W.contents output.old) (W.contents output.new)
         (E.contents errors.old) (E.contents errors.new) (E.failures errors.old) (E.failures errors.new) }
 {
     match open_image(alloc, host, hive.file, hive.is_dirty, errors) {
         Ok(mut image) => {
             let done = export_key(alloc, &mut image, path.as_slice(), form, output);
-            settle(alloc, errors, hive.file, output.is_closed(), done)
+            settle_output(alloc, errors, output, hive.file, done)
         }
-        Err(fault) => settle(alloc, errors, hive.file, false, Err(fault)),
+        Err(fault) => settle(alloc, errors, hive.file, Err(fault)),
     }
 }
 
@@ -214,16 +215,17 @@ fn diff_behind<H: Files, W: Output, E: Sink>(
     ensures status { result ≤ 1 }
     ensures same { result ≡ 0 → IsSameBehind form.now new.entry (bytes_of H.File.remaining image.old) (bytes_of H.File.remaining image.new)
         (W.contents output.old) (W.contents output.new) (E.contents errors.old) (E.contents errors.new) (E.failures errors.old) }
-    ensures other { result ≡ 1 → IsOtherBehind form.now new.entry (W.closed output.new) (bytes_of H.File.remaining image.old) (bytes_of H.File.remaining image.new)
+    ensures other { result ≡ 1 → IsOtherBehind form.now new.entry (W.closed output.new)
+        (bytes_of H.File.remaining image.old) (bytes_of H.File.remaining image.new)
         (W.contents output.old) (W.contents output.new)
         (E.contents errors.old) (E.contents errors.new) (E.failures errors.old) (E.failures errors.new) }
 {
     match open_image(alloc, host, new.file, new.is_dirty, errors) {
         Ok(mut other) => {
             let done = diff_images(alloc, image, &mut other, form, output);
-            settle_diff(alloc, errors, old, new.file, output.is_closed(), done)
+            settle_diff(alloc, errors, output, old, new.file, done)
         }
-        Err(fault) => settle(alloc, errors, new.file, false, Err(fault)),
+        Err(fault) => settle(alloc, errors, new.file, Err(fault)),
     }
 }
 
@@ -248,7 +250,7 @@ fn diff_asked<H: Files, W: Output, E: Sink>(
     };
     match open_image(alloc, host, old, is_dirty, errors) {
         Ok(mut image) => diff_behind(alloc, host, old, &mut image, behind, &form, output, errors),
-        Err(fault) => settle(alloc, errors, old, false, Err(fault)),
+        Err(fault) => settle(alloc, errors, old, Err(fault)),
     }
 }
 
@@ -264,7 +266,7 @@ fn new_asked<H: Files, E: Sink>(
         before before (E.contents errors.old) (E.contents errors.new) (E.failures errors.old) (E.failures errors.new) }
 {
     let done = new_file(alloc, host, file, name);
-    settle(alloc, errors, file, false, done)
+    settle(alloc, errors, file, done)
 }
 
 /// `edit`.
@@ -284,7 +286,7 @@ where
         (E.contents errors.old) (E.contents errors.new) (E.failures errors.old) (E.failures errors.new) }
 {
     let done = edit_file(alloc, host, edit, keeps_going, input, output);
-    settle_save(alloc, errors, &edit, output.is_closed(), done)
+    settle_save(alloc, errors, output, &edit, done)
 }
 
 /// `import`.
@@ -324,33 +326,56 @@ where
         (E.contents errors.old) (E.contents errors.new) (E.failures errors.old) (E.failures errors.new) }
 {
     let done = change_file(alloc, host, edit, change, output);
-    settle_save(alloc, errors, &edit, output.is_closed(), done)
+    settle_save(alloc, errors, output, &edit, done)
+}
+
+/// `copy`.
+fn copy_asked<H: Files + Clock, W: Output, E: Sink>(
+    alloc: Global,
+    host: &H,
+    edit: EditRequest<'_>,
+    source: HiveFile<'_>,
+    path: Vec<u8>,
+    into: Vec<u8>,
+    output: &mut W,
+    errors: &mut E,
+) -> u8
+where
+    H::File: Lockable,
+    ensures { (unread : Option (List ℕ)) → Outcome (Request.Copy edit.entry source.entry path into) result (W.closed output.new) unread unread
+        (W.contents output.old) (W.contents output.new)
+        (E.contents errors.old) (E.contents errors.new) (E.failures errors.old) (E.failures errors.new) }
+{
+    match open_image(alloc, host, source.file, source.is_dirty, errors) {
+        Ok(mut image) => {
+            let path = path.as_slice();
+            let done = copy_file(alloc, host, edit, &mut image, path, into.as_slice(), output);
+            settle_copy(alloc, errors, output, source.file, &edit, done)
+        }
+        Err(fault) => settle(alloc, errors, source.file, Err(fault)),
+    }
 }
 
 /// `timeline`.
 fn timeline_asked<H: Files, W: Output, E: Sink>(
     alloc: Global,
     host: &H,
-    files: Vec<&str>,
-    is_dirty: bool,
-    from: u64,
-    to: u64,
-    form: TimelineForm,
+    asked: TimelineRequest<'_>,
     output: &mut W,
     errors: &mut E,
 ) -> u8
-    ensures { (unread : Option (List ℕ)) → Outcome (Request.Timeline files.entry is_dirty from to form) result (W.closed output.new) unread unread
+    ensures { (unread : Option (List ℕ)) → Outcome (Request.Timeline asked.entry) result (W.closed output.new) unread unread
         (W.contents output.old) (W.contents output.new)
         (E.contents errors.old) (E.contents errors.new) (E.failures errors.old) (E.failures errors.new) }
 {
     tell_timeline(
         alloc,
         host,
-        files.as_slice(),
-        is_dirty,
-        from,
-        to,
-        form,
+        asked.files.as_slice(),
+        asked.is_dirty,
+        asked.from,
+        asked.to,
+        asked.form,
         output,
         errors,
     )
@@ -371,9 +396,9 @@ fn tell_text<W: Output, E: Sink>(
     match text {
         Ok(text) => {
             let done = write_text(text.as_bytes(), output);
-            settle(alloc, errors, "", output.is_closed(), done)
+            settle_output(alloc, errors, output, "", done)
         }
-        Err(fault) => settle(alloc, errors, "", false, Err(Fault::from(fault))),
+        Err(fault) => settle(alloc, errors, "", Err(Fault::from(fault))),
     }
 }
 
@@ -407,7 +432,7 @@ fn version_asked<W: Output, E: Sink>(alloc: Global, output: &mut W, errors: &mut
         (E.contents errors.old) (E.contents errors.new) (E.failures errors.old) (E.failures errors.new) }
 {
     let done = write_text(VERSION, output);
-    settle(alloc, errors, "", output.is_closed(), done)
+    settle_output(alloc, errors, output, "", done)
 }
 
 /// Does what was asked for, and answers the status.
@@ -429,42 +454,14 @@ where
     match request {
         Request::Stream(stream) => stream_asked(rt, alloc, stream, input, output, errors),
         Request::Dump(hive) => dump_asked(alloc, host, hive, output, errors),
-        Request::Check { files, is_dirty } => {
-            check_asked(alloc, host, files, is_dirty, output, errors)
-        }
-        Request::Listing {
-            hive,
-            path,
-            is_tree,
-            is_whole,
-            columns,
-        } => list_asked(
-            alloc, host, hive, path, is_tree, is_whole, columns, output, errors,
-        ),
-        Request::Get {
-            hive,
-            path,
-            name,
-            form,
-            is_whole,
-        } => get_asked(
-            alloc, host, hive, path, name, form, is_whole, output, errors,
-        ),
-        Request::Find {
-            hive,
-            pattern,
-            ignores_case,
-            places,
-        } => find_asked(
-            alloc,
-            host,
-            hive,
-            pattern,
-            ignores_case,
-            places,
-            output,
-            errors,
-        ),
+        Request::Check {
+            files,
+            is_dirty,
+            is_verbose,
+        } => check_asked(alloc, host, files, is_dirty, is_verbose, output, errors),
+        Request::Listing(asked) => list_asked(alloc, host, asked, output, errors),
+        Request::Get(asked) => get_asked(alloc, host, asked, output, errors),
+        Request::Find(asked) => find_asked(alloc, host, asked, output, errors),
         Request::Diff {
             old,
             new,
@@ -474,13 +471,7 @@ where
         Request::Export { hive, path, form } => {
             export_asked(alloc, host, hive, path, form, output, errors)
         }
-        Request::Timeline {
-            files,
-            is_dirty,
-            from,
-            to,
-            form,
-        } => timeline_asked(alloc, host, files, is_dirty, from, to, form, output, errors),
+        Request::Timeline(asked) => timeline_asked(alloc, host, asked, output, errors),
         Request::New { file, name } => new_asked(alloc, host, file, name, errors),
         Request::Edit { edit, keeps_going } => {
             edit_asked(alloc, host, edit, keeps_going, input, output, errors)
@@ -494,6 +485,12 @@ where
         Request::Change { edit, change } => {
             change_asked(alloc, host, edit, change, output, errors)
         }
+        Request::Copy {
+            edit,
+            source,
+            path,
+            into,
+        } => copy_asked(alloc, host, edit, source, path, into, output, errors),
         Request::Manual => manual_asked(alloc, output, errors),
         Request::Completions(shell) => completions_asked(alloc, shell, output, errors),
         Request::Version => version_asked(alloc, output, errors),

@@ -5,9 +5,9 @@ ghost use Rattle.reg_calls.specs.HiveView.{view_of};
 ghost use Rattle.reg_tree_image.specs.FreeBytes.{are_sparse};
 ghost use Rattle.reg_files.specs.Saves.{is_saved, IsToSave, IsToMake, IsNotRebuilt};
 ghost use Rattle.reg_words.specs.ChangeLines.{told as told_of};
-ghost use Rattle.reg_files.specs.Serving.{IsGiven, IsNone, OfFile, OfText, EditsFile, StopsEditing, Enters, StopsImporting};
+ghost use Rattle.reg_files.specs.Editing.{IsGiven, IsNone, OfFile, OfText, EditsFile, StopsEditing, Enters, StopsImporting};
 ghost use Rattle.reg_files.specs.Looking.{IsCutShort};
-ghost use Rattle.reg_files.specs.Serving.{Tells, ChangesFile, StopsChanging};
+ghost use Rattle.reg_files.specs.Editing.{Tells, ChangesFile, StopsChanging};
 ghost use Rattle.reg_files.specs.Internal.Cuts.{is_save_end_cut};
 
 use crate::device::Device;
@@ -30,7 +30,7 @@ use std::rt::{Clock, Files};
 const FIRST_SEQUENCE: u32 = 1;
 
 /// The moment at which an edit begins.
-fn begin_at<H: Clock>(host: &H, begin: Begin) -> Result<u64, Fault>
+pub fn begin_at<H: Clock>(host: &H, begin: Begin) -> Result<u64, Fault>
     ensures { IfOk result (λ moment. IsGiven begin moment) }
 {
     match begin {
@@ -70,7 +70,21 @@ fn to_make(hive: &Hive<NoCallback>) -> Saved<'_>
     }
 }
 
-/// Saves what a command made of a file's hive, if it is to be saved: in the file's place, or in another file, which is made anew.
+/// Saves what there is to save: in the place of the file at a path, or in another file, which is made anew.
+pub fn put<H: Files>(
+    alloc: Global,
+    host: &H,
+    request: EditRequest<'_>,
+    path: &str,
+    saved: &Saved<'_>,
+) -> Result<(), Fault> {
+    match request.output {
+        Some(target) => create(host, target, saved),
+        None => replace(alloc, host, path, saved),
+    }
+}
+
+/// Saves what a command made of a file's hive, if it is to be saved.
 fn save<H: Files>(
     alloc: Global,
     host: &H,
@@ -81,21 +95,18 @@ fn save<H: Files>(
     let Some(saved) = to_save(alloc, request, edited)? else {
         return Ok(());
     };
-    match request.output {
-        Some(target) => create(host, target, &saved),
-        None => replace(alloc, host, path, &saved),
-    }
+    put(alloc, host, request, path, &saved)
 }
 
 /// A file that is opened for a command that saves it, and locked until it is let go.
 #[derive(Drop)]
-struct Opened<F> {
-    path: String,
-    file: Device<F>,
+pub struct Opened<F> {
+    pub path: String,
+    pub file: Device<F>,
 }
 
 /// Opens the file of a command that saves, with leave to write where it is saved in its place, and takes its lock.
-fn open_for<H: Files + Clock>(
+pub fn open_for<H: Files + Clock>(
     alloc: Global,
     host: &H,
     request: EditRequest<'_>,
@@ -125,7 +136,8 @@ pub fn edit_file<H: Files + Clock, R: Read, W: Write>(
 ) -> Result<(), SaveEnd>
 where
     H::File: Lockable,
-    ensures ok { OnOk result (EditsFile request.entry keeps_going IsNone (R.remaining input.old) (R.remaining input.new) (W.contents output.old) (W.contents output.new)) }
+    ensures ok { OnOk result (EditsFile request.entry keeps_going IsNone (R.remaining input.old) (R.remaining input.new)
+        (W.contents output.old) (W.contents output.new)) }
     ensures err { IfErr result (λ end. StopsEditing request.entry keeps_going (is_save_end_cut end) (R.remaining input.old) (R.remaining input.new)
         (W.contents output.old) (W.contents output.new)) }
 {
@@ -204,9 +216,11 @@ pub fn import_text<H: Files + Clock, R: Read>(
 ) -> Result<(), SaveEnd>
 where
     H::File: Lockable,
-    ensures ok { OnOk result (OfText (is_some text.entry) (R.remaining input.old) (R.remaining input.new) (Enters request.entry (option_copied front.entry))) }
+    ensures ok { OnOk result (OfText (is_some text.entry) (R.remaining input.old) (R.remaining input.new)
+        (Enters request.entry (option_copied front.entry))) }
     ensures err { OnErr result ((R.remaining input.new ≡ R.remaining input.old)
-        ⊎ OfText (is_some text.entry) (R.remaining input.old) (R.remaining input.new) (StopsImporting request.entry (option_copied front.entry) tells_all)) }
+        ⊎ OfText (is_some text.entry) (R.remaining input.old) (R.remaining input.new)
+        (StopsImporting request.entry (option_copied front.entry) tells_all)) }
 {
     match text {
         Some(text) => import_file(alloc, host, request, text, front, tells_all),
@@ -222,7 +236,7 @@ fn line_of(alloc: Global, asked: &KeyChange) -> Result<String, Fault>
 }
 
 /// Tells a change in its line, where it would be saved if this weren't a dry run.
-fn tell_change<W: Write>(
+pub fn tell_change<W: Write>(
     is_dry: bool,
     is_changed: bool,
     line: &str,

@@ -1,20 +1,28 @@
 //! Readers and writers that keep why their last call failed: the libraries say only that one did.
 
-ghost use Rattle.std.specs.Prelude.{◌≡◌, ◌≢◌, Bool, true, false, Some, IfSome};
+ghost use Rattle.std.specs.Prelude.{◌≡◌, ◌≢◌, Bool, true, false, Option, Some, IfSome, option_copied};
+ghost use Rattle.std.specs.declared.io.Error.{Error};
 ghost use Rattle.std.specs.IoError.{error_kind};
 ghost use Rattle.std.specs.declared.io.ErrorKind.TheVariants.{BrokenPipe};
 
 use std::io;
 use std::io::{ErrorKind, Read, Write};
 
-/// A writer of the tool's output, of which it is known whether somebody still reads it.
+/// A writer of the tool's output, of which it is known why a write failed, and whether somebody still reads it.
 pub trait Output: Write {
     /// Whether a write or a flush failed since the other end of a pipe was closed.
     ghost closed: { Self → Bool };
 
+    /// The error of the last write or flush that failed.
+    ghost last: { Self → Option Error };
+
     /// Whether a write or a flush failed since the other end of a pipe was closed.
     fn is_closed(&self) -> bool
         ensures { result ≡ closed self.now };
+
+    /// The error of the last write or flush that failed; `None` where none did.
+    fn last_error(&self) -> Option<&io::Error>
+        ensures { option_copied result ≡ last self.now };
 }
 
 /// What is known of the calls of a reader or a writer that failed.
@@ -117,7 +125,13 @@ impl<D: Write> Write for Device<D> {
 impl<D: Write> Output for Device<D> {
     ghost closed = { λ writer. writer.failures.is_closed };
 
+    ghost last = { λ writer. writer.failures.error };
+
     fn is_closed(&self) -> bool {
         self.failures.is_closed
+    }
+
+    fn last_error(&self) -> Option<&io::Error> {
+        self.failures.error.as_ref()
     }
 }

@@ -4,11 +4,13 @@ ghost use Rattle.std.specs.Prelude.{◌≡◌, ◌≢◌, false, Ok, IfErr, IsEr
 ghost use Rattle.std.specs.IoError.{error_kind};
 ghost use Rattle.std.specs.declared.io.ErrorKind.TheVariants.{OutOfMemory};
 ghost use Rattle.reg_files.specs.Saves.{is_of_saving};
-ghost use Rattle.reg_files.specs.Cuts.{is_dump_cut, is_path_cut, is_query_cut, is_find_cut, is_diff_cut, is_export_cut, is_end_cut, is_changes_cut, is_edit_cut};
+ghost use Rattle.reg_files.specs.Cuts.{is_dump_cut, is_path_cut, is_query_cut, is_find_cut, is_diff_cut, is_export_cut, is_end_cut};
+ghost use Rattle.reg_files.specs.Cuts.{is_changes_cut, is_edit_cut};
 ghost use Rattle.reg_files.specs.Internal.Cuts.{is_cut, is_diff_end_cut, IsOfStep};
 
 use crate::device::Device;
 use crate::images::Image;
+use reg_copy::CopyFault;
 use reg_dotreg_import::ImportFault;
 use reg_dotreg_reader::ReadFault;
 use reg_dotreg_writer::ExportFault;
@@ -125,12 +127,18 @@ pub enum Fault {
     /// The root is to go.
     #[error("the root stays")]
     IsRoot,
+    /// A key can't be copied: one of its name is there, there would be too many keys, or the bins have no room.
+    #[error("{0}")]
+    NoCopy(CopyFault),
     /// A change was refused, with this status.
     #[error("refused with status {status}")]
     NoChange { status: u32 },
     /// A name can't be written: of the key to which these names lead, or of one of its values.
     #[error("a name has a line break")]
     LineBreak(Vec<u8>),
+    /// A front that is given for the root's name has no character, or one that a .reg text can't have there.
+    #[error("a front is one line of characters 0x01 to 0x7F, one or more, without `-` first or a backslash last")]
+    Front,
     /// The input, or a text's file, can't be read.
     #[error("{0}")]
     Input(io::Error),
@@ -218,6 +226,7 @@ impl From<ExportFault> for Fault {
 
     fn from(fault: ExportFault) -> Fault {
         match fault {
+            ExportFault::Front => Fault::Front,
             ExportFault::NoKey => Fault::NoKey,
             ExportFault::Name(key) => Fault::LineBreak(key),
             ExportFault::Stopped(fault) => Fault::from(fault),
@@ -332,6 +341,38 @@ impl From<Fault> for SaveEnd {
     }
 }
 
+/// What ended a copy from one file to another early, by the file that it is about.
+#[derive(Debug, Drop)]
+pub enum CopyStop {
+    /// The file that is copied from can't be read, doesn't load, or hasn't the key.
+    Source(Fault),
+    /// The other one can't be changed so, or saved.
+    Target(SaveEnd),
+}
+
+impl From<Fault> for CopyStop {
+    ghost use Rattle.reg_files.specs.declared.fault.CopyStop.{CopyStop};
+    ghost use Rattle.reg_files.specs.declared.fault.SaveEnd.{SaveEnd};
+
+    ghost from_gives = { λ fault made. made ≡ CopyStop.Target (SaveEnd.Files fault) };
+
+    fn from(fault: Fault) -> CopyStop {
+        CopyStop::Target(SaveEnd::Files(fault))
+    }
+}
+
+impl From<AllocError> for CopyStop {
+    ghost use Rattle.reg_files.specs.declared.fault.CopyStop.{CopyStop};
+    ghost use Rattle.reg_files.specs.declared.fault.Fault.{Fault};
+    ghost use Rattle.reg_files.specs.declared.fault.SaveEnd.{SaveEnd};
+
+    ghost from_gives = { λ _ made. made ≡ CopyStop.Target (SaveEnd.Files Fault.Memory) };
+
+    fn from(_fault: AllocError) -> CopyStop {
+        CopyStop::Target(SaveEnd::Files(Fault::Memory))
+    }
+}
+
 impl From<FreshFault> for Fault {
     fn from(fault: FreshFault) -> Fault {
         match fault {
@@ -373,6 +414,16 @@ pub fn taken<T>(step: Step, answer: io::Result<T>) -> Result<T, Fault>
 }
 
 impl Fault {
+    /// Whether it is a failed write of the output: of a text, or of a script's replies.
+    pub fn is_failed_write(&self) -> bool
+        ensures { result ≡ is_cut self.now }
+    {
+        match self {
+            Fault::Cut(_) | Fault::Script(ScriptFault::Write { .. }) => true,
+            _ => false,
+        }
+    }
+
     /// The fault of a call that read a file: where a read failed, with the system's error.
     pub fn of_file<D>(self, file: &mut Device<D>) -> Fault
         ensures other { self ≢ Fault.Load LoadFault.Read → result ≡ self }

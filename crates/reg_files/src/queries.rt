@@ -1,7 +1,8 @@
 //! The commands that look into one file.
 
-ghost use Rattle.std.specs.Prelude.{◌≡◌, ◌≤◌, ◌||◌, ℕ, List, Option, false, IfOk, IfErr, OnOk};
+ghost use Rattle.std.specs.Prelude.{◌≡◌, ◌≤◌, ◌||◌, ℕ, List, Option, option_copied, false, IfOk, IfErr, OnOk};
 ghost use Rattle.reg_queries.specs.Finds.{Finds};
+ghost use Rattle.reg_queries.specs.ImageExports.{Exports, ExportEnds};
 ghost use Rattle.reg_files.specs.Detailed.{ListsKey, ListingEnds, GetsAs, GettingEnds, is_detailed as asks_for_more, table_columns as columns_asked};
 ghost use Rattle.reg_files.specs.Serving.{scope_of, WritesAs, StopsListing, StopsGetting, StopsFinding, WriteStops};
 ghost use Rattle.reg_files.specs.Internal.Cuts.{is_cut};
@@ -12,8 +13,8 @@ use crate::fault::{Fault, Step, taken};
 use crate::images::Image;
 use reg_find::Scope;
 use reg_queries::{
-    QueryFault, export, export_csv, export_html, export_json, export_jsonl, find, get, get_typed,
-    list, list_long,
+    ExportEnd, QueryFault, export, export_csv, export_html, export_json, export_jsonl, find, get,
+    get_typed, list, list_long,
 };
 use reg_text::Source;
 use reg_words::{Columns, DataForm, Form, Places};
@@ -160,21 +161,48 @@ pub fn find_in<F: Read, W: Write>(
     }
 }
 
+/// The bytes of a front that stands for a hive's root.
+pub fn front_of<'a>(prefix: Option<&'a str>) -> Option<&'a [u8]>
+    ensures { option_copied result ≡ option_copied prefix.entry }
+{
+    match prefix {
+        Some(text) => Some(text.as_bytes()),
+        None => None,
+    }
+}
+
+/// Writes a key of an image's hive with all below it as a .reg text.
+fn export_reg<R: Source, W: Write>(
+    alloc: Global,
+    image: &mut R,
+    path: &[u8],
+    prefix: Option<&str>,
+    is_utf8: bool,
+    output: &mut W,
+) -> Result<(), ExportEnd>
+    ensures ok { OnOk result (Exports (R.remaining image.old) (R.remaining image.new) path.now (option_copied prefix.entry) is_utf8
+        (W.contents output.old) (W.contents output.new)) }
+    ensures err { IfErr result (λ fault. ExportEnds fault (R.remaining image.old) (R.remaining image.new) path.now
+        (option_copied prefix.entry) is_utf8 (W.contents output.old) (W.contents output.new)) }
+{
+    export(alloc, image, path, front_of(prefix), is_utf8, output)
+}
+
 /// Writes a key of an image's hive with all below it in another form of text.
 fn export_as<R: Source, W: Write>(
     alloc: Global,
     image: &mut R,
     path: &[u8],
-    form: Form,
+    form: Form<'_>,
     output: &mut W,
 ) -> Result<(), Fault>
-    ensures ok { OnOk result (WritesAs form (R.remaining image.old) (R.remaining image.new) path.now (W.contents output.old)
+    ensures ok { OnOk result (WritesAs form.entry (R.remaining image.old) (R.remaining image.new) path.now (W.contents output.old)
         (W.contents output.new)) }
-    ensures err { IfErr result (λ fault. WriteStops form path.now (W.contents output.old) (W.contents output.new) (is_cut fault)
+    ensures err { IfErr result (λ fault. WriteStops form.entry path.now (W.contents output.old) (W.contents output.new) (is_cut fault)
         (R.remaining image.old) (R.remaining image.new)) }
 {
     match form {
-        Form::Reg { is_utf8 } => export(alloc, image, path, is_utf8, output)?,
+        Form::Reg { is_utf8, prefix } => export_reg(alloc, image, path, prefix, is_utf8, output)?,
         Form::Json => export_json(alloc, image, path, output)?,
         Form::JsonLines => export_jsonl(alloc, image, path, output)?,
         Form::Csv => export_csv(alloc, image, path, output)?,
@@ -188,12 +216,12 @@ pub fn export_key<F: Read, W: Write>(
     alloc: Global,
     image: &mut Image<F>,
     path: &[u8],
-    form: Form,
+    form: Form<'_>,
     output: &mut W,
 ) -> Result<(), Fault>
-    ensures ok { OnOk result (WritesAs form (bytes_of F.remaining image.old) (bytes_of F.remaining image.new) path.now (W.contents output.old)
+    ensures ok { OnOk result (WritesAs form.entry (bytes_of F.remaining image.old) (bytes_of F.remaining image.new) path.now (W.contents output.old)
         (W.contents output.new)) }
-    ensures err { IfErr result (λ fault. (left : Option (List ℕ)) × WriteStops form path.now (W.contents output.old) (W.contents output.new)
+    ensures err { IfErr result (λ fault. (left : Option (List ℕ)) × WriteStops form.entry path.now (W.contents output.old) (W.contents output.new)
         (is_cut fault) (bytes_of F.remaining image.old) left) }
 {
     match export_as(alloc, image, path, form, output) {

@@ -1,22 +1,25 @@
 //! What ended a command on a file, reported.
 
-ghost use Rattle.std.specs.Prelude.{◌≡◌, ◌++◌, false, ◌&&◌, IfOk, MatchResult, codes, string_bytes, List, ℕ};
+ghost use Rattle.std.specs.Prelude.{◌≡◌, ◌++◌, false, ◌&&◌, IfOk, MatchResult, codes, option_map, string_bytes, vec_items, List, ℕ};
 ghost use Rattle.reg_text.specs.Texts.{line_feed};
-ghost use Rattle.reg_files.specs.Looking.{IsReported};
-ghost use Rattle.reg_files.specs.Internal.Cuts.{is_cut, is_diff_end_cut, is_save_end_cut};
+ghost use Rattle.reg_tree_image.specs.FaultPlaces.{place_in};
+ghost use Rattle.reg_files.specs.Counting.{key_told, place_told, place_line as line_of_place, IsPlaceSaid};
+ghost use Rattle.reg_files.specs.Looking.{IsReported, IsCutReported, told_cut};
+ghost use Rattle.reg_files.specs.Internal.Cuts.{is_copy_stop_cut, is_cut, is_diff_end_cut, is_save_end_cut};
 ghost use Rattle.reg_files.specs.Internal.Outcomes.{status_of, Settles};
 
-use crate::fault::{DiffEnd, Fault, SaveEnd};
+use crate::device::Output;
+use crate::fault::{CopyStop, DiffEnd, Fault, SaveEnd};
 use reg_command::say;
-use reg_dotreg_reader::{ReadFault, told};
+use reg_dotreg_reader::told;
 use reg_edits::BadText;
 use reg_model::statuses::{
     ACCESS_DENIED, FILE_NOT_FOUND, INVALID_HANDLE, INVALID_PARAMETER, KEY_DELETED,
     NO_SYSTEM_RESOURCES, NOT_ENOUGH_MEMORY,
 };
-use reg_script::{FailedLine, ScriptFault};
+use reg_script::FailedLine;
 use reg_text::{Sink, write_escaped};
-use reg_tree_image::LoadFault;
+use reg_tree_image::{FaultPlace, LoadFault};
 use reg_words::EditRequest;
 use std::alloc::{AllocError, Global};
 use std::slice::from_ref;
@@ -100,16 +103,6 @@ fn lines_text(
     Ok(text)
 }
 
-/// What is reported of a text that isn't read.
-fn text_text(alloc: Global, input: &str, fault: ReadFault) -> Result<String, AllocError> {
-    match fault {
-        ReadFault::Line(line) => {
-            format!(in alloc; "line {line} of {input}: it isn't understood")
-        }
-        fault => format!(in alloc; "{input}: {fault}"),
-    }
-}
-
 /// What is reported of what ended a command on a file, which read an input, without its `error`.
 fn fault_text(alloc: Global, file: &str, input: &str, fault: &Fault) -> Result<String, AllocError> {
     match fault {
@@ -132,14 +125,17 @@ fn fault_text(alloc: Global, file: &str, input: &str, fault: &Fault) -> Result<S
         Fault::NoKey | Fault::NoValue | Fault::NoParent => {
             format!(in alloc; "missing {file}: {fault}")
         }
-        Fault::HasSubkeys | Fault::IsRoot => format!(in alloc; "change {file}: {fault}"),
+        Fault::HasSubkeys | Fault::IsRoot | Fault::NoCopy(_) => {
+            format!(in alloc; "change {file}: {fault}")
+        }
         Fault::NoChange { status } => {
             let name = status_name(*status);
             format!(in alloc; "change {file}: refused with status {status}{name}")
         }
+        Fault::Front => format!(in alloc; "prefix: {fault}"),
         Fault::LineBreak(key) => line_break_text(alloc, file, key.as_slice()),
         Fault::Input(error) => format!(in alloc; "read {input}: {error}"),
-        Fault::Text(fault) => text_text(alloc, input, *fault),
+        Fault::Text(fault) => format!(in alloc; "{input}: {fault}"),
         Fault::Lines { bad, is_front } => lines_text(alloc, input, bad, *is_front),
         Fault::Refused { line, status } => {
             let name = status_name(*status);
@@ -158,6 +154,65 @@ fn fault_line(alloc: Global, file: &str, input: &str, fault: &Fault) -> Result<S
     format!(in alloc; "error {what}\n")
 }
 
+/// In which key of a hive a fault is met, told behind where in the bins.
+fn key_text(alloc: Global, key: &Option<Vec<u8>>) -> Result<String, AllocError>
+    ensures { IfOk result (λ text. string_bytes text ≡ key_told (option_map vec_items key.now)) }
+{
+    let mut text = String::new(alloc);
+    if let Some(path) = key {
+        text.push_str(", in the key =")?;
+        write_escaped(&mut text, path.as_slice())?;
+    }
+    Ok(text)
+}
+
+/// Where in the bins of a hive a fault is met, told behind it.
+fn place_text(alloc: Global, place: &Option<FaultPlace>) -> Result<String, AllocError>
+    ensures { IfOk result (λ text. string_bytes text ≡ place_told (option_map place_in place.now)) }
+{
+    let Some(place) = place else {
+        return Ok(String::new(alloc));
+    };
+    let offset = place.offset;
+    let key = key_text(alloc, &place.key)?;
+    format!(in alloc; ", at {offset} of its bins{key}")
+}
+
+/// The line that reports why a file doesn't load, and where that is met.
+fn place_line(
+    alloc: Global,
+    file: &str,
+    fault: LoadFault,
+    place: &Option<FaultPlace>,
+) -> Result<String, AllocError>
+    ensures { IfOk result (λ line. (words : List ℕ) × (string_bytes line ≡ line_of_place file.now fault (option_map place_in place.now) words)) }
+{
+    let number = fault.number();
+    let words = format!(in alloc; "{fault}")?;
+    let place = place_text(alloc, place)?;
+    format!(in alloc; "error 1009 load {number} {file}{place}: {words}\n")
+}
+
+/// Reports why a file doesn't load, and where that is met.
+pub fn report_place<E: Sink>(
+    alloc: Global,
+    errors: &mut E,
+    file: &str,
+    fault: LoadFault,
+    place: &Option<FaultPlace>,
+)
+    ensures { IsPlaceSaid file.now fault (option_map place_in place.now) (E.contents errors.old) (E.contents errors.new) (E.failures errors.old) (E.failures errors.new) }
+{
+    if fault == LoadFault::Memory {
+        say(errors, b"error 8\n");
+        return;
+    }
+    match place_line(alloc, file, fault, place) {
+        Ok(line) => say(errors, line.as_bytes()),
+        Err(_) => say(errors, b"error 8\n"),
+    }
+}
+
 /// Reports what ended a command on a file, which read an input.
 fn report<E: Sink>(alloc: Global, errors: &mut E, file: &str, input: &str, fault: &Fault)
     ensures { IsReported false (E.contents errors.old) (E.contents errors.new) (E.failures errors.old) (E.failures errors.new) }
@@ -168,21 +223,84 @@ fn report<E: Sink>(alloc: Global, errors: &mut E, file: &str, input: &str, fault
     }
 }
 
-/// Ends a command on a file that writes to the output, and answers its status. What ended it early is reported, save that a write failed
-/// since nobody reads the output any more.
-pub fn settle<E: Sink>(
-    alloc: Global,
-    errors: &mut E,
-    file: &str,
-    is_closed: bool,
-    done: Result<(), Fault>,
-) -> u8
-    ensures { Settles is_cut is_closed done result (E.contents errors.old) (E.contents errors.new) (E.failures errors.old) (E.failures errors.new) }
+/// Why the last write of the output failed.
+fn reason_of<W: Output>(alloc: Global, output: &W) -> Result<String, AllocError> {
+    match output.last_error() {
+        Some(error) => format!(in alloc; "{error}"),
+        None => format!(in alloc; "no byte was taken"),
+    }
+}
+
+/// The line that reports what a failed write of the output ended, and why it failed.
+fn cut_line<W: Output>(alloc: Global, output: &W, what: &str) -> Result<String, AllocError>
+    ensures { IfOk result (λ line. (reason : List ℕ) × (string_bytes line ≡ told_cut what.now reason)) }
+{
+    let reason = reason_of(alloc, output)?;
+    format!(in alloc; "error {what}: {reason}\n")
+}
+
+/// Reports what a failed write of the output ended, and why it failed, save where nobody reads that any more.
+pub fn report_cut<W: Output, E: Sink>(alloc: Global, errors: &mut E, output: &W, what: &str)
+    ensures { IsCutReported (W.closed output.now) what.now (E.contents errors.old) (E.contents errors.new)
+        (E.failures errors.old) (E.failures errors.new) }
+{
+    if output.is_closed() {
+        return;
+    }
+    match cut_line(alloc, output, what) {
+        Ok(text) => say(errors, text.as_bytes()),
+        Err(_) => say(errors, b"error 8\n"),
+    }
+}
+
+/// Ends a command on a file that didn't come to its output, and answers its status. What ended it early is reported.
+pub fn settle<E: Sink>(alloc: Global, errors: &mut E, file: &str, done: Result<(), Fault>) -> u8
+    ensures { Settles is_cut false done result (E.contents errors.old) (E.contents errors.new) (E.failures errors.old) (E.failures errors.new) }
 {
     match done {
         Ok(()) => 0,
-        Err(Fault::Cut(_)) if is_closed => 1,
         Err(fault) => {
+            report(alloc, errors, file, STANDARD_INPUT, &fault);
+            1
+        }
+    }
+}
+
+/// Reports a fault of a command on a file, which a failed write of the output ended, and why that failed, save where nobody reads it any more.
+fn report_cut_fault<W: Output, E: Sink>(
+    alloc: Global,
+    errors: &mut E,
+    output: &W,
+    file: &str,
+    fault: &Fault,
+)
+    ensures { IsReported (W.closed output.now) (E.contents errors.old) (E.contents errors.new) (E.failures errors.old) (E.failures errors.new) }
+{
+    match fault_text(alloc, file, STANDARD_INPUT, fault) {
+        Ok(what) => report_cut(alloc, errors, output, what.as_str()),
+        Err(_) => say(errors, b"error 8\n"),
+    }
+}
+
+/// Ends a command on a file that writes to the output, and answers its status. What ended it early is reported: of a write that failed why,
+/// and nothing where that was since nobody reads the output any more.
+pub fn settle_output<W: Output, E: Sink>(
+    alloc: Global,
+    errors: &mut E,
+    output: &W,
+    file: &str,
+    done: Result<(), Fault>,
+) -> u8
+    ensures { Settles is_cut (W.closed output.now) done result (E.contents errors.old) (E.contents errors.new)
+        (E.failures errors.old) (E.failures errors.new) }
+{
+    match done {
+        Ok(()) => 0,
+        Err(fault) => {
+            if fault.is_failed_write() {
+                report_cut_fault(alloc, errors, output, file, &fault);
+                return 1;
+            }
             report(alloc, errors, file, STANDARD_INPUT, &fault);
             1
         }
@@ -197,26 +315,48 @@ fn blamed<'a>(edit: &EditRequest<'a>, fault: &Fault) -> &'a str {
     }
 }
 
-/// Ends a command that saves a file, and answers its status. What ended it early is reported of the file that it is about, save that a write
-/// failed since nobody reads the output any more.
-pub fn settle_save<E: Sink>(
+/// Ends a command that saves a file, and answers its status. What ended it early is reported of the file that it is about, as
+/// [`settle_output`] does.
+pub fn settle_save<W: Output, E: Sink>(
     alloc: Global,
     errors: &mut E,
+    output: &W,
     edit: &EditRequest<'_>,
-    is_closed: bool,
     done: Result<(), SaveEnd>,
 ) -> u8
-    ensures { Settles is_save_end_cut is_closed done result (E.contents errors.old) (E.contents errors.new)
+    ensures { Settles is_save_end_cut (W.closed output.now) done result (E.contents errors.old) (E.contents errors.new)
         (E.failures errors.old) (E.failures errors.new) }
 {
     match done {
         Ok(()) => 0,
-        Err(SaveEnd::Hive(Fault::Script(ScriptFault::Write { .. }))) if is_closed => 1,
-        Err(SaveEnd::Hive(Fault::Cut(_))) if is_closed => 1,
-        Err(SaveEnd::Hive(fault)) | Err(SaveEnd::Text(fault)) | Err(SaveEnd::Files(fault)) => {
-            report(alloc, errors, blamed(edit, &fault), STANDARD_INPUT, &fault);
-            1
+        Err(SaveEnd::Hive(fault)) => {
+            let file = blamed(edit, &fault);
+            settle_output(alloc, errors, output, file, Err(fault))
         }
+        Err(SaveEnd::Text(fault)) | Err(SaveEnd::Files(fault)) => {
+            let file = blamed(edit, &fault);
+            settle(alloc, errors, file, Err(fault))
+        }
+    }
+}
+
+/// Ends a copy from a file to another, and answers its status. What ended it early is reported of the file that it is about, as
+/// [`settle_output`] does.
+pub fn settle_copy<W: Output, E: Sink>(
+    alloc: Global,
+    errors: &mut E,
+    output: &W,
+    source: &str,
+    edit: &EditRequest<'_>,
+    done: Result<(), CopyStop>,
+) -> u8
+    ensures { Settles is_copy_stop_cut (W.closed output.now) done result (E.contents errors.old) (E.contents errors.new)
+        (E.failures errors.old) (E.failures errors.new) }
+{
+    match done {
+        Ok(()) => 0,
+        Err(CopyStop::Source(fault)) => settle(alloc, errors, source, Err(fault)),
+        Err(CopyStop::Target(end)) => settle_save(alloc, errors, output, edit, Err(end)),
     }
 }
 
@@ -246,41 +386,43 @@ pub fn settle_import<E: Sink>(
     }
 }
 
-/// Ends a comparison of two files, and answers its status. What ended it early is reported of the file that it is about.
-pub fn settle_diff<E: Sink>(
+/// Ends a comparison of two files, and answers its status. What ended it early is reported of the file that it is about, as
+/// [`settle_output`] does.
+pub fn settle_diff<W: Output, E: Sink>(
     alloc: Global,
     errors: &mut E,
+    output: &W,
     old: &str,
     new: &str,
-    is_closed: bool,
     done: Result<u8, DiffEnd>,
 ) -> u8
     ensures { MatchResult done (λ status. (result ≡ status) × (E.contents errors.new ≡ E.contents errors.old))
-        (λ end. (result ≡ 1) × IsReported (is_closed && is_diff_end_cut end) (E.contents errors.old) (E.contents errors.new)
+        (λ end. (result ≡ 1) × IsReported (W.closed output.now && is_diff_end_cut end) (E.contents errors.old) (E.contents errors.new)
         (E.failures errors.old) (E.failures errors.new)) }
 {
     match done {
         Ok(status) => status,
-        Err(DiffEnd::Old(fault)) => settle(alloc, errors, old, is_closed, Err(fault)),
-        Err(DiffEnd::New(fault)) => settle(alloc, errors, new, is_closed, Err(fault)),
+        Err(DiffEnd::Old(fault)) => settle_output(alloc, errors, output, old, Err(fault)),
+        Err(DiffEnd::New(fault)) => settle_output(alloc, errors, output, new, Err(fault)),
     }
 }
 
-/// Ends a search of a file, and answers its status, which is 1 where nothing was found. What ended it early is reported.
-pub fn settle_find<E: Sink>(
+/// Ends a search of a file, and answers its status, which is 1 where nothing was found. What ended it early is reported, as
+/// [`settle_output`] does.
+pub fn settle_find<W: Output, E: Sink>(
     alloc: Global,
     errors: &mut E,
+    output: &W,
     file: &str,
-    is_closed: bool,
     done: Result<bool, Fault>,
 ) -> u8
     ensures { MatchResult done (λ is_found. (result ≡ status_of is_found) × (E.contents errors.new ≡ E.contents errors.old))
-        (λ fault. (result ≡ 1) × IsReported (is_closed && is_cut fault) (E.contents errors.old) (E.contents errors.new)
+        (λ fault. (result ≡ 1) × IsReported (W.closed output.now && is_cut fault) (E.contents errors.old) (E.contents errors.new)
         (E.failures errors.old) (E.failures errors.new)) }
 {
     match done {
         Ok(true) => 0,
         Ok(false) => 1,
-        Err(fault) => settle(alloc, errors, file, is_closed, Err(fault)),
+        Err(fault) => settle_output(alloc, errors, output, file, Err(fault)),
     }
 }

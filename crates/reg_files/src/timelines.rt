@@ -13,7 +13,7 @@ ghost use Rattle.reg_files.specs.Internal.Fronts.{bytes_of};
 use crate::device::Output;
 use crate::fault::Fault;
 use crate::images::{Image, open_image};
-use crate::reports::settle;
+use crate::reports::{settle, settle_output};
 use reg_tables::Timeline;
 use reg_text::Sink;
 use reg_tree::Tree;
@@ -77,7 +77,8 @@ fn gather_file<H: Files, E: Sink>(
     errors: &mut E,
 ) -> bool
     ensures gathered { (trees : List KeyTree) → IsGathered timeline.old trees from to → result ≡ true →
-        (tree : KeyTree) × ReadsFile hive.entry.is_dirty hive.entry.file.now tree (E.contents errors.old) (E.contents errors.new) (E.failures errors.old) (E.failures errors.new)
+        (tree : KeyTree) × ReadsFile hive.entry.is_dirty hive.entry.file.now tree (E.contents errors.old) (E.contents errors.new)
+        (E.failures errors.old) (E.failures errors.new)
         × IsGathered timeline.new (trees ++ tree ∷ []) from to }
     ensures missed { result ≡ false → MissesTree hive.entry.is_dirty hive.entry.file.now (E.contents errors.old) (E.contents errors.new)
         (E.failures errors.old) (E.failures errors.new) }
@@ -86,12 +87,12 @@ fn gather_file<H: Files, E: Sink>(
         Ok(mut image) => match gather_image(alloc, &mut image, timeline, from, to) {
             Ok(()) => true,
             Err(fault) => {
-                settle(alloc, errors, hive.file, false, Err(fault));
+                settle(alloc, errors, hive.file, Err(fault));
                 false
             }
         },
         Err(fault) => {
-            settle(alloc, errors, hive.file, false, Err(fault));
+            settle(alloc, errors, hive.file, Err(fault));
             false
         }
     }
@@ -109,8 +110,8 @@ fn gather_files<H: Files, E: Sink>(
     errors: &mut E,
 ) -> bool
     requires { IsGathered timeline.old [] from to }
-    ensures gathered { result ≡ true → (trees : List KeyTree) × ReadsEach is_dirty (map (λ file. file.now) files.now) trees (E.contents errors.old) (E.contents errors.new)
-        (E.failures errors.old) (E.failures errors.new) × IsGathered timeline.new trees from to }
+    ensures gathered { result ≡ true → (trees : List KeyTree) × ReadsEach is_dirty (map (λ file. file.now) files.now) trees
+        (E.contents errors.old) (E.contents errors.new) (E.failures errors.old) (E.failures errors.new) × IsGathered timeline.new trees from to }
     ensures missed { result ≡ false → MissesOne is_dirty (map (λ file. file.now) files.now) (E.contents errors.old) (E.contents errors.new)
         (E.failures errors.old) (E.failures errors.new) }
 {
@@ -161,7 +162,8 @@ pub fn tell_timeline<H: Files, W: Output, E: Sink>(
     ensures tells { result ≡ 0 → TellsTimes is_dirty (map (λ file. file.now) files.now) from to form (W.contents output.old) (W.contents output.new)
         (E.contents errors.old) (E.contents errors.new) (E.failures errors.old) }
     ensures fails { result ≡ 1 → TimesFail is_dirty (map (λ file. file.now) files.now) from to form (W.closed output.new)
-        (W.contents output.old) (W.contents output.new) (E.contents errors.old) (E.contents errors.new) (E.failures errors.old) (E.failures errors.new) }
+        (W.contents output.old) (W.contents output.new) (E.contents errors.old) (E.contents errors.new) (E.failures errors.old)
+        (E.failures errors.new) }
 {
     let mut timeline = Timeline::new(alloc);
     if !gather_files(
@@ -177,5 +179,5 @@ pub fn tell_timeline<H: Files, W: Output, E: Sink>(
         return 1;
     }
     let done = write_timeline(timeline, form, files, output);
-    settle(alloc, errors, "", output.is_closed(), done)
+    settle_output(alloc, errors, output, "", done)
 }

@@ -43,28 +43,29 @@ no_type rows none c h = none_there _ h.0 none h.1
 
 -- ---- the change of a subcommand
 
-pub no_key : (rows : List Row) → first_of (codes "path") rows ≡ None → (path : List ℕ) → AsksForKey rows path → ⊥
-no_key rows none path h = none_there _ h.0 none h.1
+pub no_key : (name : Text) (rows : List Row) → first_of name rows ≡ None → (path : List ℕ) → AsksForKey name rows path → ⊥
+no_key name rows none path h = none_there _ h.0 none h.1
 
 pub no_name : (rows : List Row) → first_of (codes "value") rows ≡ None → (name : List ℕ) → AsksForName rows name → ⊥
 no_name rows none name h = none_there _ h.0 none h.1
 
 module _ (rows : List Row) where
-  pub no_create : ((path : List ℕ) → AsksForKey rows path → ⊥) → (change : KeyChange) → AsksToChange (codes "create", rows) change → ⊥
+  pub no_create : ((path : List ℕ) → AsksForKey (codes "path") rows path → ⊥) → (change : KeyChange) → AsksToChange (codes "create", rows) change → ⊥
   no_create never (CreateKey path makes_parents) h = never path.items h.1
   no_create never (SetValue path makes_parents name contents) h = apart (codes "create") (codes "set") refl refl h.0
   no_create never (DeleteValue path name) h = apart (codes "create") (codes "delete") refl refl h.0
   no_create never (DeleteKey path is_tree) h = apart (codes "create") (codes "delete") refl refl h.0
 
   -- one of what it needs wasn't given
-  pub no_set : ((path name : List ℕ) → (c : Contents) → AsksForKey rows path → AsksForName rows name →
+  pub no_set : ((path name : List ℕ) → (c : Contents) → AsksForKey (codes "path") rows path → AsksForName rows name →
       AsksForContents rows c.kind c.bytes.items → ⊥) → (change : KeyChange) → AsksToChange (codes "set", rows) change → ⊥
   no_set never (CreateKey path makes_parents) h = apart (codes "set") (codes "create") refl refl h.0
   no_set never (SetValue path makes_parents name contents) h = never path.items name.items contents h.1 h.2 h.3
   no_set never (DeleteValue path name) h = apart (codes "set") (codes "delete") refl refl h.0
   no_set never (DeleteKey path is_tree) h = apart (codes "set") (codes "delete") refl refl h.0
 
-  pub no_delete : ((path : List ℕ) → AsksForKey rows path → ⊥) → (change : KeyChange) → AsksToChange (codes "delete", rows) change → ⊥
+  pub no_delete : ((path : List ℕ) → AsksForKey (codes "path") rows path → ⊥) → (change : KeyChange) →
+      AsksToChange (codes "delete", rows) change → ⊥
   no_delete never (CreateKey path makes_parents) h = apart (codes "delete") (codes "create") refl refl h.0
   no_delete never (SetValue path makes_parents name contents) h = apart (codes "delete") (codes "set") refl refl h.0
   no_delete never (DeleteValue path name) h = never path.items h.1

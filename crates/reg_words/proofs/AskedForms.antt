@@ -4,15 +4,19 @@ use Rattle.std.specs.Prelude.{Option, Some, None, unwrap_or, ◌↔◌}
 use Rattle.std.proofs.lemmas.Option.{same_Some}
 use Rattle.clap.specs.Words.{Row, Text, all_of, first_of, one_of}
 use Rattle.reg_words.specs.StreamLines.{IsNumber, IsSet}
-use Rattle.reg_words.specs.CommandLines.{Asks, AsksForData, AsksForDifferences, AsksForMoment, AsksForTimeline, AsksToWait, ignored_asked, shell_word}
+use Rattle.reg_words.specs.CommandLines.{Asks, AsksForData, AsksForDifferences, AsksForForm, AsksForMoment, AsksForTimeline, AsksToWait}
+use Rattle.reg_words.specs.CommandLines.{ignored_asked, shell_word}
 use Rattle.reg_words.specs.Moments.{TellsMoment}
 use Rattle.reg_words.specs.Internal.Commands.{IsFound}
-use Rattle.reg_words.proofs.AskedWords.{none_there, other, other_change}
+use Rattle.reg_words.proofs.AskedWords.{none_there}
+use Rattle.reg_words.proofs.AskedNames.{other, other_change}
 use Rattle.reg_words.proofs.StreamWords.{other_stream, apart}
 use Rattle.reg_words.specs.declared.request.DataForm.{DataForm}
 use Rattle.reg_words.specs.declared.request.DataForm.TheVariants.{Told, Typed, Raw}
 use Rattle.reg_words.specs.declared.request.DiffForm.{DiffForm}
 use Rattle.reg_words.specs.declared.request.DiffForm.TheVariants.{Lines, Reg as ChangesText}
+use Rattle.reg_words.specs.declared.request.Form.{Form}
+use Rattle.reg_words.specs.declared.request.Form.TheVariants.{Reg, Json, JsonLines, Csv, Html}
 use Rattle.reg_words.specs.declared.request.Request.{Request}
 use Rattle.reg_words.specs.declared.request.Request.TheVariants.{Stream, Timeline, Change, Completions}
 use Rattle.reg_words.specs.declared.request.Shell.{Shell}
@@ -33,6 +37,41 @@ two_ways rows raw typed Told h = h.0 raw
 two_ways rows raw typed Typed h = h.0 raw
 two_ways rows raw typed Raw h = h.1 typed
 
+-- ---- forms of an export
+
+pub no_name : (rows : List Row) → first_of (codes "as") rows ≡ None → (form : Form) → AsksForForm rows form → ⊥
+no_name rows e (Reg is_utf8 prefix) h = none_there _ (codes "reg") e h.0
+no_name rows e Json h = none_there _ (codes "json") e h.0
+no_name rows e JsonLines h = none_there _ (codes "jsonl") e h.0
+no_name rows e Csv h = none_there _ (codes "csv") e h.0
+no_name rows e Html h = none_there _ (codes "html") e h.0
+
+module _ (rows : List Row) (name : Text) (e : first_of (codes "as") rows ≡ Some name) (table : name ≡ codes "reg" → ⊥) where
+  -- the name of none
+  pub other_form : (name ≡ codes "json" → ⊥) → (name ≡ codes "jsonl" → ⊥) → (name ≡ codes "csv" → ⊥) → (name ≡ codes "html" → ⊥) →
+      (form : Form) → AsksForForm rows form → ⊥
+  other_form json lines csv html (Reg is_utf8 prefix) h = table (same_Some name (codes "reg") (sym e ∙ h.0))
+  other_form json lines csv html Json h = json (same_Some name (codes "json") (sym e ∙ h.0))
+  other_form json lines csv html JsonLines h = lines (same_Some name (codes "jsonl") (sym e ∙ h.0))
+  other_form json lines csv html Csv h = csv (same_Some name (codes "csv") (sym e ∙ h.0))
+  other_form json lines csv html Html h = html (same_Some name (codes "html") (sym e ∙ h.0))
+
+  -- an encoding that it doesn't have
+  pub no_encoding : IsSet (codes "utf8") rows → (form : Form) → AsksForForm rows form → ⊥
+  no_encoding set (Reg is_utf8 prefix) h = table (same_Some name (codes "reg") (sym e ∙ h.0))
+  no_encoding set Json h = h.2 set
+  no_encoding set JsonLines h = h.2 set
+  no_encoding set Csv h = h.2 set
+  no_encoding set Html h = h.2 set
+
+  -- a front that stands nowhere in it
+  pub no_front : (front : Text) → first_of (codes "prefix") rows ≡ Some front → (form : Form) → AsksForForm rows form → ⊥
+  no_front front some (Reg is_utf8 prefix) h = table (same_Some name (codes "reg") (sym e ∙ h.0))
+  no_front front some Json h = none_there _ front h.1 some
+  no_front front some JsonLines h = none_there _ front h.1 some
+  no_front front some Csv h = none_there _ front h.1 some
+  no_front front some Html h = none_there _ front h.1 some
+
 -- ---- what differs
 
 module _ (rows : List Row) where
@@ -41,6 +80,11 @@ module _ (rows : List Row) where
       AsksForDifferences rows form → ⊥
   no_lines none lacks (Lines path ignored) h = none_there _ ignored lacks h.2
   no_lines none lacks (ChangesText is_utf8) h = none_there _ (codes "reg") none h.0
+
+  -- lines in an encoding of a .reg text
+  pub no_encoded : first_of (codes "as") rows ≡ None → IsSet (codes "utf8") rows → (form : DiffForm) → AsksForDifferences rows form → ⊥
+  no_encoded none set (Lines path ignored) h = h.3 set
+  no_encoded none set (ChangesText is_utf8) h = none_there _ (codes "reg") none h.0
 
   -- a form of another name
   pub no_text : (name : Text) → first_of (codes "as") rows ≡ Some name → (name ≡ codes "reg" → ⊥) → (form : DiffForm) →
@@ -63,10 +107,10 @@ module _ (rows : List Row) where
       ⊎ (((from : ℕ) → AsksForMoment (codes "from") 0 rows from → ⊥)
       ⊎ ((to : ℕ) → AsksForMoment (codes "to") 18446744073709551615 rows to → ⊥)))) → (request : Request) →
       Asks (codes "timeline", rows) request → ⊥
-  no_timeline (inl e) (Timeline files is_dirty from to form) h = none_there _ (map (λ file. file.now) files.items) e h.1
-  no_timeline (inr (inl never)) (Timeline files is_dirty from to form) h = never form h.5
-  no_timeline (inr (inr (inl never))) (Timeline files is_dirty from to form) h = never from h.3
-  no_timeline (inr (inr (inr never))) (Timeline files is_dirty from to form) h = never to h.4
+  no_timeline (inl e) (Timeline timeline) h = none_there _ (map (λ file. file.now) timeline.files.items) e h.1
+  no_timeline (inr (inl never)) (Timeline timeline) h = never timeline.form h.5
+  no_timeline (inr (inr (inl never))) (Timeline timeline) h = never timeline.from h.3
+  no_timeline (inr (inr (inr never))) (Timeline timeline) h = never timeline.to h.4
   no_timeline e (Stream request) h = other_stream (codes "timeline", rows) (codes "timeline") request refl refl refl refl refl h
   no_timeline e (Change edit change) h = other_change (codes "timeline") rows edit change refl refl refl refl h
   no_timeline e request h = other (codes "timeline") rows request refl refl h
@@ -119,7 +163,8 @@ no_wait rows text some never seconds (inr given) =
 
 -- ---- shells
 
-pub no_shell : (rows : List Row) → first_of (codes "shell") rows ≡ None → (shell : Shell) → first_of (codes "shell") rows ≡ Some (shell_word shell) → ⊥
+pub no_shell : (rows : List Row) → first_of (codes "shell") rows ≡ None → (shell : Shell) → first_of (codes "shell") rows ≡ Some (shell_word shell) →
+    ⊥
 no_shell rows none shell h = none_there _ (shell_word shell) none h
 
 pub other_shell : (rows : List Row) (name : Text) → first_of (codes "shell") rows ≡ Some name → (name ≡ codes "bash" → ⊥) →

@@ -1,7 +1,8 @@
 -- Words that are command lines, with what they ask for, and words that are none.
 use Rattle.std.proofs.Common.{◌≡◌, [], ◌∷◌, arith, codes, refl, false}
 use Rattle.clap.proofs.OnLiterals.{clap_on_literals}
-use Rattle.reg_words.specs.CommandLines.{regtool, faults_in, found_in, HasBothOptions, IsCommandLine}
+use Rattle.reg_words.specs.CommandShapes.{regtool}
+use Rattle.reg_words.specs.CommandLines.{faults_in, found_in, HasBothOptions, IsCommandLine}
 use Rattle.reg_words.specs.declared.request.HiveCount.{HiveCount}
 use Rattle.reg_words.specs.declared.request.StreamRequest.TheVariants.{Run, Workers, Dump, Check}
 use Rattle.reg_words.specs.declared.request.Request.TheVariants.{Stream}
@@ -53,7 +54,7 @@ dump_asks = record { named = named (codes "regtool" ∷ codes "dump" ∷ []) ref
 
 check_asks : IsCommandLine (codes "regtool" ∷ codes "check" ∷ []) (Stream Check)
 unfolding faults_in found_in regtool clap_on_literals
-check_asks = record { named = named (codes "regtool" ∷ codes "check" ∷ []) refl; taken = refl; asks = (refl, refl, λ dirty. cc) }
+check_asks = record { named = named (codes "regtool" ∷ codes "check" ∷ []) refl; taken = refl; asks = (refl, refl, λ dirty. cc, λ verbose. cc) }
 
 another_command_is_none : is_none (faults_in (codes "regtool" ∷ codes "frob" ∷ [])) ≡ false
 unfolding faults_in regtool clap_on_literals

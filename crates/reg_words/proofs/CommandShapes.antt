@@ -12,11 +12,12 @@ use Rattle.clap.specs.declared.error.Error.{Error}
 use Rattle.clap.specs.declared.parser.matches.ArgMatches.{ArgMatches}
 use Rattle.clap.proofs.OnLiterals.{clap_on_literals}
 use Rattle.reg_words.specs.StreamLines.{GivesBoth}
-use Rattle.reg_words.specs.CommandLines.{regtool, faults_in, found_in, AsksIn, AsksNothing, HasBothOptions, IsCommandLine, IsNamed}
+use Rattle.reg_words.specs.CommandShapes.{regtool}
+use Rattle.reg_words.specs.CommandLines.{faults_in, found_in, AsksIn, AsksNothing, HasBothOptions, IsCommandLine, IsNamed}
 use Rattle.reg_words.specs.WordsFaults.{WantsMemory, TellsOptions}
 use Rattle.reg_words.specs.declared.fault.WordsFault.{WordsFault}
 use Rattle.reg_words.specs.declared.fault.WordsFault.TheVariants.{Unread}
-use Rattle.reg_words.proofs.AskedWords.{none_of_both}
+use Rattle.reg_words.proofs.AskedNothing.{none_of_both}
 use Rattle.reg_words.specs.Internal.Commands.{IsRule, IsCommand, IsFound}
 use Rattle.reg_words.specs.declared.request.Request.{Request}
 
@@ -153,7 +154,12 @@ named (program ∷ word ∷ more) taken = (
 pub asked_for : (words : List (List ℕ)) (found : Option (Text × List Row)) (asked : Option Request) (request : Request) →
     faults_in words ≡ [] → found ≡ found_in words → IsFound (AsksIn found) asked → asked ≡ Some request → IsCommandLine words request
 asked_for words found asked request taken is read e =
-    record { named = named words taken; taken = taken; asks = subst (λ (o : Option (Text × List Row)). AsksIn o request) is (subst (IsFound (AsksIn found)) e read) }
+    record {
+      named = named words taken;
+      taken = taken;
+      asks =
+          subst (λ (o : Option (Text × List Row)). AsksIn o request) is (subst (IsFound (AsksIn found)) e read);
+    }
 
 pub asked_for_none : (words : List (List ℕ)) (found : Option (Text × List Row)) (asked : Option Request) →
     found ≡ found_in words → IsFound (AsksIn found) asked → asked ≡ None → AsksNothing words

@@ -1,5 +1,8 @@
 pub mod AskedChanges
 pub mod AskedForms
+pub mod AskedNames
+pub mod AskedNothing
+pub mod AskedNumbers
 pub mod AskedWords
 pub mod CommandLineRows
 pub mod CommandShapes

@@ -1,5 +1,6 @@
 -- Places read part by part.
-use Rattle.std.proofs.Common.{◌≡◌, ℕ, ◌+◌, ◌<◌, ◌≤◌, ◌==◌, Bool, true, false, List, [], ◌∷◌, length, take, drop, refl, sym, ap, subst, ◌∙◌, cond, not, arith, suc}
+use Rattle.std.proofs.Common.{◌≡◌, ℕ, ◌+◌, ◌<◌, ◌≤◌, ◌==◌, Bool, true, false, List, [], ◌∷◌, length, take, drop, refl, sym, ap, subst, ◌∙◌, cond, not}
+use Rattle.std.proofs.Common.{arith, suc}
 use Rattle.std.specs.Prelude.{Option, Some, None, MatchOption, if◌then◌else◌, nat_lt, ◌||◌}
 use Rattle.std.proofs.lemmas.Bool.Decides.{nat_tests}
 use Rattle.std.specs.List.{position, position_or_len}
@@ -85,7 +86,8 @@ joined_more places place None = refl
 joined_more places place (Some others) = ap (λ (p : Places). Some p) (both_more places place others)
 
 -- a word more was read
-pub gathered : (text rest word behind cut : List ℕ) (places place new : Places) (got : Option Places) → places_in text ≡ joined places (places_in rest) →
+pub gathered : (text rest word behind cut : List ℕ) (places place new : Places) (got : Option Places) →
+    places_in text ≡ joined places (places_in rest) →
     parts_of rest ≡ word ∷ parts_of behind → got ≡ place_of word → got ≡ Some place → new ≡ both places place → cut ≡ behind →
     places_in text ≡ joined new (places_in cut)
 gathered text rest word behind cut places place new got so_far parts read is n e =

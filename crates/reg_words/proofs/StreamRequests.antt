@@ -9,7 +9,8 @@ use Rattle.reg_words.specs.CommandLines.{found_in, AsksToChange, Asks, AsksIn, A
 use Rattle.reg_words.specs.Internal.Commands.{stream_of}
 use Rattle.reg_words.specs.declared.request.StreamRequest.{StreamRequest}
 use Rattle.reg_words.specs.declared.request.Request.{Request}
-use Rattle.reg_words.specs.declared.request.Request.TheVariants.{Stream, Dump, Check, Listing, Get, Find, Diff, Export, Timeline, New, Edit, Import, Change, Manual, Completions, Version}
+use Rattle.reg_words.specs.declared.request.Request.TheVariants.{Stream, Dump, Check, Listing, Get, Find, Diff, Export, Timeline, New, Edit, Import}
+use Rattle.reg_words.specs.declared.request.Request.TheVariants.{Change, Copy, Manual, Completions, Version}
 use Rattle.reg_words.proofs.CommandShapes.{nothing_of_both}
 use Rattle.reg_words.proofs.StreamWords.{other_stream, dump_of_file, check_of_files}
 
@@ -25,18 +26,19 @@ pub of_files : (found : Text × List Row) (request : Request) (stream : StreamRe
     AsksOfStream found stream → ⊥
 of_files found (Stream other) stream e h asks = cc
 of_files found (Dump hive) stream e h asks = dump_of_file found hive.file.now stream h.0 h.1.0 asks
-of_files found (Check files is_dirty) stream e h asks = check_of_files found (map (λ file. file.now) files.items) stream h.0 h.1 asks
-of_files found (Listing hive path is_tree is_whole columns) stream e h asks = other_stream found (codes "ls") stream h.0 refl refl refl refl asks
-of_files found (Get hive path name form is_whole) stream e h asks = other_stream found (codes "get") stream h.0 refl refl refl refl asks
-of_files found (Find hive pattern ignores_case places) stream e h asks = other_stream found (codes "find") stream h.0 refl refl refl refl asks
+of_files found (Check files is_dirty is_verbose) stream e h asks = check_of_files found (map (λ file. file.now) files.items) stream h.0 h.1 asks
+of_files found (Listing list) stream e h asks = other_stream found (codes "ls") stream h.0 refl refl refl refl asks
+of_files found (Get value) stream e h asks = other_stream found (codes "get") stream h.0 refl refl refl refl asks
+of_files found (Find sought) stream e h asks = other_stream found (codes "find") stream h.0 refl refl refl refl asks
 of_files found (Diff old new is_dirty form) stream e h asks = other_stream found (codes "diff") stream h.0 refl refl refl refl asks
 of_files found (Export hive path form) stream e h asks = other_stream found (codes "export") stream h.0 refl refl refl refl asks
-of_files found (Timeline files is_dirty from to form) stream e h asks =
+of_files found (Timeline timeline) stream e h asks =
     other_stream found (codes "timeline") stream h.0 refl refl refl refl asks
 of_files found (New file name) stream e h asks = other_stream found (codes "new") stream h.0 refl refl refl refl asks
 of_files found (Edit edit keeps_going) stream e h asks = other_stream found (codes "edit") stream h.0 refl refl refl refl asks
 of_files found (Import edit text prefix tells_all) stream e h asks = other_stream found (codes "import") stream h.0 refl refl refl refl asks
 of_files found (Change edit change) stream e h asks = change_of_file found change stream h.1 asks
+of_files found (Copy edit source path into) stream e h asks = other_stream found (codes "copy") stream h.0 refl refl refl refl asks
 of_files found Manual stream e h asks = other_stream found (codes "manual") stream h refl refl refl refl asks
 of_files found (Completions shell) stream e h asks = other_stream found (codes "completions") stream h.0 refl refl refl refl asks
 of_files found Version stream e h asks = other_stream found (codes "version") stream h refl refl refl refl asks
@@ -60,17 +62,18 @@ asks_not_both words request line both = absurd (nothing_of_both words both reque
 stream_is : (request : Request) (stream : StreamRequest) → stream_of request ≡ Some stream → request ≡ Stream stream
 stream_is (Stream other) stream e = cc
 stream_is (Dump hive) stream e = cc
-stream_is (Check files is_dirty) stream e = cc
-stream_is (Listing hive path is_tree is_whole columns) stream e = cc
-stream_is (Get hive path name form is_whole) stream e = cc
-stream_is (Find hive pattern ignores_case places) stream e = cc
+stream_is (Check files is_dirty is_verbose) stream e = cc
+stream_is (Listing list) stream e = cc
+stream_is (Get value) stream e = cc
+stream_is (Find sought) stream e = cc
 stream_is (Diff old new is_dirty form) stream e = cc
 stream_is (Export hive path form) stream e = cc
-stream_is (Timeline files is_dirty from to form) stream e = cc
+stream_is (Timeline timeline) stream e = cc
 stream_is (New file name) stream e = cc
 stream_is (Edit edit keeps_going) stream e = cc
 stream_is (Import edit text prefix tells_all) stream e = cc
 stream_is (Change edit change) stream e = cc
+stream_is (Copy edit source path into) stream e = cc
 stream_is Manual stream e = cc
 stream_is (Completions shell) stream e = cc
 stream_is Version stream e = cc

@@ -1,5 +1,5 @@
 -- What is asked of the standard streams.
-use Rattle.std.proofs.Common.{◌≡◌, ◌∙◌, List, ℕ, true, false, codes, sym, ap, refl, subst, bytes_eq}
+use Rattle.std.proofs.Common.{◌≡◌, ◌∙◌, List, ℕ, true, false, codes, sym, ap, refl, subst, bytes_eq, inl, inr, ◌⊎◌}
 use Rattle.std.specs.Prelude.{Some, None}
 use Rattle.std.proofs.lemmas.Option.{same_Some}
 use Rattle.clap.specs.Words.{Row, Text, all_of, first_of, one_of}
@@ -64,7 +64,7 @@ check_of_files found files (Workers count) is some h = same_name found (codes "c
 check_of_files found files Dump is some h = same_name found (codes "check") (codes "dump") is refl refl h.0
 check_of_files found files Check is some h = let bad : None ≡ Some files = sym h.1 ∙ some in cc
 
--- standard input that wasn't written to its end
+-- standard input that wasn't written to its end, or of which more is to be told
 pub no_dirty_dump : (rows : List Row) (request : StreamRequest) → IsSet (codes "dirty") rows → AsksOfStream (codes "dump", rows) request → ⊥
 no_dirty_dump rows Run dirty h = apart (codes "dump") (codes "run") refl refl h.0
 no_dirty_dump rows (Image sequence) dirty h = apart (codes "dump") (codes "run") refl refl h.0
@@ -72,12 +72,14 @@ no_dirty_dump rows (Workers count) dirty h = apart (codes "dump") (codes "run") 
 no_dirty_dump rows Dump dirty h = h.2 dirty
 no_dirty_dump rows Check dirty h = apart (codes "dump") (codes "check") refl refl h.0
 
-pub no_dirty_check : (rows : List Row) (request : StreamRequest) → IsSet (codes "dirty") rows → AsksOfStream (codes "check", rows) request → ⊥
-no_dirty_check rows Run dirty h = apart (codes "check") (codes "run") refl refl h.0
-no_dirty_check rows (Image sequence) dirty h = apart (codes "check") (codes "run") refl refl h.0
-no_dirty_check rows (Workers count) dirty h = apart (codes "check") (codes "run") refl refl h.0
-no_dirty_check rows Dump dirty h = apart (codes "check") (codes "dump") refl refl h.0
-no_dirty_check rows Check dirty h = h.2 dirty
+pub no_flagged_check : (rows : List Row) (request : StreamRequest) → (IsSet (codes "dirty") rows ⊎ IsSet (codes "verbose") rows) →
+    AsksOfStream (codes "check", rows) request → ⊥
+no_flagged_check rows Run set h = apart (codes "check") (codes "run") refl refl h.0
+no_flagged_check rows (Image sequence) set h = apart (codes "check") (codes "run") refl refl h.0
+no_flagged_check rows (Workers count) set h = apart (codes "check") (codes "run") refl refl h.0
+no_flagged_check rows Dump set h = apart (codes "check") (codes "dump") refl refl h.0
+no_flagged_check rows Check (inl dirty) h = h.2 dirty
+no_flagged_check rows Check (inr verbose) h = h.3 verbose
 
 -- an option that was given and wasn't
 given_too : (name : Text) (rows : List Row) (text : Text) → one_of name rows ≡ Some text → one_of name rows ≡ None → ⊥

@@ -1,5 +1,5 @@
 -- Texts appended piece by piece.
-use Rattle.std.proofs.Common.{◌≡◌, ◌∙◌, ℕ, ◌+◌, List, [], ◌∷◌, ◌++◌, sym, ap}
+use Rattle.std.proofs.Common.{◌≡◌, ◌∙◌, ℕ, List, [], ◌∷◌, ◌++◌, sym, ap}
 use Rattle.std.proofs.Common.{append_assoc, append-nil, chars}
 use Rattle.std.specs.Prelude.{flat_map, is_ok, Result, Ok, Err, OnOk, if◌then◌else◌}
 use Rattle.reg_words.specs.Settings.{character_in, text_in}

@@ -20,7 +20,8 @@ value_line path name = codes "delete value" ++ (name_part path ++ (name_part nam
 -- a value that is set
 abbrev pub set_line : (path name : List ℕ) → (kind : ℕ) → (bytes : List ℕ) → List ℕ
 set_line path name kind bytes =
-    codes "set value" ++ (name_part path ++ (name_part name ++ (codes " type " ++ (decimal kind ++ (codes " x" ++ (digits_text bytes ++ line_feed))))))
+    codes "set value" ++ (name_part path ++
+    (name_part name ++ (codes " type " ++ (decimal kind ++ (codes " x" ++ (digits_text bytes ++ line_feed))))))
 
 abbrev pub told : KeyChange → List ℕ
 told (CreateKey path makes_parents) = key_line (codes "create key") path.items

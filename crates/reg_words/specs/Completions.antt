@@ -10,7 +10,7 @@ use Rattle.clap.specs.declared.builder.command.Command.{Command}
 use Rattle.reg_words.specs.Manuals.{action_of}
 use Rattle.reg_words.specs.Settings.{words_of, text_in, name_of, about_of, arguments_of, commands_of}
 use Rattle.reg_words.specs.declared.settings.Setting.TheVariants as setting
-use Rattle.reg_words.specs.CommandLines.{regtool}
+use Rattle.reg_words.specs.CommandShapes.{regtool}
 use Rattle.reg_words.specs.Internal.Commands.{IsCommand}
 use Rattle.reg_words.specs.declared.request.Shell.{Shell}
 use Rattle.reg_words.specs.declared.request.Shell.TheVariants as shell

@@ -1,6 +1,7 @@
 pub mod ChangeLines
 pub mod ChangeWords
 pub mod StreamLines
+pub mod CommandShapes
 pub mod CommandLines
 pub mod WordsFaults
 pub mod Settings

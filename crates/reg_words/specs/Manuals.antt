@@ -7,7 +7,7 @@ use Rattle.clap.specs.declared.builder.action.ArgAction.{ArgAction}
 use Rattle.clap.specs.declared.builder.action.ArgAction.TheVariants.{Set, Append, SetTrue}
 use Rattle.clap.specs.declared.builder.arg.Arg.{Arg}
 use Rattle.clap.specs.declared.builder.command.Command.{Command}
-use Rattle.reg_words.specs.CommandLines.{regtool}
+use Rattle.reg_words.specs.CommandShapes.{regtool}
 use Rattle.reg_words.specs.Internal.Commands.{IsCommand}
 use Rattle.reg_words.specs.Settings.{words_of, text_in, name_of, about_of, arguments_of, commands_of}
 use Rattle.reg_words.specs.declared.settings.Setting.TheVariants.{Page}

@@ -1,4 +1,5 @@
--- Moments as they are typed: numbers of 100 ns since 1601, instants of RFC 3339 and dates of ISO 8601 as jiff reads them.
+-- Moments as they are typed (this project's own): numbers of 100 ns since 1601; else instants of RFC 3339, and dates, as jiff reads them. So a
+-- date without hyphens, `20220618`, is a number.
 use Rattle.std.specs.Prelude.{ℕ, ◌+◌, ◌*◌, ◌<◌, ◌≡◌, ◌⊎◌, ◌++◌, List, codes, pos, ℤ, ◌+ℤ◌, ◌≤ℤ◌, ◌<ℤ◌, Result, Ok, Err}
 use Rattle.std.specs.Str.Parse.{IsNumeral, digits_value, without_leading_plus}
 use Rattle.jiff.specs.Words.{parse_timestamp}

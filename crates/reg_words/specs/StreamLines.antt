@@ -37,7 +37,8 @@ GivesBoth None = ⊥
 
 -- what a subcommand with its matches asks for of the standard streams: `run` for the replies; or for the image with the sequence number
 -- that its one option gives; or for as many hives as its other option gives, and their sessions' replies; never for both. `dump` and
--- `check` ask for something where they name no file, and not for one that wasn't written to its end
+-- `check` ask for something where they name no file, and not for one that wasn't written to its end, nor for more of it than how many keys
+-- and values it has
 abbrev pub AsksOfStream : Text × List Row → StreamRequest → Type 0
 AsksOfStream found Run =
     (found.0 ≡ codes "run") × (one_of (codes "image") found.1 ≡ None) × (one_of (codes "workers") found.1 ≡ None)
@@ -48,4 +49,6 @@ AsksOfStream found (Workers count) =
     (found.0 ≡ codes "run") × (one_of (codes "image") found.1 ≡ None)
     × ((text : Text) × (one_of (codes "workers") found.1 ≡ Some text) × IsHiveCount text count.number)
 AsksOfStream found Dump = (found.0 ≡ codes "dump") × (first_of (codes "file") found.1 ≡ None) × (IsSet (codes "dirty") found.1 → ⊥)
-AsksOfStream found Check = (found.0 ≡ codes "check") × (all_of (codes "files") found.1 ≡ None) × (IsSet (codes "dirty") found.1 → ⊥)
+AsksOfStream found Check =
+    (found.0 ≡ codes "check") × (all_of (codes "files") found.1 ≡ None) × (IsSet (codes "dirty") found.1 → ⊥)
+    × (IsSet (codes "verbose") found.1 → ⊥)

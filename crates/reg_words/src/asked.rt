@@ -3,20 +3,21 @@
 ghost use Rattle.std.specs.Prelude.{◌≡◌, ◌≤◌, ◌↔◌, true, codes, Some, None, IfOk, MatchOption, map};
 ghost use Rattle.clap.specs.Words.{all_of, first_of, found_of, rows_of, subcommand_rows_of};
 ghost use Rattle.reg_words.specs.StreamLines.{IsGiven, IsSet, AreBothGiven, GivesBoth};
-ghost use Rattle.reg_words.specs.CommandLines.{AsksToBegin, AsksToEdit, AsksForForm, AsksForPlaces, AsksForHive, AsksForPath, AsksForValue, AsksForDifferences, AsksForMoment, AsksForTimeline, Asks, AsksIn};
+ghost use Rattle.reg_words.specs.CommandLines.{AsksToBegin, AsksToSave, AsksForPlaces, AsksForHive, AsksForPath, AsksForValue, AsksForDifferences};
+ghost use Rattle.reg_words.specs.CommandLines.{AsksForMoment, AsksForTimeline, Asks, AsksIn};
 ghost use Rattle.reg_words.specs.declared.request.Request.TheVariants.{Stream};
-ghost use Rattle.reg_words.specs.Internal.Commands.{IsFound};
+ghost use Rattle.reg_words.specs.Internal.Commands.{IsFound, IsNoQuery};
 
-use crate::changes::change_asked;
+use crate::changes::{change_asked, copy_asked};
 use crate::forms::{
-    columns_asked, data_asked, differences_asked, moment_asked, shell_asked, timeline_form,
-    wait_asked,
+    columns_asked, data_asked, differences_asked, form_asked, moment_asked, shell_asked,
+    timeline_form, wait_asked,
 };
 use crate::places::read_places;
 use crate::typed::{read_name, read_path};
 use crate::{
-    Begin, DiffForm, EditRequest, Form, HiveCount, HiveFile, Places, Request, StreamRequest,
-    TimelineForm,
+    Begin, DiffForm, EditRequest, FindRequest, GetRequest, HiveCount, HiveFile, ListRequest,
+    Places, Request, StreamRequest, TimelineForm, TimelineRequest,
 };
 use clap::ArgMatches;
 use std::alloc::{AllocError, Global};
@@ -96,7 +97,7 @@ fn run_asked<'a>(matches: &ArgMatches<'a>) -> Option<Request<'a>>
 }
 
 /// What is asked of a file that is only looked into; `None` where there is none.
-fn hive_asked<'a>(matches: &ArgMatches<'a>) -> Option<HiveFile<'a>>
+pub fn hive_asked<'a>(matches: &ArgMatches<'a>) -> Option<HiveFile<'a>>
     ensures { MatchOption result (first_of (codes "file") (rows_of (found_of matches.now)) ≡ None)
         (λ hive. AsksForHive (rows_of (found_of matches.now)) hive) }
 {
@@ -130,8 +131,19 @@ fn dump_asked<'a>(matches: &ArgMatches<'a>) -> Option<Request<'a>>
     }
 }
 
-/// What `check` is asked for: some files, or standard input where there are none; `None` where that is to be one that wasn't written to
-/// its end.
+/// What `check` is asked for of standard input; `None` where that is to be one that wasn't written to its end, or where more is to be told
+/// of it.
+fn check_of_stream<'a>(matches: &ArgMatches<'a>) -> Option<Request<'a>>
+    requires { all_of (codes "files") (rows_of (found_of matches.now)) ≡ None }
+    ensures { IsFound (Asks (codes "check", rows_of (found_of matches.now))) result }
+{
+    if is_set(matches, "verbose") {
+        return None;
+    }
+    stream_asked(StreamRequest::Check, matches)
+}
+
+/// What `check` is asked for: some files, or standard input where there are none; `None` where [`check_of_stream`] says so.
 fn check_asked<'a>(
     alloc: Global,
     matches: &ArgMatches<'a>,
@@ -145,9 +157,10 @@ fn check_asked<'a>(
             Ok(Some(Request::Check {
                 files: names,
                 is_dirty: is_set(matches, "dirty"),
+                is_verbose: is_set(matches, "verbose"),
             }))
         }
-        None => Ok(stream_asked(StreamRequest::Check, matches)),
+        None => Ok(check_of_stream(matches)),
     }
 }
 
@@ -189,10 +202,11 @@ pub fn begin_asked(matches: &ArgMatches<'_>) -> Option<Begin>
     }
 }
 
-/// What is asked of a file that is saved; `None` where it is to begin at two moments, or where its wait is none.
-fn edit_of<'a>(file: &'a str, matches: &ArgMatches<'a>) -> Option<EditRequest<'a>>
-    requires { first_of (codes "file") (rows_of (found_of matches.now)) ≡ Some file.now }
-    ensures { IsFound (AsksToEdit (rows_of (found_of matches.now))) result }
+/// What is asked of a file that is saved, which the word of some name tells; `None` where it is to begin at two moments, or where its wait
+/// is none.
+fn edit_of<'a>(word: &str, file: &'a str, matches: &ArgMatches<'a>) -> Option<EditRequest<'a>>
+    requires { first_of word.now (rows_of (found_of matches.now)) ≡ Some file.now }
+    ensures { IsFound (AsksToSave word.now (rows_of (found_of matches.now))) result }
 {
     let begin = begin_asked(matches)?;
     let wait = wait_asked(matches)?;
@@ -205,12 +219,12 @@ fn edit_of<'a>(file: &'a str, matches: &ArgMatches<'a>) -> Option<EditRequest<'a
     })
 }
 
-/// What is asked of the file that is to be saved; `None`, too, where there is none.
-pub fn edit_request<'a>(matches: &ArgMatches<'a>) -> Option<EditRequest<'a>>
-    ensures { IsFound (AsksToEdit (rows_of (found_of matches.now))) result }
+/// What is asked of the file that is to be saved, which the word of that name tells; `None`, too, where there is none.
+pub fn edit_request<'a>(word: &str, matches: &ArgMatches<'a>) -> Option<EditRequest<'a>>
+    ensures { IsFound (AsksToSave word.now (rows_of (found_of matches.now))) result }
 {
-    match matches.get_str("file") {
-        Some(file) => edit_of(file, matches),
+    match matches.get_str(word) {
+        Some(file) => edit_of(word, file, matches),
         None => None,
     }
 }
@@ -218,7 +232,7 @@ pub fn edit_request<'a>(matches: &ArgMatches<'a>) -> Option<EditRequest<'a>>
 fn edit_asked<'a>(matches: &ArgMatches<'a>) -> Option<Request<'a>>
     ensures { IsFound (Asks (codes "edit", rows_of (found_of matches.now))) result }
 {
-    match edit_request(matches) {
+    match edit_request("file", matches) {
         Some(edit) => Some(Request::Edit {
             edit,
             keeps_going: is_set(matches, "keep-going"),
@@ -230,7 +244,7 @@ fn edit_asked<'a>(matches: &ArgMatches<'a>) -> Option<Request<'a>>
 fn import_asked<'a>(matches: &ArgMatches<'a>) -> Option<Request<'a>>
     ensures { IsFound (Asks (codes "import", rows_of (found_of matches.now))) result }
 {
-    match edit_request(matches) {
+    match edit_request("file", matches) {
         Some(edit) => Some(Request::Import {
             edit,
             text: matches.get_str("text"),
@@ -268,12 +282,12 @@ fn find_of<'a>(
     ensures { IsFound (Asks (codes "find", rows_of (found_of matches.now))) result }
 {
     match places_asked(matches) {
-        Some(places) => Some(Request::Find {
+        Some(places) => Some(Request::Find(FindRequest {
             hive,
             pattern,
             ignores_case: is_set(matches, "ignore-case"),
             places,
-        }),
+        })),
         None => None,
     }
 }
@@ -356,13 +370,13 @@ fn timeline_from<'a>(
     ensures { IfOk result (λ request. IsFound (Asks (codes "timeline", rows_of (found_of matches.now))) request) }
 {
     match moment_asked(alloc, "to", u64::MAX, matches)? {
-        Some(to) => Ok(Some(Request::Timeline {
+        Some(to) => Ok(Some(Request::Timeline(TimelineRequest {
             files,
             is_dirty: is_set(matches, "dirty"),
             from,
             to,
             form,
-        })),
+        }))),
         None => Ok(None),
     }
 }
@@ -422,40 +436,6 @@ fn completions_asked<'a>(matches: &ArgMatches<'a>) -> Option<Request<'a>>
     }
 }
 
-/// The form of that name; `None` where there is none.
-fn form_of(name: &str, matches: &ArgMatches<'_>) -> Option<Form>
-    requires { first_of (codes "as") (rows_of (found_of matches.now)) ≡ Some name.now }
-    ensures { IsFound (AsksForForm (rows_of (found_of matches.now))) result }
-{
-    if name == "reg" {
-        let is_utf8 = is_set(matches, "utf8");
-        return Some(Form::Reg { is_utf8 });
-    }
-    if name == "json" {
-        return Some(Form::Json);
-    }
-    if name == "jsonl" {
-        return Some(Form::JsonLines);
-    }
-    if name == "csv" {
-        return Some(Form::Csv);
-    }
-    if name == "html" {
-        return Some(Form::Html);
-    }
-    None
-}
-
-/// The form that `export` is asked for; `None` where it has no name, or one of none.
-fn form_asked(matches: &ArgMatches<'_>) -> Option<Form>
-    ensures { IsFound (AsksForForm (rows_of (found_of matches.now))) result }
-{
-    match matches.get_str("as") {
-        Some(name) => form_of(name, matches),
-        None => None,
-    }
-}
-
 /// What `export` is asked for of a key of a file; `None` where the form is none.
 fn export_of<'a>(hive: HiveFile<'a>, path: Vec<u8>, matches: &ArgMatches<'a>) -> Option<Request<'a>>
     requires hive { AsksForHive (rows_of (found_of matches.now)) hive }
@@ -490,13 +470,13 @@ fn list_asked<'a>(
     ensures { IfOk result (λ request. IsFound (Asks (codes "ls", rows_of (found_of matches.now))) request) }
 {
     match hive_asked(matches) {
-        Some(hive) => Ok(Some(Request::Listing {
+        Some(hive) => Ok(Some(Request::Listing(ListRequest {
             hive,
             path: path_asked(alloc, matches)?,
             is_tree: is_set(matches, "tree"),
             is_whole: is_set(matches, "whole"),
             columns: columns_asked(matches),
-        })),
+        }))),
         None => Ok(None),
     }
 }
@@ -511,13 +491,13 @@ fn get_in<'a>(
     ensures { IfOk result (λ request. IsFound (Asks (codes "get", rows_of (found_of matches.now))) request) }
 {
     match data_asked(matches) {
-        Some(form) => Ok(Some(Request::Get {
+        Some(form) => Ok(Some(Request::Get(GetRequest {
             hive,
             path: path_asked(alloc, matches)?,
             name: value_asked(alloc, matches)?,
             form,
             is_whole: is_set(matches, "whole"),
-        })),
+        }))),
         None => Ok(None),
     }
 }
@@ -541,6 +521,39 @@ fn new_asked<'a>(matches: &ArgMatches<'a>) -> Option<Request<'a>>
         }),
         None => None,
     }
+}
+
+/// What a subcommand is asked for that neither works on the standard streams nor looks into a file; `None` where it is asked for nothing.
+fn other_asked<'a>(
+    alloc: Global,
+    name: &str,
+    matches: &ArgMatches<'a>,
+) -> Result<Option<Request<'a>>, AllocError>
+    requires { IsNoQuery name.now }
+    ensures { IfOk result (λ request. IsFound (Asks (name.now, rows_of (found_of matches.now))) request) }
+{
+    if name == "new" {
+        return Ok(new_asked(matches));
+    }
+    if name == "edit" {
+        return Ok(edit_asked(matches));
+    }
+    if name == "import" {
+        return Ok(import_asked(matches));
+    }
+    if name == "copy" {
+        return copy_asked(alloc, matches);
+    }
+    if name == "manual" {
+        return Ok(Some(Request::Manual));
+    }
+    if name == "completions" {
+        return Ok(completions_asked(matches));
+    }
+    if name == "version" {
+        return Ok(Some(Request::Version));
+    }
+    change_asked(alloc, name, matches)
 }
 
 /// What a subcommand is asked for; `None` where it is asked for nothing.
@@ -578,25 +591,7 @@ fn command_asked<'a>(
     if name == "timeline" {
         return timeline_asked(alloc, matches);
     }
-    if name == "new" {
-        return Ok(new_asked(matches));
-    }
-    if name == "edit" {
-        return Ok(edit_asked(matches));
-    }
-    if name == "import" {
-        return Ok(import_asked(matches));
-    }
-    if name == "manual" {
-        return Ok(Some(Request::Manual));
-    }
-    if name == "completions" {
-        return Ok(completions_asked(matches));
-    }
-    if name == "version" {
-        return Ok(Some(Request::Version));
-    }
-    change_asked(alloc, name, matches)
+    other_asked(alloc, name, matches)
 }
 
 /// What the whole command line is asked for.

@@ -1,22 +1,26 @@
-//! What the matches of a command that changes a key ask for.
+//! What the matches of a command that changes a key, or copies one, ask for.
 
 ghost use Rattle.std.specs.Prelude.{◌≡◌, codes, Some, None, IfOk, MatchOption};
 ghost use Rattle.clap.specs.Words.{first_of, found_of, rows_of};
-ghost use Rattle.reg_words.specs.CommandLines.{AsksForKey, AsksForName, AsksForContents, AsksToChange, Asks};
+ghost use Rattle.reg_words.specs.CommandLines.{AsksForHive, AsksForKey, AsksForName, AsksForContents, AsksToChange, AsksToSave, Asks};
 ghost use Rattle.reg_words.specs.Internal.Commands.{IsFound, IsOther};
 
-use crate::Request;
-use crate::asked::{edit_request, is_set};
+use crate::asked::{edit_request, hive_asked, is_set};
 use crate::typed::{Contents, KeyChange, read_name, read_path, read_value};
+use crate::{EditRequest, HiveFile, Request};
 use clap::ArgMatches;
 use std::alloc::{AllocError, Global};
 
-/// The path of the key that is changed; `None` where there is none, which `clap` doesn't take.
-fn path_asked(alloc: Global, matches: &ArgMatches<'_>) -> Result<Option<Vec<u8>>, AllocError>
-    ensures { IfOk result (λ path. MatchOption path (first_of (codes "path") (rows_of (found_of matches.now)) ≡ None)
-        (λ bytes. AsksForKey (rows_of (found_of matches.now)) bytes.items)) }
+/// The path of a key, which the word of that name tells; `None` where there is none, which `clap` doesn't take.
+fn path_asked(
+    alloc: Global,
+    name: &str,
+    matches: &ArgMatches<'_>,
+) -> Result<Option<Vec<u8>>, AllocError>
+    ensures { IfOk result (λ path. MatchOption path (first_of name.now (rows_of (found_of matches.now)) ≡ None)
+        (λ bytes. AsksForKey name.now (rows_of (found_of matches.now)) bytes.items)) }
 {
-    match matches.get_str("path") {
+    match matches.get_str(name) {
         Some(word) => Ok(Some(read_path(alloc, word, is_set(matches, "slash"))?)),
         None => Ok(None),
     }
@@ -62,7 +66,7 @@ fn contents_asked(alloc: Global, matches: &ArgMatches<'_>) -> Result<Option<Cont
 fn create_asked(alloc: Global, matches: &ArgMatches<'_>) -> Result<Option<KeyChange>, AllocError>
     ensures { IfOk result (λ change. IsFound (AsksToChange (codes "create", rows_of (found_of matches.now))) change) }
 {
-    match path_asked(alloc, matches)? {
+    match path_asked(alloc, "path", matches)? {
         Some(path) => Ok(Some(KeyChange::CreateKey {
             path,
             makes_parents: is_set(matches, "parents"),
@@ -78,7 +82,7 @@ fn set_of(
     name: Vec<u8>,
     matches: &ArgMatches<'_>,
 ) -> Result<Option<KeyChange>, AllocError>
-    requires path { AsksForKey (rows_of (found_of matches.now)) path.items }
+    requires path { AsksForKey (codes "path") (rows_of (found_of matches.now)) path.items }
     requires name { AsksForName (rows_of (found_of matches.now)) name.items }
     ensures { IfOk result (λ change. IsFound (AsksToChange (codes "set", rows_of (found_of matches.now))) change) }
 {
@@ -99,7 +103,7 @@ fn set_in(
     path: Vec<u8>,
     matches: &ArgMatches<'_>,
 ) -> Result<Option<KeyChange>, AllocError>
-    requires { AsksForKey (rows_of (found_of matches.now)) path.items }
+    requires { AsksForKey (codes "path") (rows_of (found_of matches.now)) path.items }
     ensures { IfOk result (λ change. IsFound (AsksToChange (codes "set", rows_of (found_of matches.now))) change) }
 {
     match name_asked(alloc, matches)? {
@@ -112,7 +116,7 @@ fn set_in(
 fn set_asked(alloc: Global, matches: &ArgMatches<'_>) -> Result<Option<KeyChange>, AllocError>
     ensures { IfOk result (λ change. IsFound (AsksToChange (codes "set", rows_of (found_of matches.now))) change) }
 {
-    match path_asked(alloc, matches)? {
+    match path_asked(alloc, "path", matches)? {
         Some(path) => set_in(alloc, path, matches),
         None => Ok(None),
     }
@@ -120,7 +124,7 @@ fn set_asked(alloc: Global, matches: &ArgMatches<'_>) -> Result<Option<KeyChange
 
 /// The change that `delete` asks for of a key and maybe a value; `None` where it is a value, with all keys below it.
 fn delete_of(path: Vec<u8>, name: Option<Vec<u8>>, matches: &ArgMatches<'_>) -> Option<KeyChange>
-    requires path { AsksForKey (rows_of (found_of matches.now)) path.items }
+    requires path { AsksForKey (codes "path") (rows_of (found_of matches.now)) path.items }
     requires name { MatchOption name (first_of (codes "value") (rows_of (found_of matches.now)) ≡ None)
         (λ bytes. AsksForName (rows_of (found_of matches.now)) bytes.items) }
     ensures { IsFound (AsksToChange (codes "delete", rows_of (found_of matches.now))) result }
@@ -141,7 +145,7 @@ fn delete_of(path: Vec<u8>, name: Option<Vec<u8>>, matches: &ArgMatches<'_>) -> 
 fn delete_asked(alloc: Global, matches: &ArgMatches<'_>) -> Result<Option<KeyChange>, AllocError>
     ensures { IfOk result (λ change. IsFound (AsksToChange (codes "delete", rows_of (found_of matches.now))) change) }
 {
-    match path_asked(alloc, matches)? {
+    match path_asked(alloc, "path", matches)? {
         Some(path) => {
             let name = name_asked(alloc, matches)?;
             Ok(delete_of(path, name, matches))
@@ -176,7 +180,7 @@ fn change_of<'a>(name: &str, change: KeyChange, matches: &ArgMatches<'a>) -> Opt
     requires change { AsksToChange (name.now, rows_of (found_of matches.now)) change }
     ensures { IsFound (Asks (name.now, rows_of (found_of matches.now))) result }
 {
-    match edit_request(matches) {
+    match edit_request("file", matches) {
         Some(edit) => Some(Request::Change { edit, change }),
         None => None,
     }
@@ -193,6 +197,76 @@ pub fn change_asked<'a>(
 {
     match key_change(alloc, name, matches)? {
         Some(change) => Ok(change_of(name, change, matches)),
+        None => Ok(None),
+    }
+}
+
+/// What `copy` is asked for of a key of a file, and of the file that is saved; `None` where it names no key there, which `clap` doesn't
+/// take.
+fn copy_of<'a>(
+    alloc: Global,
+    source: HiveFile<'a>,
+    edit: EditRequest<'a>,
+    path: Vec<u8>,
+    matches: &ArgMatches<'a>,
+) -> Result<Option<Request<'a>>, AllocError>
+    requires source { AsksForHive (rows_of (found_of matches.now)) source }
+    requires edit { AsksToSave (codes "to-file") (rows_of (found_of matches.now)) edit }
+    requires path { AsksForKey (codes "path") (rows_of (found_of matches.now)) path.items }
+    ensures { IfOk result (λ request. IsFound (Asks (codes "copy", rows_of (found_of matches.now))) request) }
+{
+    match path_asked(alloc, "to-path", matches)? {
+        Some(into) => Ok(Some(Request::Copy {
+            edit,
+            source,
+            path,
+            into,
+        })),
+        None => Ok(None),
+    }
+}
+
+/// What `copy` is asked for of a file, and of the one that is saved; `None`, too, where it names no key of the first.
+fn copy_in<'a>(
+    alloc: Global,
+    source: HiveFile<'a>,
+    edit: EditRequest<'a>,
+    matches: &ArgMatches<'a>,
+) -> Result<Option<Request<'a>>, AllocError>
+    requires source { AsksForHive (rows_of (found_of matches.now)) source }
+    requires edit { AsksToSave (codes "to-file") (rows_of (found_of matches.now)) edit }
+    ensures { IfOk result (λ request. IsFound (Asks (codes "copy", rows_of (found_of matches.now))) request) }
+{
+    match path_asked(alloc, "path", matches)? {
+        Some(path) => copy_of(alloc, source, edit, path, matches),
+        None => Ok(None),
+    }
+}
+
+/// What `copy` is asked for of a file; `None`, too, where no other one is saved, or where that is to begin at two moments.
+fn copy_from<'a>(
+    alloc: Global,
+    source: HiveFile<'a>,
+    matches: &ArgMatches<'a>,
+) -> Result<Option<Request<'a>>, AllocError>
+    requires { AsksForHive (rows_of (found_of matches.now)) source }
+    ensures { IfOk result (λ request. IsFound (Asks (codes "copy", rows_of (found_of matches.now))) request) }
+{
+    match edit_request("to-file", matches) {
+        Some(edit) => copy_in(alloc, source, edit, matches),
+        None => Ok(None),
+    }
+}
+
+/// What `copy` is asked for; `None` where [`copy_from`] says so, or where it names no file.
+pub fn copy_asked<'a>(
+    alloc: Global,
+    matches: &ArgMatches<'a>,
+) -> Result<Option<Request<'a>>, AllocError>
+    ensures { IfOk result (λ request. IsFound (Asks (codes "copy", rows_of (found_of matches.now))) request) }
+{
+    match hive_asked(matches) {
+        Some(source) => copy_from(alloc, source, matches),
         None => Ok(None),
     }
 }

@@ -1,19 +1,22 @@
 //! `clap`'s command, of which a command line is read.
 
 ghost use Rattle.std.specs.Prelude.{◌≡◌, IfOk, Ok, codes, true, false};
-ghost use Rattle.clap.specs.Words.{AddsSubcommand, new_app, with_rule};
+ghost use Rattle.clap.specs.Words.{AddsSubcommand, App, new_app, with_rule};
 ghost use Rattle.clap.specs.declared.builder.command.Command.{Command as AnyCommand};
-ghost use Rattle.reg_words.specs.CommandLines.{option_rule, required_rule, flag_rule, short_rule, place_rule, file_rule, files_rule, hives_rule, data_rule, at_rule, wait_rule, image_rule, workers_rule, case_rule, dirty_rule};
-ghost use Rattle.reg_words.specs.CommandLines.{looking_command as looking_shape, keyed_command as keyed_shape, import_command as import_shape};
-ghost use Rattle.reg_words.specs.CommandLines.{run_command as run_shape, edit_command as edit_shape};
-ghost use Rattle.reg_words.specs.CommandLines.{dump_command as dump_shape, check_command as check_shape, list_command as list_shape};
-ghost use Rattle.reg_words.specs.CommandLines.{get_command as get_shape, find_command as find_shape, diff_command as diff_shape};
-ghost use Rattle.reg_words.specs.CommandLines.{export_command as export_shape, new_command as new_shape, saving_command as saving_shape};
-ghost use Rattle.reg_words.specs.CommandLines.{listing_command as listing_shape, comparing_command as comparing_shape, timeline_command as timeline_shape};
-ghost use Rattle.reg_words.specs.CommandLines.{completions_command as completions_shape, changing_commands as changed_shape};
-ghost use Rattle.reg_words.specs.CommandLines.{changing_command as changing_shape, set_command as set_shape, create_command as create_shape};
-ghost use Rattle.reg_words.specs.CommandLines.{delete_command as delete_shape, stream_commands as stream_shape, query_commands as query_shape};
-ghost use Rattle.reg_words.specs.CommandLines.{saving_commands as saved_shape, regtool as regtool_shape};
+ghost use Rattle.reg_words.specs.CommandShapes.{option_rule, required_rule, flag_rule, short_rule, place_rule, file_rule, files_rule, hives_rule};
+ghost use Rattle.reg_words.specs.CommandShapes.{data_rule, at_rule, wait_rule, image_rule, workers_rule, case_rule, dirty_rule};
+ghost use Rattle.reg_words.specs.CommandShapes.{looking_command as looking_shape, keyed_command as keyed_shape, import_command as import_shape};
+ghost use Rattle.reg_words.specs.CommandShapes.{run_command as run_shape, edit_command as edit_shape};
+ghost use Rattle.reg_words.specs.CommandShapes.{dump_command as dump_shape, check_command as check_shape, list_command as list_shape};
+ghost use Rattle.reg_words.specs.CommandShapes.{get_command as get_shape, find_command as find_shape, diff_command as diff_shape};
+ghost use Rattle.reg_words.specs.CommandShapes.{export_command as export_shape, new_command as new_shape, saving_command as saving_shape};
+ghost use Rattle.reg_words.specs.CommandShapes.{listing_command as listing_shape, comparing_command as comparing_shape};
+ghost use Rattle.reg_words.specs.CommandShapes.{timeline_command as timeline_shape};
+ghost use Rattle.reg_words.specs.CommandShapes.{completions_command as completions_shape, changing_commands as changed_shape};
+ghost use Rattle.reg_words.specs.CommandShapes.{changing_command as changing_shape, set_command as set_shape, create_command as create_shape};
+ghost use Rattle.reg_words.specs.CommandShapes.{saving_options as saving_rules, copied_command as copied_shape, copy_command as copy_shape};
+ghost use Rattle.reg_words.specs.CommandShapes.{delete_command as delete_shape, stream_commands as stream_shape, query_commands as query_shape};
+ghost use Rattle.reg_words.specs.CommandShapes.{saving_commands as saved_shape, regtool as regtool_shape};
 ghost use Rattle.reg_words.specs.Internal.Commands.{IsRule, IsCommand};
 
 use clap::{Arg, ArgAction, Command};
@@ -192,6 +195,12 @@ fn long_arg<'a>(alloc: Global) -> Arg<'a>
     flag_arg(alloc, "long", "Tell the data of values, too").short('l')
 }
 
+fn verbose_arg<'a>(alloc: Global) -> Arg<'a>
+    ensures { IsRule (short_rule (codes "verbose") 118) result }
+{
+    flag_arg(alloc, "verbose", "Tell more of each file").short('v')
+}
+
 /// A command without arguments.
 fn bare_command<'a>(alloc: Global, name: &'a str, about: &'a str) -> Command<'a>
     ensures { IsCommand (new_app name.now) result }
@@ -249,7 +258,8 @@ fn check_command<'a>(alloc: Global) -> Result<Command<'a>, AllocError>
 {
     bare_command(alloc, "check", "Loads hives and counts their keys")
         .arg(files_arg(alloc))?
-        .arg(dirty_arg(alloc))
+        .arg(dirty_arg(alloc))?
+        .arg(verbose_arg(alloc))
 }
 
 /// A command that looks into a file, with its file.
@@ -333,21 +343,20 @@ fn new_command<'a>(alloc: Global) -> Result<Command<'a>, AllocError>
     ))
 }
 
-/// A command that saves a file, with that and where to save it.
-fn output_command<'a>(
-    alloc: Global,
-    name: &'a str,
-    about: &'a str,
-) -> Result<Command<'a>, AllocError>
-    ensures { IfOk result (λ command. IsCommand
-        (with_rule (with_rule (new_app name.now) (file_rule true)) (option_rule (codes "output"))) command) }
+/// Adds the options of a command that saves a file.
+fn with_saving_options<'a>(alloc: Global, command: Command<'a>) -> Result<Command<'a>, AllocError>
+    ensures { (app : App) → IsCommand app command.entry → IfOk result (λ whole. IsCommand (saving_rules app) whole) }
 {
-    file_command(alloc, name, about, "The hive, which is saved in place")?.arg(option_arg(
-        alloc,
-        "output",
-        "FILE",
-        "Save in this new file instead",
-    ))
+    command
+        .arg(option_arg(alloc, "output", "FILE", "Save in this new file instead"))?
+        .arg(flag_arg(
+            alloc,
+            "now",
+            "Begin at the moment of the clock, as without --at",
+        ))?
+        .arg(at_arg(alloc))?
+        .arg(flag_arg(alloc, "dry-run", "Save nothing"))?
+        .arg(wait_arg(alloc))
 }
 
 /// A command that saves a file, with all that edits and imports have in common.
@@ -358,15 +367,8 @@ fn saving_command<'a>(
 ) -> Result<Command<'a>, AllocError>
     ensures { IfOk result (λ command. IsCommand (saving_shape name.now) command) }
 {
-    output_command(alloc, name, about)?
-        .arg(flag_arg(
-            alloc,
-            "now",
-            "Begin at the moment of the clock, as without --at",
-        ))?
-        .arg(at_arg(alloc))?
-        .arg(flag_arg(alloc, "dry-run", "Save nothing"))?
-        .arg(wait_arg(alloc))
+    let command = file_command(alloc, name, about, "The hive, which is saved in place")?;
+    with_saving_options(alloc, command)
 }
 
 fn edit_command<'a>(alloc: Global) -> Result<Command<'a>, AllocError>
@@ -501,7 +503,13 @@ fn export_command<'a>(alloc: Global) -> Result<Command<'a>, AllocError>
         "FORM",
         "The form of the text: reg, json, jsonl, csv or html",
     ))?
-    .arg(flag_arg(alloc, "utf8", "Write a .reg text in UTF-8"))
+    .arg(flag_arg(alloc, "utf8", "Write a .reg text in UTF-8"))?
+    .arg(option_arg(
+        alloc,
+        "prefix",
+        "FRONT",
+        "What stands in a .reg text for the hive's root, its name where none is given",
+    ))
 }
 
 /// A command that changes a key, with its file and its path.
@@ -582,6 +590,39 @@ fn delete_command<'a>(alloc: Global) -> Result<Command<'a>, AllocError>
     .arg(flag_arg(alloc, "tree", "Take all keys below it away, too"))
 }
 
+/// `copy`, without the options of a command that saves a file.
+fn copied_command<'a>(alloc: Global) -> Result<Command<'a>, AllocError>
+    ensures { IfOk result (λ command. IsCommand copied_shape command) }
+{
+    keyed_command(
+        alloc,
+        "copy",
+        "Copies a key with all below it to another hive, and saves that",
+        true,
+    )?
+    .arg(place_arg(
+        alloc,
+        "to-file",
+        true,
+        "TO-FILE",
+        "The hive to copy to, which is saved in place",
+    ))?
+    .arg(place_arg(
+        alloc,
+        "to-path",
+        true,
+        "TO-PATH",
+        "The key there, right below which the copy stands, as it is typed",
+    ))
+}
+
+fn copy_command<'a>(alloc: Global) -> Result<Command<'a>, AllocError>
+    ensures { IfOk result (λ command. IsCommand copy_shape command) }
+{
+    let command = copied_command(alloc)?;
+    with_saving_options(alloc, command)
+}
+
 fn completions_command<'a>(alloc: Global) -> Result<Command<'a>, AllocError>
     ensures { IfOk result (λ command. IsCommand completions_shape command) }
 {
@@ -643,7 +684,8 @@ fn changing_commands<'a>(alloc: Global) -> Result<Command<'a>, AllocError>
 {
     let setting = with_made(saving_commands(alloc)?, set_command(alloc))?;
     let creating = with_made(setting, create_command(alloc))?;
-    with_made(creating, delete_command(alloc))
+    let deleting = with_made(creating, delete_command(alloc))?;
+    with_made(deleting, copy_command(alloc))
 }
 
 /// The whole command.

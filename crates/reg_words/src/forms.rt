@@ -1,16 +1,18 @@
 //! In which form something is asked for, as the matches of a command line tell it.
 
-ghost use Rattle.std.specs.Prelude.{◌≡◌, codes, Some, IfOk, MatchOption, string_bytes};
+ghost use Rattle.std.specs.Prelude.{◌≡◌, codes, None, Some, IfOk, MatchOption, string_bytes};
 ghost use Rattle.clap.specs.Words.{first_of, found_of, rows_of};
 ghost use Rattle.reg_words.specs.FieldLists.{ignored_in};
-ghost use Rattle.reg_words.specs.CommandLines.{AsksForColumns, AsksForData, AsksForPath, AsksForDifferences, AsksForTimeline, ignored_asked};
+ghost use Rattle.reg_words.specs.StreamLines.{IsSet};
+ghost use Rattle.reg_words.specs.CommandLines.{AsksForColumns, AsksForData, AsksForForm, AsksForPath, AsksForDifferences, AsksForTimeline};
+ghost use Rattle.reg_words.specs.CommandLines.{ignored_asked};
 ghost use Rattle.reg_words.specs.CommandLines.{AsksForMoment, AsksToWait, shell_word};
 ghost use Rattle.reg_words.specs.Internal.Commands.{IsFound};
 
 use crate::asked::{is_set, path_asked};
 use crate::fields::{NOTHING, read_ignored};
 use crate::moments::read_moment;
-use crate::{Columns, DataForm, DiffForm, Ignored, Shell, TimelineForm};
+use crate::{Columns, DataForm, DiffForm, Form, Ignored, Shell, TimelineForm};
 use clap::ArgMatches;
 use std::alloc::{AllocError, Global};
 
@@ -38,6 +40,69 @@ pub fn data_asked(matches: &ArgMatches<'_>) -> Option<DataForm>
         return Some(DataForm::Raw);
     }
     Some(DataForm::Told)
+}
+
+/// The form of that name, which is no .reg text, where neither a front nor an encoding is given; `None` where there is none.
+fn table_of<'a>(name: &str, matches: &ArgMatches<'a>) -> Option<Form<'a>>
+    requires form { first_of (codes "as") (rows_of (found_of matches.now)) ≡ Some name.now }
+    requires table { name.now ≡ codes "reg" → ⊥ }
+    requires plain { first_of (codes "prefix") (rows_of (found_of matches.now)) ≡ None }
+    requires encoded { IsSet (codes "utf8") (rows_of (found_of matches.now)) → ⊥ }
+    ensures { IsFound (AsksForForm (rows_of (found_of matches.now))) result }
+{
+    if name == "json" {
+        return Some(Form::Json);
+    }
+    if name == "jsonl" {
+        return Some(Form::JsonLines);
+    }
+    if name == "csv" {
+        return Some(Form::Csv);
+    }
+    if name == "html" {
+        return Some(Form::Html);
+    }
+    None
+}
+
+/// The form of that name, which is no .reg text; `None` where there is none, or where a front or an encoding is given, which such texts
+/// alone have.
+fn table_asked<'a>(name: &str, matches: &ArgMatches<'a>) -> Option<Form<'a>>
+    requires form { first_of (codes "as") (rows_of (found_of matches.now)) ≡ Some name.now }
+    requires table { name.now ≡ codes "reg" → ⊥ }
+    ensures { IsFound (AsksForForm (rows_of (found_of matches.now))) result }
+{
+    let is_encoded = is_set(matches, "utf8");
+    if is_encoded {
+        return None;
+    }
+    match matches.get_str("prefix") {
+        Some(_) => None,
+        None => table_of(name, matches),
+    }
+}
+
+/// The form of that name; `None` where [`table_asked`] says so.
+fn form_of<'a>(name: &str, matches: &ArgMatches<'a>) -> Option<Form<'a>>
+    requires { first_of (codes "as") (rows_of (found_of matches.now)) ≡ Some name.now }
+    ensures { IsFound (AsksForForm (rows_of (found_of matches.now))) result }
+{
+    if name == "reg" {
+        let is_utf8 = is_set(matches, "utf8");
+        let prefix = matches.get_str("prefix");
+        return Some(Form::Reg { is_utf8, prefix });
+    }
+    table_asked(name, matches)
+}
+
+/// The form that `export` is asked for; `None` where it has no name, or one of none, or where [`table_asked`] says so.
+pub fn form_asked<'a>(matches: &ArgMatches<'a>) -> Option<Form<'a>>
+    ensures { IsFound (AsksForForm (rows_of (found_of matches.now))) result }
+{
+    match matches.get_str("as") {
+        Some(name) => form_of(name, matches),
+        None => None,
+    }
 }
 
 /// What `diff` passes over; `None` where what is said names something else.
@@ -86,11 +151,15 @@ fn text_asked(name: &str, matches: &ArgMatches<'_>) -> Option<DiffForm>
     None
 }
 
-/// The lines that `diff` is asked for; `None` where what it passes over isn't understood.
+/// The lines that `diff` is asked for; `None` where what it passes over isn't understood, or where they are to be in UTF-8, which .reg
+/// texts alone are asked to be in.
 fn lines_asked(alloc: Global, matches: &ArgMatches<'_>) -> Result<Option<DiffForm>, AllocError>
     requires { first_of (codes "as") (rows_of (found_of matches.now)) ≡ None }
     ensures { IfOk result (λ form. IsFound (AsksForDifferences (rows_of (found_of matches.now))) form) }
 {
+    if is_set(matches, "utf8") {
+        return Ok(None);
+    }
     match ignored_of(matches) {
         Some(ignored) => Ok(Some(DiffForm::Lines {
             path: path_asked(alloc, matches)?,

@@ -3,9 +3,9 @@
 //! Its contract: [`read_words`] tells of words exactly what they ask for, as `specs/CommandLines.antt` says it by `clap`'s own
 //! words, or that they ask for nothing, with the cause ([`WordsFault`]); [`read_stream_words`] does so for what is asked of the standard
 //! streams alone; [`told`] is just the line that tells a change, as `specs/ChangeLines.antt` has it. It stands on `clap`, and on reg_text,
-//! which writes names and data. Its types are [`Request`] and what that holds: [`StreamRequest`] with [`HiveCount`], [`EditRequest`] with
-//! [`Begin`], [`HiveFile`], [`KeyChange`] with [`Contents`], [`Places`], [`Form`], [`Columns`], [`DataForm`], [`DiffForm`] with [`Ignored`],
-//! [`TimelineForm`] and [`Shell`].
+//! which writes names and data. Its types are [`Request`] and what that holds: [`StreamRequest`] with [`HiveCount`], [`HiveFile`],
+//! [`ListRequest`] with [`Columns`], [`GetRequest`] with [`DataForm`], [`FindRequest`] with [`Places`], [`DiffForm`] with [`Ignored`],
+//! [`Form`], [`TimelineRequest`] with [`TimelineForm`], [`EditRequest`] with [`Begin`], [`KeyChange`] with [`Contents`], and [`Shell`].
 //!
 //! `command` is the command as `clap` reads it; `asked`, `forms` and `changes` say what its matches ask for, `places` reads where a pattern is
 //! searched for, `fields` what `diff` passes over, `moments` a moment, `typed` a change, and `reasons` says which word isn't understood.
@@ -28,7 +28,8 @@ mod typed;
 
 ghost use Rattle.std.specs.Prelude.{◌≡◌, IfOk, IfErr};
 ghost use Rattle.clap.specs.Words.{app_of};
-ghost use Rattle.reg_words.specs.CommandLines.{texts, AsksNothing, AsksNoStream, IsCommandLine, regtool};
+ghost use Rattle.reg_words.specs.CommandShapes.{regtool};
+ghost use Rattle.reg_words.specs.CommandLines.{texts, AsksNothing, AsksNoStream, IsCommandLine};
 ghost use Rattle.reg_words.specs.WordsFaults.{WantsMemory, TellsOptions};
 ghost use Rattle.reg_words.specs.declared.request.Request.TheVariants.{Stream};
 ghost use Rattle.reg_words.specs.Internal.Commands.{stream_of as stream_asked};
@@ -41,8 +42,9 @@ use clap::{ArgMatches, Command, Error};
 pub use fault::WordsFault;
 pub use page::manual;
 pub use request::{
-    Begin, Columns, DataForm, DiffForm, EditRequest, Form, HiveCount, HiveFile, Ignored, Places,
-    Request, Shell, StreamRequest, TimelineForm,
+    Begin, Columns, DataForm, DiffForm, EditRequest, FindRequest, Form, GetRequest, HiveCount,
+    HiveFile, Ignored, ListRequest, Places, Request, Shell, StreamRequest, TimelineForm,
+    TimelineRequest,
 };
 pub use scripts::completions;
 use std::alloc::Global;

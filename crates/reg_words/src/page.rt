@@ -1,7 +1,8 @@
 //! The tool's manual page, made of the command as `clap` reads it.
 
 ghost use Rattle.std.specs.Prelude.{◌≡◌, ◌++◌, IfOk, OnOk, string_bytes, flat_map};
-ghost use Rattle.reg_words.specs.Manuals.{value_words, dots, values_words, given_words, argument_words, place_words, short_words, option_item, called_words, command_section, manual_text, IsManual};
+ghost use Rattle.reg_words.specs.Manuals.{value_words, dots, values_words, given_words, argument_words, place_words, short_words, option_item};
+ghost use Rattle.reg_words.specs.Manuals.{called_words, command_section, manual_text, IsManual};
 
 use crate::command::whole_command;
 use crate::settings::{Setting, push_told, words};

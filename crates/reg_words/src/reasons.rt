@@ -1,6 +1,6 @@
 //! Which of the words isn't understood, where `clap` takes them though they ask for nothing.
 
-use crate::asked::begin_asked;
+use crate::asked::{begin_asked, is_set};
 use crate::fields::wrong_field;
 use crate::forms::timeline_form;
 use crate::moments::read_moment;
@@ -33,16 +33,46 @@ fn saving_reason(
     format!(in alloc; "a value has no keys below it: --tree goes with a key alone")
 }
 
+/// Of `diff` without a form.
+fn lines_reason(alloc: Global, matches: &ArgMatches<'_>) -> Result<String, AllocError> {
+    if is_set(matches, "utf8") {
+        return format!(in alloc; "--utf8 is of a .reg text, and goes with --as reg alone");
+    }
+    let word = wrong_field(matches.get_str("ignore").unwrap_or(""));
+    format!(in alloc; "'{word}' is not one of time, security, order, class, marks")
+}
+
 /// Of `diff`.
 fn diff_reason(alloc: Global, matches: &ArgMatches<'_>) -> Result<String, AllocError> {
     let Some(form) = matches.get_str("as") else {
-        let word = wrong_field(matches.get_str("ignore").unwrap_or(""));
-        return format!(in alloc; "'{word}' is not one of time, security, order, class, marks");
+        return lines_reason(alloc, matches);
     };
     if form != "reg" {
         return format!(in alloc; "'{form}' is no form: reg");
     }
     format!(in alloc; "--as reg tells all that differs: neither PATH nor --ignore goes with it")
+}
+
+/// Of `export`.
+fn export_reason(alloc: Global, matches: &ArgMatches<'_>) -> Result<String, AllocError> {
+    let form = matches.get_str("as").unwrap_or("");
+    if ["json", "jsonl", "csv", "html"].contains(&form) {
+        if is_set(matches, "utf8") {
+            return format!(in alloc; "--utf8 is of a .reg text, and goes with --as reg alone");
+        }
+        return format!(in alloc; "--prefix is of a .reg text, and goes with --as reg alone");
+    }
+    format!(in alloc; "'{form}' is no form: reg, json, jsonl, csv or html")
+}
+
+/// Of `dump` and `check` without a file.
+fn stream_reason(alloc: Global, matches: &ArgMatches<'_>) -> Result<String, AllocError> {
+    let flag = if is_set(matches, "dirty") {
+        "--dirty"
+    } else {
+        "--verbose"
+    };
+    format!(in alloc; "{flag} goes with a file, and none is named")
 }
 
 /// Of `timeline`.
@@ -72,8 +102,7 @@ fn command_reason(
         return format!(in alloc; "'{word}' is not one of keys, names, data, paths, bytes");
     }
     if name == "export" {
-        let form = matches.get_str("as").unwrap_or("");
-        return format!(in alloc; "'{form}' is no form: reg, json, jsonl, csv or html");
+        return export_reason(alloc, matches);
     }
     if name == "get" {
         return format!(in alloc; "--raw and --type ask for data in two ways");
@@ -89,7 +118,7 @@ fn command_reason(
         return format!(in alloc; "'{shell}' is no shell: bash, zsh or fish");
     }
     if name == "dump" || name == "check" {
-        return format!(in alloc; "--dirty goes with a file, and none is named");
+        return stream_reason(alloc, matches);
     }
     saving_reason(alloc, name, matches)
 }

@@ -54,9 +54,14 @@ pub struct Places {
 
 /// A form of text in which keys and values are written.
 #[derive(Clone, Copy, Debug, PartialEq, Eq)]
-pub enum Form {
-    /// A .reg text, in UTF-16LE or in UTF-8.
-    Reg { is_utf8: bool },
+pub enum Form<'a> {
+    /// A .reg text.
+    Reg {
+        /// Whether it is in UTF-8, and not in UTF-16LE.
+        is_utf8: bool,
+        /// What stands in it for the hive's root, in place of the root's name.
+        prefix: Option<&'a str>,
+    },
     /// JSON: an array with an object for each key.
     Json,
     /// JSON lines: an object for each key, in a line of its own.
@@ -148,6 +153,56 @@ pub struct HiveFile<'a> {
     pub is_dirty: bool,
 }
 
+/// What a listing is asked for.
+#[derive(Debug, Drop)]
+pub struct ListRequest<'a> {
+    pub hive: HiveFile<'a>,
+    /// The key's path; the empty one is the root's.
+    pub path: Vec<u8>,
+    /// Whether all that is below it is listed, and not only what is right below.
+    pub is_tree: bool,
+    /// Whether the whole hive is tested first, and not only what is read on the way.
+    pub is_whole: bool,
+    pub columns: Columns,
+}
+
+/// Which value is asked for, and how.
+#[derive(Debug, Drop)]
+pub struct GetRequest<'a> {
+    pub hive: HiveFile<'a>,
+    /// Its key's path; the empty one is the root's.
+    pub path: Vec<u8>,
+    /// Its name; the empty one is that of the default value.
+    pub name: Vec<u8>,
+    pub form: DataForm,
+    /// Whether the whole hive is tested first, and not only what is read on the way.
+    pub is_whole: bool,
+}
+
+/// What is searched for.
+#[derive(Clone, Copy, Debug, PartialEq, Eq)]
+pub struct FindRequest<'a> {
+    pub hive: HiveFile<'a>,
+    /// A regular expression.
+    pub pattern: &'a str,
+    /// Whether upper and lower case are the same.
+    pub ignores_case: bool,
+    pub places: Places,
+}
+
+/// What a timeline is asked for.
+#[derive(Debug, Drop)]
+pub struct TimelineRequest<'a> {
+    pub files: Vec<&'a str>,
+    /// Whether they are read as they stand, too, where they weren't written to their end.
+    pub is_dirty: bool,
+    /// The first moment, in units of 100 ns since 1601.
+    pub from: u64,
+    /// The last one.
+    pub to: u64,
+    pub form: TimelineForm,
+}
+
 /// What a command that saves a file is asked for of it.
 #[derive(Clone, Copy, Debug, PartialEq, Eq)]
 pub struct EditRequest<'a> {
@@ -173,38 +228,15 @@ pub enum Request<'a> {
         files: Vec<&'a str>,
         /// Whether they are read as they stand, too, where they weren't written to their end.
         is_dirty: bool,
+        /// Whether more is told of each than that.
+        is_verbose: bool,
     },
     /// What is below a key of a file.
-    Listing {
-        hive: HiveFile<'a>,
-        /// The key's path; the empty one is the root's.
-        path: Vec<u8>,
-        /// Whether all that is below it is listed, and not only what is right below.
-        is_tree: bool,
-        /// Whether the whole hive is tested first, and not only what is read on the way.
-        is_whole: bool,
-        columns: Columns,
-    },
+    Listing(ListRequest<'a>),
     /// A value of a file.
-    Get {
-        hive: HiveFile<'a>,
-        /// Its key's path; the empty one is the root's.
-        path: Vec<u8>,
-        /// Its name; the empty one is that of the default value.
-        name: Vec<u8>,
-        form: DataForm,
-        /// Whether the whole hive is tested first, and not only what is read on the way.
-        is_whole: bool,
-    },
+    Get(GetRequest<'a>),
     /// The keys and values of a file that a pattern matches.
-    Find {
-        hive: HiveFile<'a>,
-        /// A regular expression.
-        pattern: &'a str,
-        /// Whether upper and lower case are the same.
-        ignores_case: bool,
-        places: Places,
-    },
+    Find(FindRequest<'a>),
     /// What differs between the trees of two files.
     Diff {
         old: &'a str,
@@ -218,19 +250,10 @@ pub enum Request<'a> {
         hive: HiveFile<'a>,
         /// The key's path; the empty one is the root's.
         path: Vec<u8>,
-        form: Form,
+        form: Form<'a>,
     },
     /// The keys of some files, by when they were last written.
-    Timeline {
-        files: Vec<&'a str>,
-        /// Whether they are read as they stand, too, where they weren't written to their end.
-        is_dirty: bool,
-        /// The first moment, in units of 100 ns since 1601.
-        from: u64,
-        /// The last one.
-        to: u64,
-        form: TimelineForm,
-    },
+    Timeline(TimelineRequest<'a>),
     /// A fresh hive in a new file.
     New {
         file: &'a str,
@@ -257,6 +280,16 @@ pub enum Request<'a> {
     Change {
         edit: EditRequest<'a>,
         change: KeyChange,
+    },
+    /// A key of a file, with all that is below it, copied to right below a key of the hive of another file, which is saved.
+    Copy {
+        /// Of the other file.
+        edit: EditRequest<'a>,
+        source: HiveFile<'a>,
+        /// The path of the key that is copied; the empty one is the root's.
+        path: Vec<u8>,
+        /// The path of the key in the other file; the empty one is the root's.
+        into: Vec<u8>,
     },
     /// The tool's manual page.
     Manual,

@@ -8,7 +8,9 @@ pub returns-in-Ok-clause-status : goal.returns-in-Ok-clause-status
 returns-in-Ok-clause-status g c = let low = small _ _ _ _ _ _ _ _ _ _ c.answer.result c.answer.ensures in omega (arith, low)
 
 pub returns-in-Ok-clause-done : goal.returns-in-Ok-clause-done
-returns-in-Ok-clause-done g c = served _ _ _ _ _ _ _ _ _ _ _ (subst (λ ws. IsCommandLine (texts ws) c.in-Ok.request) c.as_slice.ensures.value c.in-Ok.ensures.asks) c.answer.result c.answer.ensures
+returns-in-Ok-clause-done g c =
+    served _ _ _ _ _ _ _ _ _ _ _ (subst (λ ws. IsCommandLine (texts ws) c.in-Ok.request) c.as_slice.ensures.value c.in-Ok.ensures.asks)
+    c.answer.result c.answer.ensures
 
 pub returns-in-Ok-clause-failed : goal.returns-in-Ok-clause-failed
 returns-in-Ok-clause-failed g c = λ e. inl (failed_by _ _ _ _ _ _ _ _ _ _ _
@@ -26,7 +28,8 @@ pub returns-clause-refused : goal.returns-clause-refused
 returns-clause-refused g c =
     λ two. record {
       asks_nothing = subst (λ ws. AsksNothing (texts ws)) c.as_slice.ensures.value
-          (c.in-Err.ensures.refuses (λ memory. let one : c.refuse_words.result ≡ 1 = c.refuse_words.ensures.memory memory in absurd (omega (arith, one, two))));
+          (c.in-Err.ensures.refuses
+          (λ memory. let one : c.refuse_words.result ≡ 1 = c.refuse_words.ensures.memory memory in absurd (omega (arith, one, two))));
       untouched = (refl, refl);
     }
 

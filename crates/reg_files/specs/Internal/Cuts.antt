@@ -9,6 +9,8 @@ use Rattle.reg_files.specs.declared.fault.DiffEnd.{DiffEnd}
 use Rattle.reg_files.specs.declared.fault.DiffEnd.TheVariants as diff
 use Rattle.reg_files.specs.declared.fault.SaveEnd.{SaveEnd}
 use Rattle.reg_files.specs.declared.fault.SaveEnd.TheVariants as save
+use Rattle.reg_files.specs.declared.fault.CopyStop.{CopyStop}
+use Rattle.reg_files.specs.declared.fault.CopyStop.TheVariants as copied
 
 -- a write of a text, or of a script's replies
 abbrev pub is_cut : Fault → Bool
@@ -26,6 +28,11 @@ abbrev pub is_save_end_cut : SaveEnd → Bool
 is_save_end_cut (save.Hive ended) = is_cut ended
 is_save_end_cut (save.Text ended) = false
 is_save_end_cut (save.Files ended) = false
+
+-- of a copy, whichever file it is about
+abbrev pub is_copy_stop_cut : CopyStop → Bool
+is_copy_stop_cut (copied.Source ended) = false
+is_copy_stop_cut (copied.Target ended) = is_save_end_cut ended
 
 -- just one call of the output failed where its write was cut short, and else none
 abbrev pub CutBlames : (cut : Bool) → (before after : Option ℕ) → Type 0

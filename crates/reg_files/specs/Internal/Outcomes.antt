@@ -26,7 +26,8 @@ IsSameBehind form new old old_left before after told told_after failed =
     Looks new.is_dirty new.file.now told told_after failed (λ other other_left. AreSame form old old_left other other_left before after)
 
 -- or they aren't; or it wasn't opened; or something ended the comparison
-abbrev pub IsOtherBehind : DiffForm → HiveFile → (closed : Bool) → (old old_left before after told told_after : Option (List ℕ)) → (failed now_failed : Option ℕ) → Type 0
+abbrev pub IsOtherBehind : DiffForm → HiveFile → (closed : Bool) → (old old_left before after told told_after : Option (List ℕ)) →
+    (failed now_failed : Option ℕ) → Type 0
 IsOtherBehind form new closed old old_left before after told told_after failed now_failed =
     Looks new.is_dirty new.file.now told told_after failed (λ other other_left. AreOther form old old_left other other_left before after)
     ⊎ IsUnopened before after told told_after failed now_failed

@@ -1,4 +1,5 @@
-use Rattle.reg_words.proofs.CommandShapes.{taken, refused, found, refuses_unread, options_unread, both_so, not_both, nothing_of_both, asked_for, asked_for_none}
+use Rattle.reg_words.proofs.CommandShapes.{taken, refused, found, refuses_unread, options_unread, both_so, not_both, nothing_of_both, asked_for}
+use Rattle.reg_words.proofs.CommandShapes.{asked_for_none}
 use Rattle.reg_words.proofs.read_by.Goals as goal
 
 pub returns-in_err-matches-clause-refuses : goal.returns-in_err-matches-clause-refuses

@@ -35,8 +35,8 @@ abbrev pub stream_of : Request → Option StreamRequest
 stream_of (Stream stream) = Some stream
 stream_of request = None
 
--- a subcommand of another name than all that ask for something but a change
-pub record IsOther (name : List ℕ) : Type 0 where
+-- a subcommand of another name than those that work on the standard streams or look into a file
+pub record IsNoQuery (name : List ℕ) : Type 0 where
   pub no_run_word : name ≡ codes "run" → ⊥
   pub no_dump_word : name ≡ codes "dump" → ⊥
   pub no_check_word : name ≡ codes "check" → ⊥
@@ -45,10 +45,15 @@ pub record IsOther (name : List ℕ) : Type 0 where
   pub no_find_word : name ≡ codes "find" → ⊥
   pub no_diff_word : name ≡ codes "diff" → ⊥
   pub no_export_word : name ≡ codes "export" → ⊥
+  pub no_timeline_word : name ≡ codes "timeline" → ⊥
+
+-- and than all others that ask for something but a change
+pub record IsOther (name : List ℕ) : Type 0 where
+  pub no_query : IsNoQuery name
   pub no_new_word : name ≡ codes "new" → ⊥
   pub no_edit_word : name ≡ codes "edit" → ⊥
   pub no_import_word : name ≡ codes "import" → ⊥
-  pub no_timeline_word : name ≡ codes "timeline" → ⊥
+  pub no_copy_word : name ≡ codes "copy" → ⊥
   pub no_manual_word : name ≡ codes "manual" → ⊥
   pub no_completions_word : name ≡ codes "completions" → ⊥
   pub no_version_word : name ≡ codes "version" → ⊥

@@ -1,7 +1,8 @@
 //! A value's data, as they are typed.
 
 ghost use Rattle.std.specs.Prelude.{◌≡◌, IfOk, map, option_map};
-ghost use Rattle.reg_words.specs.ChangeWords.{only as only_of, digits_of as digits_of_word, texts_in, digits_in, small_in, large_in, text_in, data_in, value_in};
+ghost use Rattle.reg_words.specs.ChangeWords.{only as only_of, digits_of as digits_of_word, texts_in, digits_in, small_in, large_in, text_in};
+ghost use Rattle.reg_words.specs.ChangeWords.{data_in, value_in};
 
 use crate::typed::change::Contents;
 use crate::typed::kinds::{DataForm, read_kind};

@@ -10,14 +10,15 @@ returns-in-Ok-clause-status g c =
 pub returns-in-Ok-clause-same : goal.returns-in-Ok-clause-same
 returns-in-Ok-clause-same g c =
     let opened = c.in-Ok.ensures.ok in
-    same_behind c.args.form.now c.args.new (g.W.Output.closed c.diff_images-done.new.output) _ _ _ _ _ _ _ (g.E.Sink.failures c.settle_diff.new.errors)
-    opened.0 _ _ _ opened.2 _ opened.1 is_diff_end_cut c.is_closed.result c.is_closed.ensures c.diff_images-done.result c.settle_diff.result
+    same_behind c.args.form.now c.args.new (g.W.Output.closed c.diff_images-done.new.output) _ _ _ _ _ _ _
+    (g.E.Sink.failures c.settle_diff.new.errors)
+    opened.0 _ _ _ opened.2 _ opened.1 is_diff_end_cut c.diff_images-done.result c.settle_diff.result
     c.settle_diff.ensures c.diff_images-done.ensures.same
 
 pub returns-in-Ok-clause-other : goal.returns-in-Ok-clause-other
 returns-in-Ok-clause-other g c =
     let opened = c.in-Ok.ensures.ok in
-    other_behind c.args.form.now c.args.new _ _ _ _ _ _ _ _ _ opened.0 _ _ _ opened.2 _ opened.1 is_diff_end_cut c.is_closed.result c.is_closed.ensures
+    other_behind c.args.form.now c.args.new _ _ _ _ _ _ _ _ _ opened.0 _ _ _ opened.2 _ opened.1 is_diff_end_cut
     c.diff_images-done.result c.settle_diff.result c.settle_diff.ensures c.diff_images-done.ensures.other c.diff_images-done.ensures.err
 
 pub returns-in-Err-clause-same : goal.returns-in-Err-clause-same

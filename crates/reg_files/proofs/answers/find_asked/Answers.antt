@@ -14,18 +14,18 @@ returns-in-Ok g c =
     let after = g.W.Write.contents c.find_in-done.new.output in
     let image = bytes_of g.H.File.Read.remaining c.in-Ok.image in
     let left = bytes_of g.H.File.Read.remaining c.find_in-done.new.image in
-    let scope = scope_of c.args.places in
+    let scope = scope_of c.args.asked.places in
     let opened = c.in-Ok.ensures.ok in
-    searched c.args.hive.is_dirty c.args.hive.file.now (g.W.Output.closed c.find_in-done.new.output) before after
+    searched c.args.asked.hive.is_dirty c.args.asked.hive.file.now (g.W.Output.closed c.find_in-done.new.output) before after
     (g.E.Sink.contents c.args.errors.now) (g.E.Sink.contents c.settle_find.new.errors)
     (g.E.Sink.failures c.args.errors.now) (g.E.Sink.failures c.settle_find.new.errors) opened.0 left _ _ opened.2 image opened.1
-    (Find c.args.hive c.args.pattern c.args.ignores_case c.args.places) unread is_cut
-    (λ is_found u l. Finds u l c.args.pattern.now c.args.ignores_case scope is_found before after)
-    (λ cut u l. StopsFinding c.args.pattern.now c.args.ignores_case scope before after cut u l)
-    c.is_closed.result c.is_closed.ensures c.find_in-done.result c.settle_find.result c.settle_find.ensures
+    (Find c.args.asked) unread is_cut
+    (λ is_found u l. Finds u l c.args.asked.pattern.now c.args.asked.ignores_case scope is_found before after)
+    (λ cut u l. StopsFinding c.args.asked.pattern.now c.args.asked.ignores_case scope before after cut u l)
+    c.find_in-done.result c.settle_find.result c.settle_find.ensures
     c.find_in-done.ensures.ok c.find_in-done.ensures.err (λ done. (refl, done)) (λ stops. (refl, stops)))
 
 pub returns-in-Err : goal.returns-in-Err
 returns-in-Err g c =
-    λ unread. unlooked (Find c.args.hive c.args.pattern c.args.ignores_case c.args.places) _ unread _ _ _ _ _ _ _ _ c.in-Err.ensures.err.1
+    λ unread. unlooked (Find c.args.asked) _ unread _ _ _ _ _ _ _ _ c.in-Err.ensures.err.1
     c.in-Err.ensures.err.2 c.settle.ensures.0 c.settle.ensures.1 (λ stops. (refl, inr (inl stops)))

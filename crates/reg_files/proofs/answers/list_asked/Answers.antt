@@ -16,20 +16,23 @@ returns-in-Ok g c =
     let image = bytes_of g.H.File.Read.remaining c.in-Ok.image in
     let left = bytes_of g.H.File.Read.remaining c.list_key-done.new.image in
     let opened = c.in-Ok.ensures.ok in
-    looked c.args.hive.is_dirty c.args.hive.file.now (g.W.Output.closed c.list_key-done.new.output) before after
-    (g.E.Sink.contents c.args.errors.now) (g.E.Sink.contents c.settle.new.errors)
-    (g.E.Sink.failures c.args.errors.now) (g.E.Sink.failures c.settle.new.errors) opened.0 left _ _ opened.2 image opened.1
-    (Listing c.args.hive c.args.path c.args.is_tree c.args.is_whole c.args.columns) unread is_cut
-    (λ u l. ListsKey c.args.columns c.args.is_tree c.args.is_whole c.args.path.items u l before after)
-    (λ cut u l. StopsListing c.args.columns c.args.is_tree c.args.is_whole c.args.path.items before after cut u l)
-    c.is_closed.result c.is_closed.ensures c.list_key-done.result c.settle.result c.settle.ensures
-    (subst (λ p. OnOk c.list_key-done.result (ListsKey c.args.columns c.args.is_tree c.args.is_whole p image left before after))
+    looked c.args.asked.hive.is_dirty c.args.asked.hive.file.now (g.W.Output.closed c.list_key-done.new.output) before after
+    (g.E.Sink.contents c.args.errors.now) (g.E.Sink.contents c.settle_output.new.errors)
+    (g.E.Sink.failures c.args.errors.now) (g.E.Sink.failures c.settle_output.new.errors) opened.0 left _ _ opened.2 image opened.1
+    (Listing c.args.asked) unread is_cut
+    (λ u l. ListsKey c.args.asked.columns c.args.asked.is_tree c.args.asked.is_whole c.args.asked.path.items u l before after)
+    (λ cut u l. StopsListing c.args.asked.columns c.args.asked.is_tree c.args.asked.is_whole c.args.asked.path.items before after cut u l)
+    c.list_key-done.result c.settle_output.result c.settle_output.ensures
+    (subst (λ p. OnOk c.list_key-done.result (ListsKey c.args.asked.columns c.args.asked.is_tree c.args.asked.is_whole p image left before after))
     c.as_slice.ensures.value c.list_key-done.ensures.ok)
-    (subst (λ p. IfErr c.list_key-done.result (λ e. (gone : Option (List ℕ)) × StopsListing c.args.columns c.args.is_tree c.args.is_whole p before after (is_cut e) image gone))
+    (subst (λ p. IfErr c.list_key-done.result
+    (λ e. (gone : Option (List ℕ))
+    × StopsListing c.args.asked.columns c.args.asked.is_tree c.args.asked.is_whole p before after (is_cut e) image gone))
     c.as_slice.ensures.value c.list_key-done.ensures.err)
     (λ done. (refl, done)) (λ stops. (refl, stops)))
 
 pub returns : goal.returns
 returns g c =
-    λ unread. unlooked (Listing c.args.hive c.args.path c.args.is_tree c.args.is_whole c.args.columns) _ unread _ _ _ _ _ _ _ _ c.in-Err.ensures.err.1 c.in-Err.ensures.err.2
-    c.settle-in-Err.ensures.0 c.settle-in-Err.ensures.1 (λ stops. (refl, inl stops))
+    λ unread. unlooked (Listing c.args.asked) _ unread _ _ _ _ _ _ _ _ c.in-Err.ensures.err.1
+    c.in-Err.ensures.err.2
+    c.settle.ensures.0 c.settle.ensures.1 (λ stops. (refl, inl stops))

@@ -2,11 +2,11 @@ use Rattle.reg_files.specs.Internal.Cuts.{is_cut}
 use Rattle.reg_files.proofs.StoppedCommands.{from_err, reg_stops, json_stops, lines_stops, csv_stops, html_stops}
 use Rattle.reg_files.proofs.queries.export_as.Goals as goal
 
-pub returns-in_err-export-in-Reg-clause-err : goal.returns-in_err-export-in-Reg-clause-err
-returns-in_err-export-in-Reg-clause-err g c =
+pub returns-in_err-export_reg-in-Reg-clause-err : goal.returns-in_err-export_reg-in-Reg-clause-err
+returns-in_err-export_reg-in-Reg-clause-err g c =
     from_err _ _ c.from_residual.result c.from_residual.ensures.1
-    (λ fault cut. reg_stops c.args.form _ _ _ (is_cut fault) _ _ c.in_err-export-in-Reg.field-0.0 cut _ c.in-Reg.is
-    c.in_err-export-in-Reg.ensures.err)
+    (λ fault cut. reg_stops c.args.form _ _ _ (is_cut fault) _ _ c.in_err-export_reg-in-Reg.field-0.0 cut _ _ c.in-Reg.is
+    c.in_err-export_reg-in-Reg.ensures.err)
 
 pub returns-in_err-export_json-in-Json-clause-err : goal.returns-in_err-export_json-in-Json-clause-err
 returns-in_err-export_json-in-Json-clause-err g c =

@@ -28,7 +28,8 @@ returns-in-Ok-clause-stops g c =
       opened.2,
       subst (λ u. AnswerStops stream.Dump (g.W.Output.closed c.dump_in.new.output) (g.W.Write.contents c.args.output.now)
           (g.W.Write.contents c.dump_in.new.output) (g.E.Sink.contents c.dump_in.new.errors) (g.E.Sink.failures c.dump_in.new.errors) u
-          (bytes_of g.H.File.Read.remaining c.dump_in.new.image) (g.E.Sink.contents c.open_image.new.errors) (g.E.Sink.failures c.open_image.new.errors))
+          (bytes_of g.H.File.Read.remaining c.dump_in.new.image) (g.E.Sink.contents c.open_image.new.errors)
+          (g.E.Sink.failures c.open_image.new.errors))
           opened.1 (c.dump_in.ensures.stops e),
     ))
 

@@ -14,4 +14,6 @@ returns-in-Ok-clause-missed g c = λ _.
     inr (unread_file _ _ _ _ _ _ opened.0 _ _ opened.2 _ opened.1 c.in-Err-gather_image.ensures.missed c.settle.ensures.1))
 
 pub returns-clause-missed : goal.returns-clause-missed
-returns-clause-missed g c = λ _. inl (unopened_file c.args.hive.is_dirty c.args.hive.file.now _ _ _ _ _ _ c.in-Err.ensures.err.1 c.in-Err.ensures.err.2 c.settle-in-Err.ensures.1)
+returns-clause-missed g c =
+    λ _. inl (unopened_file c.args.hive.is_dirty c.args.hive.file.now _ _ _ _ _ _ c.in-Err.ensures.err.1 c.in-Err.ensures.err.2
+    c.settle-in-Err.ensures.1)

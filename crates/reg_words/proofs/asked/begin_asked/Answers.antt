@@ -3,12 +3,13 @@ use Rattle.std.specs.Prelude.{Ok, Err, Some, None}
 use Rattle.std.specs.Str.Parse.{ParsesUnsigned, ExplainsUnsignedError, HasUnsignedDigitsIfOk}
 use Rattle.clap.specs.Words.{found_of, rows_of}
 use Rattle.reg_words.specs.Moments.{IsMoment}
-use Rattle.reg_words.proofs.AskedWords.{asked_at, moment_read, option_asked, two_moments, no_moment}
+use Rattle.reg_words.proofs.AskedNumbers.{asked_at, moment_read, option_asked, two_moments, no_moment}
 use Rattle.reg_words.proofs.asked.begin_asked.Goals as goal
 
 pub returns-in-Ok-None : goal.returns-in-Ok-None
 returns-in-Ok-None c =
-    asked_at (codes "at") IsMoment _ (rows_of (found_of c.args.matches.now)) c.try_get_one.result (Ok None) (c.in-Ok-None.is ∙ ap Ok c.in-Ok-None.field-0-is)
+    asked_at (codes "at") IsMoment _ (rows_of (found_of c.args.matches.now)) c.try_get_one.result (Ok None)
+    (c.in-Ok-None.is ∙ ap Ok c.in-Ok-None.field-0-is)
     (option_asked (codes "at") IsMoment _ (λ bs r. ParsesUnsigned 64 10 bs r × ExplainsUnsignedError 10 bs r × HasUnsignedDigitsIfOk bs r)
     (found_of c.args.matches.now) c.try_get_one.result (λ u x g. moment_read _ u x g.0) c.try_get_one.ensures.none c.try_get_one.ensures.value)
 

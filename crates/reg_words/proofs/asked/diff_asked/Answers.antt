@@ -1,7 +1,8 @@
 use Rattle.std.proofs.Common.{◌∙◌, ap, codes, inl}
 use Rattle.std.specs.Prelude.{option_map}
 use Rattle.clap.specs.Words.{found_of, rows_of}
-use Rattle.reg_words.proofs.AskedWords.{first_is, no_diff}
+use Rattle.reg_words.proofs.AskedWords.{first_is}
+use Rattle.reg_words.proofs.AskedNothing.{no_diff}
 use Rattle.reg_words.proofs.asked.diff_asked.Goals as goal
 
 pub diff_in-requires : goal.diff_in-requires

@@ -1,6 +1,7 @@
 use Rattle.std.proofs.Common.{inr}
 use Rattle.clap.specs.Words.{found_of, rows_of}
-use Rattle.reg_words.proofs.AskedWords.{no_diff, found_there, never_found}
+use Rattle.reg_words.proofs.AskedNothing.{no_diff}
+use Rattle.reg_words.proofs.AskedWords.{found_there, never_found}
 use Rattle.reg_words.proofs.asked.diff_in.Goals as goal
 
 pub diff_of-requires-clause-form : goal.diff_of-requires-clause-form

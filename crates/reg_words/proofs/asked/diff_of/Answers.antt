@@ -1,7 +1,8 @@
 use Rattle.std.proofs.Common.{◌∙◌, ap, codes, refl, inl, inr}
 use Rattle.std.specs.Prelude.{option_map}
 use Rattle.clap.specs.Words.{found_of, rows_of}
-use Rattle.reg_words.proofs.AskedWords.{first_is, no_diff}
+use Rattle.reg_words.proofs.AskedWords.{first_is}
+use Rattle.reg_words.proofs.AskedNothing.{no_diff}
 use Rattle.reg_words.proofs.asked.diff_of.Goals as goal
 
 pub returns-in-Some : goal.returns-in-Some

@@ -1,6 +1,7 @@
 use Rattle.std.proofs.Common.{refl}
 use Rattle.clap.specs.Words.{found_of, rows_of}
-use Rattle.reg_words.proofs.AskedWords.{no_edit, found_there, never_found}
+use Rattle.reg_words.proofs.AskedNothing.{no_edit}
+use Rattle.reg_words.proofs.AskedWords.{found_there, never_found}
 use Rattle.reg_words.proofs.asked.edit_asked.Goals as goal
 
 pub returns-in-Some : goal.returns-in-Some

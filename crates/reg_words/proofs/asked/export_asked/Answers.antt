@@ -1,6 +1,7 @@
 use Rattle.std.proofs.Common.{inl}
 use Rattle.clap.specs.Words.{found_of, rows_of}
-use Rattle.reg_words.proofs.AskedWords.{no_export, looked_at, not_looked_at}
+use Rattle.reg_words.proofs.AskedNothing.{no_export}
+use Rattle.reg_words.proofs.AskedWords.{looked_at, not_looked_at}
 use Rattle.reg_words.proofs.asked.export_asked.Goals as goal
 
 pub export_of-requires-clause-hive : goal.export_of-requires-clause-hive

@@ -1,6 +1,7 @@
 use Rattle.std.proofs.Common.{refl, inr}
 use Rattle.clap.specs.Words.{found_of, rows_of}
-use Rattle.reg_words.proofs.AskedWords.{no_export, found_there, never_found}
+use Rattle.reg_words.proofs.AskedNothing.{no_export}
+use Rattle.reg_words.proofs.AskedWords.{found_there, never_found}
 use Rattle.reg_words.proofs.asked.export_of.Goals as goal
 
 pub returns-in-Some : goal.returns-in-Some

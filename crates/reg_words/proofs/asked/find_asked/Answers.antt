@@ -1,6 +1,7 @@
 use Rattle.std.proofs.Common.{inl}
 use Rattle.clap.specs.Words.{found_of, rows_of}
-use Rattle.reg_words.proofs.AskedWords.{no_find, looked_at, not_looked_at}
+use Rattle.reg_words.proofs.AskedNothing.{no_find}
+use Rattle.reg_words.proofs.AskedWords.{looked_at, not_looked_at}
 use Rattle.reg_words.proofs.asked.find_asked.Goals as goal
 
 pub find_in-requires : goal.find_in-requires

@@ -1,6 +1,7 @@
 use Rattle.std.proofs.Common.{refl, inr}
 use Rattle.clap.specs.Words.{found_of, rows_of}
-use Rattle.reg_words.proofs.AskedWords.{no_find, found_there, never_found}
+use Rattle.reg_words.proofs.AskedNothing.{no_find}
+use Rattle.reg_words.proofs.AskedWords.{found_there, never_found}
 use Rattle.reg_words.proofs.asked.find_of.Goals as goal
 
 pub returns-in-Some : goal.returns-in-Some

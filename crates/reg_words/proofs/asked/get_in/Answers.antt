@@ -1,6 +1,7 @@
 use Rattle.std.proofs.Common.{refl, inr}
 use Rattle.clap.specs.Words.{found_of, rows_of}
-use Rattle.reg_words.proofs.AskedWords.{no_get, found_there, never_found}
+use Rattle.reg_words.proofs.AskedNothing.{no_get}
+use Rattle.reg_words.proofs.AskedWords.{found_there, never_found}
 use Rattle.reg_words.proofs.asked.get_in.Goals as goal
 
 pub returns-in_ok-value_asked-in-Some : goal.returns-in_ok-value_asked-in-Some

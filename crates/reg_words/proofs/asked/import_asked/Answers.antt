@@ -1,6 +1,7 @@
 use Rattle.std.proofs.Common.{codes, refl, sym}
 use Rattle.clap.specs.Words.{found_of, rows_of}
-use Rattle.reg_words.proofs.AskedWords.{first_is, no_import, found_there, never_found}
+use Rattle.reg_words.proofs.AskedWords.{first_is, found_there, never_found}
+use Rattle.reg_words.proofs.AskedNothing.{no_import}
 use Rattle.reg_words.proofs.asked.import_asked.Goals as goal
 
 pub returns-in-Some : goal.returns-in-Some

@@ -1,6 +1,7 @@
 use Rattle.std.proofs.Common.{refl}
 use Rattle.clap.specs.Words.{found_of, rows_of}
-use Rattle.reg_words.proofs.AskedWords.{no_list, looked_at, not_looked_at}
+use Rattle.reg_words.proofs.AskedNothing.{no_list}
+use Rattle.reg_words.proofs.AskedWords.{looked_at, not_looked_at}
 use Rattle.reg_words.proofs.asked.list_asked.Goals as goal
 
 pub returns-in_ok-path_asked-in-Some : goal.returns-in_ok-path_asked-in-Some

@@ -2,7 +2,8 @@ use Rattle.std.proofs.Common.{◌∙◌, ap, codes, refl}
 use Rattle.std.specs.Prelude.{Some, None, option_map}
 use Rattle.clap.specs.Words.{found_of, rows_of}
 use Rattle.reg_words.specs.PlaceLists.{places_in}
-use Rattle.reg_words.proofs.AskedWords.{first_is, places_found}
+use Rattle.reg_words.proofs.AskedWords.{first_is}
+use Rattle.reg_words.proofs.AskedNothing.{places_found}
 use Rattle.reg_words.proofs.asked.places_asked.Goals as goal
 
 pub returns-in-Some : goal.returns-in-Some

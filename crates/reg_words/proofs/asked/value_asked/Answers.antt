@@ -7,5 +7,6 @@ use Rattle.reg_words.proofs.asked.value_asked.Goals as goal
 
 pub returns : goal.returns
 returns c =
-    let word = given_or (found_of c.args.matches.now) (codes "value") [] c.get_str.result (λ s. s.now) _ _ c.get_str.ensures c.unwrap_or-word.ensures refl in
+    let word = given_or (found_of c.args.matches.now) (codes "value") [] c.get_str.result (λ s. s.now) _ _ c.get_str.ensures c.unwrap_or-word.ensures
+    refl in
     IfOk-weaker c.read_name.result _ _ (λ name is. is ∙ ap name_in word) c.read_name.ensures

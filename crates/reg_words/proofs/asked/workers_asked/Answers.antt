@@ -2,11 +2,14 @@ use Rattle.std.proofs.Common.{ap, ◌∙◌, codes, refl}
 use Rattle.std.specs.Prelude.{Ok, Err, Some, None}
 use Rattle.std.specs.Str.Parse.{ParsesUnsigned, ExplainsUnsignedError, HasUnsignedDigitsIfOk}
 use Rattle.clap.specs.Words.{found_of, rows_of}
-use Rattle.reg_words.proofs.AskedWords.{IsByte, asked_at, count_read, inside, outside, no_byte, no_workers, none_given, none_of_both, not_given, option_asked}
+use Rattle.reg_words.proofs.AskedNumbers.{IsByte, asked_at, count_read, inside, outside, no_byte, option_asked}
+use Rattle.reg_words.proofs.AskedNothing.{no_workers, none_of_both}
+use Rattle.reg_words.proofs.AskedWords.{none_given, not_given}
 use Rattle.reg_words.proofs.asked.workers_asked.Goals as goal
 
 pub returns-then-is_given : goal.returns-then-is_given
-returns-then-is_given c = none_of_both (codes "run", rows_of (found_of c.args.matches.now)) (refl, c.is_given.ensures.0 c.if-is_given.true, c.requires)
+returns-then-is_given c =
+    none_of_both (codes "run", rows_of (found_of c.args.matches.now)) (refl, c.is_given.ensures.0 c.if-is_given.true, c.requires)
 
 pub returns-in-Some : goal.returns-in-Some
 returns-in-Some c =
@@ -18,7 +21,12 @@ returns-in-Some c =
     in (
       refl,
       not_given (codes "image") (rows_of (found_of c.args.matches.now)) c.is_given.result c.if-is_given.false c.is_given.ensures,
-      (asked.0, asked.1, inside asked.0 c.in-Ok-Some.number c.in-Some.count.number asked.2 c.in-Some.ensures c.in-Some.count.some c.in-Some.count.few),
+      (
+        asked.0,
+        asked.1,
+        inside asked.0 c.in-Ok-Some.number c.in-Some.count.number asked.2 c.in-Some.ensures c.in-Some.count.some
+            c.in-Some.count.few,
+      ),
     )
 
 pub returns-in-None : goal.returns-in-None

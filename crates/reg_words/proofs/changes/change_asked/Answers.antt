@@ -1,5 +1,6 @@
 use Rattle.clap.specs.Words.{found_of, rows_of}
-use Rattle.reg_words.proofs.AskedWords.{found_there, never_found, none_asked}
+use Rattle.reg_words.proofs.AskedWords.{found_there, never_found}
+use Rattle.reg_words.proofs.AskedNames.{none_asked}
 use Rattle.reg_words.proofs.changes.change_asked.Goals as goal
 
 pub change_of-requires-clause-change : goal.change_of-requires-clause-change

@@ -1,5 +1,6 @@
 use Rattle.clap.specs.Words.{found_of, rows_of}
-use Rattle.reg_words.proofs.AskedWords.{found_there, never_found, none_asked}
+use Rattle.reg_words.proofs.AskedWords.{found_there, never_found}
+use Rattle.reg_words.proofs.AskedNames.{none_asked}
 use Rattle.reg_words.proofs.changes.change_of.Goals as goal
 
 pub returns-in-Some : goal.returns-in-Some

@@ -11,5 +11,6 @@ set_of-requires-clause-name c =
 pub returns-in-None : goal.returns-in-None
 returns-in-None c =
     no_set (rows_of (found_of c.args.matches.now))
-    (λ path name contents k n h. no_name (rows_of (found_of c.args.matches.now)) (not_given (AsksForName (rows_of (found_of c.args.matches.now))) (λ v. v.items) _
+    (λ path name contents k n h. no_name (rows_of (found_of c.args.matches.now))
+    (not_given (AsksForName (rows_of (found_of c.args.matches.now))) (λ v. v.items) _
     c.in_ok-name.field-0 c.in-None.is c.in_ok-name.ensures) name n)

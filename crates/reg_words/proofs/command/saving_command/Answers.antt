@@ -1,10 +1,4 @@
-use Rattle.std.proofs.lemmas.Result.{IfOk-weaker}
-use Rattle.reg_words.proofs.CommandShapes.{with_arg}
 use Rattle.reg_words.proofs.command.saving_command.Goals as goal
 
 pub returns : goal.returns
-returns c =
-    let with_1 = with_arg _ _ _ _ _ c.in_ok-output_command.ensures c.flag_arg.ensures c.in_ok-arg.ensures in
-    let with_2 = with_arg _ _ _ _ _ with_1 c.at_arg.ensures c.in_ok-arg-2.ensures in
-    let with_3 = with_arg _ _ _ _ _ with_2 c.flag_arg-2.ensures c.in_ok-arg-3.ensures in
-    IfOk-weaker c.arg-4.result _ _ (λ r adds. with_arg _ r _ _ _ with_3 c.wait_arg.ensures adds) c.arg-4.ensures
+returns c = c.with_saving_options.ensures _ c.in_ok-command.ensures

@@ -3,7 +3,7 @@ use Rattle.std.proofs.lemmas.Result.{IfOk-weaker}
 use Rattle.clap.specs.Simple.{app_of_fields, new_app}
 use Rattle.clap.specs.declared.builder.command.Command.{Command}
 use Rattle.clap.specs.declared.builder.command.Command.TheOpen.{Command-F}
-use Rattle.reg_words.specs.CommandLines.{required}
+use Rattle.reg_words.specs.CommandShapes.{required}
 use Rattle.reg_words.specs.Internal.Commands.{IsCommand}
 use Rattle.reg_words.proofs.CommandShapes.{with_sub}
 use Rattle.reg_words.proofs.command.stream_commands.Goals as goal

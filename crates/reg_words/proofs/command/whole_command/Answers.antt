@@ -1,5 +1,5 @@
 use Rattle.std.proofs.lemmas.Result.{IfOk-weaker}
-use Rattle.reg_words.specs.CommandLines.{regtool}
+use Rattle.reg_words.specs.CommandShapes.{regtool}
 use Rattle.reg_words.proofs.CommandShapes.{with_sub}
 use Rattle.reg_words.proofs.command.whole_command.Goals as goal
 

@@ -9,7 +9,8 @@ use Rattle.reg_words.proofs.forms.ignored_of.Goals as goal
 pub returns-in-Some : goal.returns-in-Some
 returns-in-Some c =
     c.read_ignored.ensures ∙ (ap ignored_in c.as_bytes.ensures.value
-    ∙ ap ignored_asked (sym (first_is (found_of c.args.matches.now) (codes "ignore") _ c.get_str.ensures ∙ ap (option_map (λ s. s.now)) c.in-Some.is)))
+    ∙ ap ignored_asked (sym
+    (first_is (found_of c.args.matches.now) (codes "ignore") _ c.get_str.ensures ∙ ap (option_map (λ s. s.now)) c.in-Some.is)))
 
 pub returns-in-None : goal.returns-in-None
 returns-in-None c =

@@ -9,7 +9,8 @@ use Rattle.reg_words.proofs.forms.moment_asked.Goals as goal
 pub returns-in-Some : goal.returns-in-Some
 returns-in-Some c =
     IfOk-weaker c.read_moment.result _ _ (λ moment tells. moment_given c.args.name.now c.args.other (rows_of (found_of c.args.matches.now)) _ moment
-    (first_is (found_of c.args.matches.now) c.args.name.now _ c.get_str.ensures ∙ ap (option_map (λ s. s.now)) c.in-Some.is) tells) c.read_moment.ensures
+    (first_is (found_of c.args.matches.now) c.args.name.now _ c.get_str.ensures ∙ ap (option_map (λ s. s.now)) c.in-Some.is) tells)
+    c.read_moment.ensures
 
 pub returns-in-None : goal.returns-in-None
 returns-in-None c =

@@ -15,4 +15,5 @@ returns-then-eq-3 c = c.requires ∙ ap Some (search rules)
 
 pub returns : goal.returns
 returns c =
-    other_shell (rows_of (found_of c.args.matches.now)) c.args.name.now c.requires (λ e. search (rules, e)) (λ e. search (rules, e)) (λ e. search (rules, e))
+    other_shell (rows_of (found_of c.args.matches.now)) c.args.name.now c.requires (λ e. search (rules, e)) (λ e. search (rules, e))
+    (λ e. search (rules, e))

@@ -5,4 +5,5 @@ use Rattle.reg_words.proofs.page.push_sections.Given as goal
 
 abbrev pub invariant-loop-command : goal.invariant-loop-command
 invariant-loop-command l =
-    string_bytes l.text ++ flat_map command_section (drop l.command-index l.commands) ≡ string_bytes l.initial.text ++ flat_map command_section l.commands
+    string_bytes l.text ++ flat_map command_section (drop l.command-index l.commands) ≡ string_bytes l.initial.text ++ flat_map command_section
+    l.commands

@@ -6,4 +6,5 @@ use Rattle.reg_words.proofs.scripts.bash.push_names.Given as goal
 
 abbrev pub invariant-loop-command : goal.invariant-loop-command
 invariant-loop-command l =
-    string_bytes l.text ++ flat_map (λ command. bash_name (name_of command)) (drop l.command-index l.commands) ≡ string_bytes l.initial.text ++ flat_map (λ command. bash_name (name_of command)) l.commands
+    string_bytes l.text ++ flat_map (λ command. bash_name (name_of command)) (drop l.command-index l.commands) ≡ string_bytes l.initial.text ++
+    flat_map (λ command. bash_name (name_of command)) l.commands

@@ -15,7 +15,8 @@ returns c =
     let command = c.args.command.now in
     on_ok_weaker c.push_options.result
     (λ n. four COMMAND.now (name_of command) (fish_told (about_of command)) (flat_map (fish_option (name_of command)) (arguments_of command))
-    _ _ _ _ _ c.in_ok-push_str.ensures.bytes (piece _ _ _ _ c.in_ok-push_str-2.ensures.bytes (ap (λ (s : Bor (List ℕ)). s.now) c.get_name-name.ensures))
+    _ _ _ _ _ c.in_ok-push_str.ensures.bytes
+    (piece _ _ _ _ c.in_ok-push_str-2.ensures.bytes (ap (λ (s : Bor (List ℕ)). s.now) c.get_name-name.ensures))
     (piece _ _ _ _ c.in_ok-push_help.ensures (ap fish_told (c.words.ensures ∙ ap words_of c.get_about.ensures)))
     (piece _ _ _ _ n (ap (λ (s : Bor (List ℕ)). flat_map (fish_option s.now) c.get_arguments.result.now) c.get_name-name.ensures
     ∙ ap (λ (xs : List Arg). flat_map (fish_option (name_of command)) xs) c.get_arguments.ensures)))

@@ -14,6 +14,7 @@ unfolding zsh_case
 returns c =
     on_ok_weaker c.push_str-4.result
     (λ n. five CASE.now (name_of c.args.command.now) OPTIONS.now (flat_map zsh_option (arguments_of c.args.command.now)) LAST.now
-    _ _ _ _ _ _ c.in_ok-push_str.ensures.bytes (piece _ _ _ _ c.in_ok-push_str-2.ensures.bytes (ap (λ (s : Bor (List ℕ)). s.now) c.get_name.ensures)) c.in_ok-push_str-3.ensures.bytes
+    _ _ _ _ _ _ c.in_ok-push_str.ensures.bytes (piece _ _ _ _ c.in_ok-push_str-2.ensures.bytes (ap (λ (s : Bor (List ℕ)). s.now) c.get_name.ensures))
+    c.in_ok-push_str-3.ensures.bytes
     (piece _ _ _ _ c.in_ok-push_options.ensures (ap (λ (xs : List Arg). flat_map zsh_option xs) c.get_arguments.ensures)) n)
     (pushed c.push_str-4.result _ _ _ c.push_str-4.ensures.bytes)
