@@ -40,7 +40,7 @@ def refuse_stale():
 def put(behind_the_gate=False):
     """A folder with the library and its header, as they were built, or, behind the gate, as they are built now of what it left."""
     if behind_the_gate:
-        library.build_over_the_gate()
+        library.build_archive()
     refuse_stale()
     with tempfile.TemporaryDirectory(prefix="from-c-") as folder:
         library.put(folder)

@@ -6,7 +6,7 @@ import subprocess
 import tempfile
 
 from building import build
-from repository import TOP, Untried, below, crates, folder_of
+from repository import TOP, Untried, below, crates, folder_of, kit
 
 NAME = "zugmeled"
 DIST = f"{TOP}/dist"
@@ -38,25 +38,17 @@ def archive():
     return f"{folder_of(NAME)}/out/lib{NAME}.a"
 
 
-def kit():
-    """The folder of the kit."""
-    if not shutil.which("rt"):
-        raise Untried("rt isn't on the path")
-    return os.path.dirname(os.path.dirname(os.path.realpath(shutil.which("rt"))))
-
-
 def heap_of_kit():
     """The archive by which the library calls malloc, realloc and free."""
     return f"{kit()}/c/liblibc_c.a"
 
 
-def build_over_the_gate():
-    """Proves and builds the static library over the libraries that `rt ci` built, as they stand. `rt lib` would build each of them anew, since
-    the gate, which only proves this one, leaves nothing by which that knows what they were built of."""
+def build_archive():
+    """Proves and builds the static library over the libraries that `rt ci` built, as they stand: it only proves this one."""
     libraries = {it: f"{folder_of(it)}/out/rlib" for it in below([NAME])}
     missing = [it for it, at in libraries.items() if not os.path.isdir(f"{at}/{it}.rlib")]
     if missing:
-        raise Untried(f"the gate built no {', '.join(missing)}")
+        raise Untried(f"{', '.join(missing)} of those below {NAME} is not built")
     names = [f"--extern={it}={libraries[it]}/{it}.rlib" for it in crates()[NAME]]
     rest = [word for at in libraries.values() for word in ("-L", f"dependency={at}")]
     of_kit = [f"--extern=std={kit()}/rlibs/std.rlib", "-L", f"dependency={kit()}/rlibs", "--antt-project", f"{kit()}/rattle/logic/antt-project.json",
@@ -93,6 +85,7 @@ def put(to=DIST):
 
 
 def build_library(at_once=None):
-    build(NAME, at_once, verb="lib")
+    build(*below([NAME]), at_once=at_once)
+    build_archive()
     put()
     print(f"{os.path.relpath(DIST)}: {', '.join(sorted(os.listdir(DIST)))}")

@@ -43,6 +43,13 @@ def tell(text):
     print(f"{os.path.basename(sys.argv[0])}: {text}", file=sys.stderr, flush=True)
 
 
+def kit():
+    """The folder of the kit."""
+    if not shutil.which("rt"):
+        raise Untried("rt isn't on the path")
+    return os.path.dirname(os.path.dirname(os.path.realpath(shutil.which("rt"))))
+
+
 def folder_of(crate):
     return f"{TOP}/crates/{crate}"
 
