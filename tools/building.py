@@ -6,7 +6,6 @@ has no wrong bodies, which the gate tries. What was built goes from there to out
 by which the kit's other commands know what they were built of; they get it here, so that `rt check` begins at once.
 """
 import fcntl
-import importlib.machinery
 import importlib.util
 import os
 import re
@@ -16,6 +15,7 @@ import sys
 import tempfile
 import time
 from contextlib import contextmanager
+from functools import cache
 from glob import glob
 
 import repository
@@ -136,14 +136,15 @@ def put(room, crate):
 def stamp(names):
     """Stamps built libraries. Where the kit's stamps aren't as they are known here, its other commands build libraries anew."""
     try:
-        loader = importlib.machinery.SourceFileLoader("rt_of_the_kit", f"{kit()}/bin/rt")
-        rt = importlib.util.module_from_spec(importlib.util.spec_from_loader("rt_of_the_kit", loader))
-        loader.exec_module(rt)
-        stamps = {it.name: (it.rlib, it.stamp()) for it in rt.rtlib.crates_below(TOP) if it.name in names}
-        for rlib, text in stamps.values():
-            if os.path.isdir(rlib):
-                with open(f"{os.path.dirname(rlib)}/stamp", "w", encoding="utf-8") as out:
-                    out.write(text)
+        spec = importlib.util.spec_from_file_location("rtlib", f"{kit()}/bin/rtlib.py")
+        rtlib = importlib.util.module_from_spec(spec)
+        spec.loader.exec_module(rtlib)
+        # A stamp is made of those below, so each is made once alone.
+        rtlib.Crate.stamp = cache(rtlib.Crate.stamp)
+        for it in rtlib.crates_below(TOP):
+            if it.name in names and os.path.isdir(it.rlib):
+                with open(f"{os.path.dirname(it.rlib)}/stamp", "w", encoding="utf-8") as out:
+                    out.write(it.stamp())
     except (OSError, AttributeError, TypeError, SystemExit) as why:
         tell(f"the libraries get no stamps, so rt check builds them anew: {why}")
 
@@ -163,9 +164,9 @@ def build(*crates, at_once=None, out=sys.stdout):
     stamp(names)
 
 
-def built(crate, file=None):
-    """The path of a program as LLVM builds it, or of another file of a crate's out/. It is proved and built first where it isn't there."""
-    path = f"{folder_of(crate)}/out/{file or crate}"
+def built(crate, tests=False):
+    """The path of a program as LLVM builds it, or of that of a crate's tests. It is proved and built first where it isn't there."""
+    path = f"{folder_of(crate)}/out/{crate}{'_tests' if tests else ''}"
     if not os.path.exists(path):
         tell(f"proving and building {crate} takes up to an hour")
         try:

@@ -1,20 +1,22 @@
 """Steps by sessions where memory is refused, and sessions on threads at random whose memory is refused by chance."""
 import os
 import random
-import re
+import subprocess
 from collections import Counter
 
-from building import room_of
 from refusing import numbers, run_as_one, run_threads, tell_counts
-from repository import Untried, folder_of, rt
-from soaking import CRATE, TEST, renumber
+from repository import Untried, folder_of
+from soaking import CRATE, TEST, numbered, tests, told
 
 STEPS = (
-    "refusals::a_change_refused_its_memory_moves_what_was_kept_back",
-    "refusals::a_checkpoint_refused_its_memory_changes_nothing",
-    "refusals::a_step_refused_its_memory_changes_nothing",
-    "refusals::a_step_refused_its_memory_is_answered_when_made_again",
+    "sessions::refusals::a_change_refused_its_memory_moves_what_was_kept_back",
+    "sessions::refusals::a_checkpoint_refused_its_memory_changes_nothing",
+    "sessions::refusals::a_step_refused_its_memory_changes_nothing",
+    "sessions::refusals::a_step_refused_its_memory_is_answered_when_made_again",
 )
+CALLBACKS = "sessions::alone::just_the_calls_that_a_callback_refuses_are_answered_so"
+# The rounds, sessions and calls of the soak in the gate.
+IN_GATE = 1, 64, 100
 # So many calls each of few sessions makes, and of many.
 CALLS, FEWEST = 1_600, 100
 # What a test ends with where its own text, list or hive takes the allocation that is refused.
@@ -30,14 +32,6 @@ def built_by_the_gate():
     if not os.path.exists(program):
         raise Untried(f"the gate left no program of the tests of {CRATE}")
     return program
-
-
-def tests_of(folder):
-    """The program of the tests, which is proved and built."""
-    said = rt(folder, "test", "--", "refusals").stdout
-    if not re.search(rf"^test result: ok\. {len(STEPS)} passed", said, re.M):
-        raise Untried(f"the tests of {CRATE} don't pass:\n{said[-2000:]}")
-    return f"{folder}/out/{CRATE}_tests"
 
 
 def refused_step(said):
@@ -76,37 +70,26 @@ def refuse_test(library, program, test, every):
     return tell_counts(test, seen) and (every > 1 or any(it.endswith("no memory") for it in seen))
 
 
-def refuse_steps(library, every):
-    with room_of(CRATE) as folder:
-        return refuse_steps_of(library, tests_of(folder), every)
-
-
-def refuse_steps_of(library, program, every):
-    return [refuse_test(library, program, it, every) for it in STEPS]
+def refuse_steps(library, every, program=None):
+    return [refuse_test(library, program or tests(), it, every) for it in STEPS]
 
 
 def run_callbacks():
     """Has callbacks refuse each kind of call by itself. Answers whether all went well."""
-    with room_of(CRATE) as folder:
-        said = rt(folder, "test", "--", "alone").stdout
-    told = re.search(r"^test result: ok\. [1-9].*$", said, re.M)
-    print(f"callbacks: {told[0] if told else said[-2000:]}", flush=True)
-    return bool(told)
+    ran = subprocess.run([tests(), CALLBACKS], stdin=subprocess.DEVNULL, stdout=subprocess.PIPE, stderr=subprocess.STDOUT, env={}, timeout=60)
+    is_well = ran.returncode == 0 and b"test result: ok\n" in ran.stdout
+    print(f"callbacks: {'each kind of call is refused by itself' if is_well else ran.stdout[-2000:]}", flush=True)
+    return is_well
 
 
-def soak(library, rounds, sessions):
+def soak(library, rounds, sessions, calls=None, program=None):
     """Has sessions on threads call at random for so many rounds, while their memory is refused by chance. Answers whether all went well."""
-    seed, calls = random.SystemRandom().randrange(1, 1 << 40), max(FEWEST, CALLS // sessions)
-    with room_of(CRATE) as folder:
-        renumber(folder, {"SEED": seed, "CALLS": calls, "SESSIONS": sessions, "MANY": 100, "ROUNDS": rounds})
-        return soak_of(library, tests_of(folder), seed, f"{rounds} rounds of {sessions} sessions with {calls} calls", 60 + 2 * rounds)
-
-
-def soak_of(library, program, seed, what, limit=60):
-    status, output, errors = run_threads(library, [program, TEST], seed, limit)
+    seed, calls = random.SystemRandom().randrange(1, 1 << 40), calls or max(FEWEST, CALLS // sessions)
+    here, words = numbered(seed, rounds, sessions, calls, 100), [program or tests(), TEST]
+    status, output, errors = run_threads(library, words, seed, 60 + 2 * rounds, here)
     refusals = errors.count(b"R")
-    is_well = status == 0 and b"test result: ok\n" in output and refusals > 0
-    print(f"soak: {what}, seed {seed}: {refusals} refusals")
+    is_well = status == 0 and told(rounds, sessions, calls).encode() in output and refusals > 0
+    print(f"soak: {rounds} rounds of {sessions} sessions with {calls} calls, seed {seed}: {refusals} refusals")
     if not is_well:
         print(f"soak: status {status}, {output[-300:]!r}, {errors[-300:]!r}")
     return is_well

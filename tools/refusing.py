@@ -95,10 +95,11 @@ def run_as_one(library, words, number):
     return ran.returncode, ran.stdout
 
 
-def run_threads(library, words, seed, limit):
-    """Status, output, and errors of a run whose threads are refused memory by chance, with an R for each refusal. It may take so many
-    seconds. The numbers of threads are drawn from, too, so that no seed gives the same refusals again."""
-    here = {"LD_PRELOAD": library, "REFUSE_THREADS": str(seed)}
+def run_threads(library, words, seed, limit, more):
+    """Status, output, and errors of a run, in an environment with these variables too, whose threads are refused memory by chance, with an
+    R for each refusal. It may take so many seconds. The numbers of threads are drawn from, too, so that no seed gives the same refusals
+    again."""
+    here = {**more, "LD_PRELOAD": library, "REFUSE_THREADS": str(seed)}
     ran = subprocess.run(words, stdin=subprocess.DEVNULL, capture_output=True, env=here, timeout=limit)
     return ran.returncode, ran.stdout, ran.stderr
 

@@ -1,19 +1,22 @@
-"""The soak of reg_session_tests with other numbers: those of its constants, in a copy of the crate."""
-import re
+"""The soak of reg_tests, which takes its numbers from its environment."""
+from building import built
 
-from repository import Untried
+CRATE = "reg_tests"
+TEST = "sessions::soak::sessions_at_random_are_gathered_and_each_hive_is_its_journals"
 
-CRATE, TEST = "reg_session_tests", "soak::sessions_at_random_are_gathered_and_each_hive_is_its_journals"
+
+def tests():
+    """The program of the tests. It is proved and built first where it isn't there."""
+    return built(CRATE, tests=True)
 
 
-def renumber(folder, numbers):
-    """Gives constants of the soak, by name, other numbers in a copy of the crate."""
-    path = f"{folder}/src/soak.rt"
-    with open(path, encoding="utf-8") as file:
-        text = file.read()
-    for name, number in numbers.items():
-        text, times = re.subn(rf"^(const {name}: u\d+ = )[\d_]+;$", rf"\g<1>{number};", text, flags=re.M)
-        if times != 1:
-            raise Untried(f"the soak has no constant {name}")
-    with open(path, "w", encoding="utf-8") as file:
-        file.write(text)
+def numbered(seed, rounds, sessions, calls, many=1_500):
+    """The environment in which the soak has other numbers than the gate's: the first seed, how often it is done, by how many sessions, of how
+    many calls each, and more than how many entries are to be left each time."""
+    numbers = {"SEED": seed, "ROUNDS": rounds, "SESSIONS": sessions, "CALLS": calls, "MANY": many}
+    return {f"SOAK_{name}": str(number) for name, number in numbers.items()}
+
+
+def told(rounds, sessions, calls):
+    """What the soak says of its numbers, once all went well."""
+    return f"{rounds} rounds of {sessions} sessions with {calls} calls\n"

@@ -70,6 +70,11 @@ hive_front key =
 abbrev pub is_typed : ℕ → Bool
 is_typed unit = nat_le 32 unit && (nat_le unit 126 && not (unit == 39))
 
+-- some text that doesn't begin as an option does
+abbrev pub begins_name : List ℕ → Bool
+begins_name [] = false
+begins_name (unit ∷ front) = not (unit == 45)
+
 -- some text with no backslash at its end
 abbrev pub ends_name : List ℕ → Bool
 ends_name [] = false
@@ -77,7 +82,7 @@ ends_name (unit ∷ front) = not (get_or (unit ∷ front) (length front) 0 == 92
 
 -- a front that may be typed
 abbrev pub may_be_typed : List ℕ → Bool
-may_be_typed front = ends_name front && (nat_le (length front) 200 && list_all is_typed front)
+may_be_typed front = begins_name front && (ends_name front && (nat_le (length front) 200 && list_all is_typed front))
 
 -- the option by which a front would stand for the root
 unfoldable pub hint : List ℕ → List ℕ

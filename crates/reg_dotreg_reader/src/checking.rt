@@ -16,7 +16,7 @@ use crate::lines::{first_line, without_return};
 use crate::places::bad_line;
 use crate::quote_stops::lacks_quote;
 use crate::reading::{is_narrow_by, said};
-use crate::roots::{long_root, widened};
+use crate::roots::long_root;
 use crate::rows::{WholeValue, ends_quoted, whole_row};
 use crate::units::Units;
 use crate::words::{before_blanks, behind_blanks, trimmed};
@@ -284,7 +284,7 @@ fn find_bad(
 }
 
 /// The lines of a text that aren't understood, in their order: all, or the first alone. The text is of keys below a root of that name, or
-/// of a front that stands for it, as for [`crate::read_below`]; where that answers entries there are none, and else the first of them has
+/// of a front that stands for it, as for [`crate::read_entries`]; where that answers entries there are none, and else the first of them has
 /// the number that it tells.
 ///
 /// Behind one, reading goes on with the next line as if it weren't there, but for three: behind a line of keys values may stand; so they
@@ -293,7 +293,7 @@ fn find_bad(
 ///
 /// Its one fault is that memory was refused.
 #[tactic(auto, using(crate::proofs::BadSteps::told_first))]
-pub fn bad_lines_below(
+pub fn bad_lines(
     alloc: Global,
     root: &[u16],
     text: &[u16],
@@ -304,18 +304,4 @@ pub fn bad_lines_below(
 {
     let bad = find_bad(alloc, root, text, tells_all)?;
     Ok(bad)
-}
-
-/// The lines of a text as by [`bad_lines_below`], of keys below a root whose name has characters of one byte.
-pub fn bad_lines(
-    alloc: Global,
-    root: &[u8],
-    text: &[u16],
-    tells_all: bool,
-) -> Result<Vec<BadLine>, AllocError>
-    ensures lines { IfOk result (λ bad. bad.items ≡ told tells_all (bad_lines_in root.now text.now)) }
-    ensures first { IfOk result (λ bad. Tells (entries_in root.now text.now) bad.items) }
-{
-    let root = widened(alloc, root)?;
-    bad_lines_below(alloc, &root, text, tells_all)
 }

@@ -1,12 +1,12 @@
 //! The entries of a .reg text: keys to be made and taken away, and values to be set and taken away.
 //!
-//! Its one contract: [`units_in`] answers just the units that `specs/FileUnits.antt` says of a file's bytes, and [`read_below`] just
+//! Its one contract: [`units_in`] answers just the units that `specs/FileUnits.antt` says of a file's bytes, and [`read_entries`] just
 //! the entries that `specs/EntryMeanings.antt` says of a text, or the number of its first line that isn't understood. What the keys of a
 //! text are below is given in units too, as [`front_units`] and [`widened`] make them. It stands on reg_names, which says what is a name
 //! and a path, and on reg_model for its bytes.
 //!
-//! [`bad_lines_below`] answers just the lines of a text that `specs/BadLines.antt` says aren't understood: each with its place and with what
-//! was expected there, which [`told_below`] tells.
+//! [`bad_lines`] answers just the lines of a text that `specs/BadLines.antt` says aren't understood: each with its place and with what
+//! was expected there, which [`told`] tells.
 //!
 //! Its types are [`Entry`], [`Numbered`], [`ReadFault`] and [`BadLine`] with [`Expected`] and [`Units`].
 //!
@@ -38,12 +38,12 @@ mod units;
 mod values;
 mod words;
 
-pub use checking::{bad_lines, bad_lines_below};
+pub use checking::bad_lines;
 pub use encoding::{front_units, units_in};
 pub use entry::{Entry, Numbered};
 pub use expected::{BadLine, Expected};
 pub use fault::ReadFault;
-pub use reading::{read_below, read_entries};
+pub use reading::read_entries;
 pub use roots::widened;
-pub use telling::{told, told_below};
+pub use telling::told;
 pub use units::Units;

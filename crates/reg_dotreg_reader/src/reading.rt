@@ -8,7 +8,7 @@ use crate::entry::{Entry, Numbered};
 use crate::fault::{LineFault, ReadFault};
 use crate::keys::key_said;
 use crate::lines::{first_line, without_return};
-use crate::roots::{long_root, widened};
+use crate::roots::long_root;
 use crate::rows::{Place, is_value_line, joined, row_at};
 use crate::values::value_said;
 use crate::words::{before_blanks, is_word, trimmed};
@@ -180,7 +180,7 @@ fn entries_behind(
 ///
 /// `Line` tells the first line that isn't understood; `Memory` that memory was refused. It answers no other fault.
 #[tactic(auto, using(crate::proofs::EntrySteps::read_titled, crate::proofs::EntrySteps::read_untitled))]
-pub fn read_below(alloc: Global, root: &[u16], text: &[u16]) -> Result<Vec<Numbered>, ReadFault>
+pub fn read_entries(alloc: Global, root: &[u16], text: &[u16]) -> Result<Vec<Numbered>, ReadFault>
     ensures ok { IfOk result (λ entries. entries_in root.now text.now ≡ Ok entries.items) }
     ensures err { IfErr result (λ fault. IsRefused (entries_in root.now text.now) fault) }
 {
@@ -189,13 +189,4 @@ pub fn read_below(alloc: Global, root: &[u16], text: &[u16]) -> Result<Vec<Numbe
     };
     let long = long_root(alloc, root)?;
     entries_behind(alloc, &long, is_narrow, behind)
-}
-
-/// The entries of a text as by [`read_below`], of keys below a root whose name has characters of one byte.
-pub fn read_entries(alloc: Global, root: &[u8], text: &[u16]) -> Result<Vec<Numbered>, ReadFault>
-    ensures ok { IfOk result (λ entries. entries_in root.now text.now ≡ Ok entries.items) }
-    ensures err { IfErr result (λ fault. IsRefused (entries_in root.now text.now) fault) }
-{
-    let root = widened(alloc, root)?;
-    read_below(alloc, &root, text)
 }

@@ -1,11 +1,11 @@
 //! What is told of a line that isn't understood.
 ghost use Rattle.std.specs.Prelude.{◌≡◌, map, take, string_bytes, IfOk};
 ghost use Rattle.std.specs.List.{list_all};
-ghost use Rattle.reg_dotreg_reader.specs.ToldLines.{is_control, plain_unit, shown, has_hives, hive_front, is_typed, ends_name, may_be_typed, hint};
+ghost use Rattle.reg_dotreg_reader.specs.ToldLines.{is_control, plain_unit, shown, has_hives, hive_front, is_typed, begins_name, ends_name, may_be_typed, hint};
 ghost use Rattle.reg_dotreg_reader.specs.ToldLines.{found_told, whose, root_told, expected_told, told_line};
 
 use crate::expected::{BadLine, Expected};
-use crate::roots::{is_name, name_end, widened};
+use crate::roots::{is_name, name_end};
 use std::alloc::{AllocError, Global};
 
 /// How many units are told of what was found.
@@ -85,6 +85,16 @@ fn are_typed(units: &[u16]) -> bool
     units.iter().all(|unit| is_typed(*unit))
 }
 
+/// Whether a front has units, of which the first is no `-`: else it would be taken for an option.
+fn begins_name(front: &[u16]) -> bool
+    ensures { result ≡ begins_name front.now }
+{
+    let Some(first) = front.first() else {
+        return false;
+    };
+    *first != 45
+}
+
 /// Whether a front has units, of which the last is no backslash.
 fn ends_name(front: &[u16]) -> bool
     ensures { result ≡ ends_name front.now }
@@ -99,7 +109,7 @@ fn ends_name(front: &[u16]) -> bool
 fn may_be_typed(front: &[u16]) -> bool
     ensures { result ≡ may_be_typed front.now }
 {
-    ends_name(front) && (front.len() <= FOUND_LIMIT && are_typed(front))
+    begins_name(front) && (ends_name(front) && (front.len() <= FOUND_LIMIT && are_typed(front)))
 }
 
 /// The option by which a front would stand for the root; nothing of one that can't be typed.
@@ -187,7 +197,7 @@ fn expected_text(
 /// root of that name, or of a front that was given for it. Where a key begins otherwise, it tells what was found, and the option that takes
 /// it.
 #[tactic(auto, unfolding(crate::specs::ToldLines::told_line))]
-pub fn told_below(
+pub fn told(
     alloc: Global,
     root: &[u16],
     is_front: bool,
@@ -198,12 +208,4 @@ pub fn told_below(
     let column = bad.column;
     let expected = expected_text(alloc, root, is_front, bad)?;
     format!(in alloc; "column {column}: expected {expected}")
-}
-
-/// What is told of a line as by [`told_below`], of keys below a root whose name has characters of one byte, or of such a front.
-pub fn told(alloc: Global, root: &[u8], is_front: bool, bad: &BadLine) -> Result<String, AllocError>
-    ensures { IfOk result (λ text. string_bytes text ≡ told_line root.now is_front bad.now) }
-{
-    let root = widened(alloc, root)?;
-    told_below(alloc, &root, is_front, bad)
 }

@@ -5,7 +5,7 @@ use Rattle.std.specs.FinMap.{get}
 use Rattle.reg_model.specs.Callbacks.{no_callbacks}
 use Rattle.reg_tree_text.specs.DumpTexts.{name_of}
 use Rattle.reg_calls.specs.Views.{View, IsHive}
-use Rattle.reg_dotreg_reader.specs.FileUnits.{units_of, IsUnread}
+use Rattle.reg_dotreg_reader.specs.FileUnits.{units_of, front_units, IsUnread}
 use Rattle.reg_dotreg_reader.specs.EntryMeanings.{entries_in}
 use Rattle.reg_dotreg_reader.specs.BadLines.{bad_lines_in, told, Tells}
 use Rattle.reg_dotreg_reader.specs.declared.entry.Numbered.{Numbered}
@@ -47,9 +47,9 @@ TextStops fault root tells_all text = ⊥
 abbrev pub root_name : View → List ℕ
 root_name hive = name_of (get hive.keys.tree [])
 
--- what stands in a text for a hive's root: a front that is given, or the root's name
+-- what stands in a text for a hive's root: the characters of a front that is given, or the root's name
 abbrev pub front_of : Option (List ℕ) → View → List ℕ
-front_of (Some front) hive = front
+front_of (Some front) hive = front_units front
 front_of None hive = root_name hive
 
 -- the entries of a text were made in a hive, at a moment, by their calls, one after another

@@ -9,8 +9,8 @@ use std::alloc::{AllocError, Global};
 /// A text that isn't understood.
 #[derive(Debug, Drop)]
 pub struct BadText {
-    /// What its keys were expected to begin with: the root's name, or the front that was given for it.
-    pub root: Vec<u8>,
+    /// What its keys were expected to begin with, in UTF-16: the root's name, or the front that was given for it.
+    pub root: Vec<u16>,
     /// Its lines that aren't understood, in their order: all, or the first alone. There is at least one.
     pub lines: Vec<BadLine>,
 }
@@ -18,7 +18,7 @@ pub struct BadText {
 /// The lines of a text that aren't understood, of keys below a root of that name: all, or the first alone.
 pub fn bad_text(
     alloc: Global,
-    root: &[u8],
+    root: &[u16],
     units: &[u16],
     tells_all: bool,
 ) -> Result<BadText, AllocError>

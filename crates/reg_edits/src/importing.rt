@@ -15,7 +15,7 @@ use crate::loading::{LoadedHive, load_seated};
 use reg_callbacks::Callback;
 use reg_calls::{Hive, SeatedHive};
 use reg_dotreg_import::ImportFault;
-use reg_dotreg_reader::{Numbered, ReadFault, read_entries, units_in};
+use reg_dotreg_reader::{Numbered, ReadFault, front_units, read_entries, units_in, widened};
 use reg_image::LoadFault;
 use reg_text::Source;
 use std::alloc::{AllocError, Global};
@@ -63,7 +63,7 @@ impl From<ReadFault> for ImportEnd {
 
 /// What is told of a text that isn't understood.
 #[tactic(auto, using(crate::proofs::TextFaults::bad_read))]
-fn no_entries(alloc: Global, root: &[u8], units: &[u16], tells_all: bool) -> ImportEnd
+fn no_entries(alloc: Global, root: &[u16], units: &[u16], tells_all: bool) -> ImportEnd
     ensures { (number : ℕ) → entries_in root.now units.now ≡ Err number → (text : List ℕ) → units_of text ≡ Some units.now →
         TextStops result root.now tells_all text }
 {
@@ -77,7 +77,7 @@ fn no_entries(alloc: Global, root: &[u8], units: &[u16], tells_all: bool) -> Imp
 #[tactic(auto, using(crate::proofs::TextFaults::line_stops))]
 fn read_text(
     alloc: Global,
-    root: &[u8],
+    root: &[u16],
     tells_all: bool,
     text: &[u8],
 ) -> Result<Vec<Numbered>, ImportEnd>
@@ -94,6 +94,21 @@ fn read_text(
     }
 }
 
+/// What stands in a text for a hive's root: a front that is given in UTF-8, or the root's name.
+fn root_units<C: Callback>(
+    alloc: Global,
+    hive: &Hive<C>,
+    front: Option<&[u8]>,
+) -> Result<Vec<u16>, AllocError>
+    ensures { IfOk result (λ units. units.items ≡ front_of (option_copied front.entry) (view_of hive.now)) }
+{
+    let tree = hive.tree();
+    match front {
+        Some(front) => front_units(alloc, front),
+        None => widened(alloc, tree.name(tree.root())),
+    }
+}
+
 /// The entries of the bytes of a .reg text, of keys of a hive, for whose root a front stands, or its name.
 fn read_text_for<C: Callback>(
     alloc: Global,
@@ -105,10 +120,9 @@ fn read_text_for<C: Callback>(
     ensures ok { IfOk result (λ entries. IsText (front_of (option_copied front.entry) (view_of hive.now)) text.now entries.items) }
     ensures err { IfErr result (λ fault. TextStops fault (front_of (option_copied front.entry) (view_of hive.now)) tells_all text.now) }
 {
-    let tree = hive.tree();
-    match front {
-        Some(front) => read_text(alloc, front, tells_all, text),
-        None => read_text(alloc, tree.name(tree.root()), tells_all, text),
+    match root_units(alloc, hive, front) {
+        Ok(root) => read_text(alloc, root.as_slice(), tells_all, text),
+        Err(AllocError) => Err(ImportEnd::Text(ReadFault::Memory)),
     }
 }
 
@@ -176,7 +190,7 @@ fn read_whole<R: Source>(alloc: Global, input: &mut R) -> Result<Vec<u8>, Import
 
 /// Loads a hive from the image at the front of a file, makes in it the entries of the .reg text on an input, all at one moment, and
 /// answers the hive that they left, with that moment and the next sequence number. In the text a front stands for the hive's root, where
-/// one is given, else the root's name. Where lines of the text aren't understood, it tells all of them, or the first alone, and no entry is
+/// one is given, in UTF-8, else the root's name. Where lines of the text aren't understood, it tells all of them, or the first alone, and no entry is
 /// made.
 ///
 /// The input is read to its end before an entry is made; a read of it that fails, or is interrupted, isn't tried again.

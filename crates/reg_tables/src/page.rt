@@ -59,18 +59,23 @@ const holder = document.getElementById("keys");
 const keys = JSON.parse(holder.textContent);
 holder.remove();
 
-// Where the key of a path is among the keys, which key is above each, and which ones are right below it. Each stands behind the one
-// above it.
-const places = new Map();
+// Whether a path goes on from another one.
+function goesOn(front, path) {
+  return path.charCodeAt(front.length) === 92 && path.startsWith(front);
+}
+
+// Which key is above each, and which ones are right below it. A key stands behind the one above it, and between them only what is below
+// that one. So the way to a key is known from the key before it.
 const above = [];
 const below = [];
+const way = [];
 keys.forEach((key, place) => {
-  const end = key.path.lastIndexOf("\\");
-  const parent = place === 0 ? -1 : places.get(end < 0 ? "" : key.path.slice(0, end));
-  places.set(key.path, place);
+  while (way.length > 1 && !goesOn(keys[way.at(-1)].path, key.path)) way.pop();
+  const parent = way.length === 0 ? -1 : way.at(-1);
   above.push(parent);
   below.push([]);
   if (parent >= 0) below[parent].push(place);
+  way.push(place);
 });
 
 // The keys that stand in the tree, each with its link, and which one is chosen.
@@ -201,8 +206,8 @@ function follow() {
   } catch {
     // It is no path, and none is found.
   }
-  const place = path === "" ? 0 : places.get(path);
-  if (place === undefined) document.getElementById("key").replaceChildren(make("p", "There is no key " + path));
+  const place = path === "" ? 0 : keys.findIndex((key) => key.path === path);
+  if (place < 0) document.getElementById("key").replaceChildren(make("p", "There is no key " + path));
   else choose(place);
 }
 

@@ -198,7 +198,12 @@ fn long_arg<'a>(alloc: Global) -> Arg<'a>
 fn verbose_arg<'a>(alloc: Global) -> Arg<'a>
     ensures { IsRule (short_rule (codes "verbose") 118) result }
 {
-    flag_arg(alloc, "verbose", "Tell more of each file").short('v')
+    flag_arg(
+        alloc,
+        "verbose",
+        "Tell of a faulty file why, at which offset of its bins, and in which key",
+    )
+    .short('v')
 }
 
 /// A command without arguments.
