@@ -13,9 +13,6 @@ pub enum FixtureFault {
     /// There are no such bytes: a place is past the end.
     #[error("a place is past the end")]
     Place,
-    /// A hive's bins aren't as the format has them: what is wrong.
-    #[error("{0}")]
-    Bins(&'static str),
     /// A growth was refused.
     #[error("no memory")]
     Memory,

@@ -4,7 +4,7 @@
 //! meets. It stands on reg_tree_image for the checksum, and on reg_calls. Its main types are [`FakeReader`], [`FakeWriter`] and
 //! [`PlainHive`]; `FixtureFault` says what was wrong with a table or a place, or that memory was wanting.
 //!
-//! `bytes` changes bytes of an image, `drafts` writes one out cell by cell from a table, and `bins` reads a key's lists off the bins.
+//! `bytes` changes bytes of an image, `drafts` writes one out cell by cell from a table, and `bins` tells of an arena's cells.
 #![tactic(auto)]
 
 mod bins;
@@ -14,7 +14,7 @@ mod fakes;
 mod fault;
 mod registry;
 
-pub use crate::bins::{SubkeyLists, allocated, is_among, sizes_but, subkeys};
+pub use crate::bins::{is_among, sizes_but};
 pub use crate::bytes::{digits, put, put_changes, put_line, seal};
 pub use crate::drafts::drafted;
 pub use crate::fakes::{Failure, FakeReader, FakeWriter, narrow, wide};

@@ -1,9 +1,8 @@
 //! The run of the gate: it is short, and tells the same each time.
 use crate::fuzz::fuzz;
 use crate::hives::scripted;
-use crate::notices::run_notices;
 use crate::rows::run_rows;
-use crate::seeds::{RECORDS_END, SCRIPTS, every_record, images};
+use crate::seeds::{RECORDS_END, SCRIPTS, every_record};
 use crate::sweeps::{all_bits, fronts, readers, sealed_bits, some_bits};
 use crate::ways::{same_bits, sizes_by_ways};
 use anyhow::Result;
@@ -106,6 +105,5 @@ pub fn run(rt: &impl Print, alloc: Global) -> Result<()> {
     let (of_images, of_scripts) = fuzz::<PlainHive>(alloc, 1, SEEDS)?;
     println!(rt; "images of {SEEDS} seeds: {of_images}")?;
     println!(rt; "scripts of {SEEDS} seeds: {of_scripts}")?;
-    run_rows::<PlainHive>(rt, alloc)?;
-    run_notices::<PlainHive>(rt, alloc)
+    run_rows::<PlainHive>(rt, alloc)
 }

@@ -11,7 +11,6 @@ mod changes;
 mod fuzz;
 mod gate;
 mod hives;
-mod notices;
 mod rows;
 mod seeds;
 mod sweeps;

@@ -33,11 +33,6 @@ impl Chance {
         }
     }
 
-    /// Whether one of so many cases came, which are equally likely.
-    pub fn is_one_of(&mut self, cases: usize) -> bool {
-        self.below(cases) == 0
-    }
-
     /// One of these items; `None` of none.
     pub fn item_of<T: Copy>(&mut self, items: &[T]) -> Option<T> {
         let index = self.below(items.len());
