@@ -10,10 +10,10 @@ from repository import Untried, folder_of, rt
 from soaking import CRATE, TEST, renumber
 
 STEPS = (
-    "refusals::a_change_refused_its_memory_moves_what_was_kept_back",
-    "refusals::a_checkpoint_refused_its_memory_changes_nothing",
-    "refusals::a_step_refused_its_memory_changes_nothing",
-    "refusals::a_step_refused_its_memory_is_answered_when_made_again",
+    "sessions::refusals::a_change_refused_its_memory_moves_what_was_kept_back",
+    "sessions::refusals::a_checkpoint_refused_its_memory_changes_nothing",
+    "sessions::refusals::a_step_refused_its_memory_changes_nothing",
+    "sessions::refusals::a_step_refused_its_memory_is_answered_when_made_again",
 )
 # So many calls each of few sessions makes, and of many.
 CALLS, FEWEST = 1_600, 100

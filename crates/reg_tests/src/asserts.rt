@@ -1,15 +1,6 @@
-//! Comparisons that end a test.
+//! The comparison that ends a test.
 
-use std::fmt::Debug;
 use std::test::Fail;
-
-/// Fails where a value isn't what was wanted.
-pub fn assert_same<T: PartialEq + Debug>(value: &T, wanted: &T) -> Result<(), Fail> {
-    if value == wanted {
-        return Ok(());
-    }
-    Err(Fail::new(format_args!("{value:?}, and not {wanted:?}")))
-}
 
 /// Fails where a report isn't what was wanted, or couldn't be made.
 pub fn assert_report(report: Result<String, Fail>, wanted: &str) -> Result<(), Fail> {

@@ -3,8 +3,8 @@
 //! same. In the gate nothing is refused: `tools/refuse-memory` runs these tests once for each request for memory, and reads in what they
 //! print at which step it was refused, and what came of that step.
 use crate::asserts::assert_report;
-use crate::jobs::{new_key, open, watch};
-use crate::stage::{Act, Came, Left, Stage, Step};
+use crate::sessions::jobs::{new_key, open, watch};
+use crate::sessions::stage::{Act, Came, Left, Stage, Step};
 use reg_calls::Hive;
 use reg_image::{CheckpointFault, checkpoint, image};
 use reg_journal::Share;

@@ -1,7 +1,7 @@
 //! When a gate is told of a call: inside the hive's lock, where no other call is, and again after the lock was given back.
 use crate::asserts::assert_report;
-use crate::flags::Flags;
-use crate::jobs::{fresh_hives, job_of, open, run, to_change, told_of_jobs};
+use crate::sessions::flags::Flags;
+use crate::sessions::jobs::{fresh_hives, job_of, open, run, to_change, told_of_jobs};
 use reg_sessions::{HiveGate, Job, Registry, Work, start};
 use std::alloc::{AllocError, Global};
 use std::sync::Wait;

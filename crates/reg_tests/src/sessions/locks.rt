@@ -1,8 +1,8 @@
 //! The rules' row of two locks: two sessions change two hives, and each waits inside its hive's lock until the other is inside its own. That
 //! ends well only where the jobs run side by side, and each hive has a lock of its own.
 use crate::asserts::assert_report;
-use crate::flags::Flags;
-use crate::jobs::{fresh_hives, job_of, make, new_key, open, to_change, told_of_jobs};
+use crate::sessions::flags::Flags;
+use crate::sessions::jobs::{fresh_hives, job_of, make, new_key, open, to_change, told_of_jobs};
 use reg_sessions::{HiveGate, Job, Registry, Work, start};
 use std::alloc::{AllocError, Global};
 use std::sync::Wait;

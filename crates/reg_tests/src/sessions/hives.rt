@@ -1,7 +1,8 @@
 //! Which hive a registration, and the taking of a notice, is for: of two hives the one that is named; and that hives come back in their order.
-use crate::asserts::{assert_report, tell_gathered};
-use crate::jobs::{fresh_hives, open, set_value, watch};
-use crate::told::{register, tell_change, tell_notice, unregister};
+use crate::asserts::assert_report;
+use crate::sessions::asserts::tell_gathered;
+use crate::sessions::jobs::{fresh_hives, open, set_value, watch};
+use crate::sessions::told::{register, tell_change, tell_notice, unregister};
 use reg_sessions::{GatherFault, Registry, Session, gather, start};
 use std::alloc::{AllocError, Global};
 use std::sync::Wait;

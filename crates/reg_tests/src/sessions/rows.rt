@@ -1,7 +1,8 @@
 //! The rules' rows of sessions, on one thread: a loaded hive behind a lock, a callback that comes and goes there, and two hives in turn.
-use crate::asserts::{assert_report, tell_gathered};
-use crate::jobs::open;
-use crate::told::{register, tell_answer, tell_change, unregister};
+use crate::asserts::assert_report;
+use crate::sessions::asserts::tell_gathered;
+use crate::sessions::jobs::open;
+use crate::sessions::told::{register, tell_answer, tell_change, unregister};
 use reg_calls::{Hive, SeatedHive};
 use reg_image::{image, load};
 use reg_model::{Bytes, Change, Query};

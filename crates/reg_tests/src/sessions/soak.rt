@@ -1,7 +1,7 @@
 //! Sixty-four sessions on threads of their own at sixteen hives, with calls taken at random. When all are gathered, each hive's journal, run
 //! again on one thread, is answered as it was, and leaves the same tree.
 use crate::asserts::assert_report;
-use crate::jobs::{job_of, run};
+use crate::sessions::jobs::{job_of, run};
 use reg_callbacks::NoCallback;
 use reg_calls::{Hive, SeatedHive};
 use reg_model::{Bytes, Call, Change, Outcome, Query};

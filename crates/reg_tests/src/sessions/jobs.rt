@@ -1,6 +1,6 @@
 //! What tests of jobs share: hives and their roots, works, and what comes of them. A report lacks what couldn't be made or written, and so
 //! isn't the wanted one.
-use crate::asserts::tell_gathered;
+use crate::sessions::asserts::tell_gathered;
 use reg_calls::Hive;
 use reg_model::{Bytes, Call, Change, Notice, Outcome, Query};
 use reg_sessions::{Ask, Done, HiveGate, Job, OpenGate, Registry, Session, Work, are_ready, drive};

@@ -1,8 +1,9 @@
 //! The rules' rows of notices: one is taken while another session is inside the lock of the hive that told it, and what a ring has no room
 //! for comes by a later call of the session.
-use crate::asserts::{assert_report, tell_gathered};
-use crate::flags::Flags;
-use crate::jobs::{
+use crate::asserts::assert_report;
+use crate::sessions::asserts::tell_gathered;
+use crate::sessions::flags::Flags;
+use crate::sessions::jobs::{
     fresh_hives, job_of, make, new_key, open, set_value, to_ask, to_change, told_of_jobs, watch,
 };
 use reg_model::{Change, Query};

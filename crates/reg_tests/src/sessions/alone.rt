@@ -1,10 +1,11 @@
 //! A callback that refuses one kind of call alone: just that call is answered so, without an entry, by a session and on a hive of one
 //! thread. A Close isn't asked.
 ghost use Rattle.std.specs.Prelude.{◌≡◌, ◌==◌, if◌then◌else◌};
-ghost use Rattle.reg_session_tests.specs.Kinds.{kind_of, kind_of_change, kind_of_query};
+ghost use Rattle.reg_tests.specs.Kinds.{kind_of, kind_of_change, kind_of_query};
 
-use crate::asserts::{assert_report, tell_gathered};
-use crate::jobs::{fresh_hives, open, watch};
+use crate::asserts::assert_report;
+use crate::sessions::asserts::tell_gathered;
+use crate::sessions::jobs::{fresh_hives, open, watch};
 use reg_callbacks::Callback;
 use reg_calls::{Hive, SeatedHive};
 use reg_model::{AnswerBody, Bytes, Call, Change, Query};

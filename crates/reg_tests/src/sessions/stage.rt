@@ -1,6 +1,6 @@
 //! Two sessions at two hives, and the steps that they take. A step that wants memory is answered 8 or the fault Memory; then it is not told.
-use crate::jobs::{fresh_hives, job_of, ran};
-use crate::told::boxed;
+use crate::sessions::jobs::{fresh_hives, job_of, ran};
+use crate::sessions::told::boxed;
 use reg_callbacks::{CallbackFault, Cookie};
 use reg_calls::Hive;
 use reg_image::image;

@@ -1,6 +1,7 @@
 //! Checkpoints between drives: each drops the receipts that it compared, numbers go on, and a notice that wasn't taken still comes.
-use crate::asserts::{assert_report, tell_gathered};
-use crate::jobs::{fresh_hives, job_of, make, open, run, sessions_of, to_change, watch};
+use crate::asserts::assert_report;
+use crate::sessions::asserts::tell_gathered;
+use crate::sessions::jobs::{fresh_hives, job_of, make, open, run, sessions_of, to_change, watch};
 use reg_model::Change;
 use reg_sessions::{OpenGate, Registry, Session, Work, start};
 use std::alloc::{AllocError, Global};
