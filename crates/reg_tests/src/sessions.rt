@@ -3,17 +3,13 @@
 //! is told inside it and after it; a callback refuses the calls of one kind alone; a step that is refused its memory changes nothing; and
 //! many calls at random, from all sessions that there may be, leave hives that are those of their journals. The wanted replies come from
 //! the rules.
+//!
+//! A `stage` has sessions and hives, and carries out lines. `scenes` are such lines with what is replied to each.
 mod alone;
-mod asserts;
-mod checkpoints;
-mod flags;
-mod gates;
-mod hives;
+mod gate;
+mod guard;
 mod jobs;
-mod locks;
-mod notices;
 mod refusals;
-mod rows;
+mod scenes;
 mod soak;
 mod stage;
-mod told;

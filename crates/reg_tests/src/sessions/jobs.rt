@@ -1,110 +1,88 @@
-//! What tests of jobs share: hives and their roots, works, and what comes of them. A report lacks what couldn't be made or written, and so
-//! isn't the wanted one.
-use crate::sessions::asserts::tell_gathered;
-use reg_calls::Hive;
-use reg_model::{Bytes, Call, Change, Notice, Outcome, Query};
-use reg_sessions::{Ask, Done, HiveGate, Job, OpenGate, Registry, Session, Work, are_ready, drive};
+//! What lines give sessions to do, on threads of their own, and what came of it.
+use crate::sessions::gate::Gate;
+use reg_model::{Call, Change, Notice, Outcome};
+use reg_script::{Line, Setting, parse};
+use reg_sessions::{Ask, Done, Job, Registry, Session, Work, are_ready, drive};
 use std::alloc::{AllocError, Global};
 use std::sync::Wait;
 use std::test::Fail;
 use std::thread::Threads;
 
-/// So many fresh hives of one root.
-pub fn fresh_hives(alloc: Global, count: usize) -> Result<Vec<Hive>, Fail> {
-    let mut hives = Vec::new(alloc);
-    for _hive in 0..count {
-        hives.push(Hive::new(alloc, b"ROOT", &[7; 20], 0)?)?;
+/// The status of a call for which there is no memory.
+pub const NO_MEMORY: u32 = 8;
+
+/// What lines go by: the session, the hive and the moment that were set last.
+#[derive(Drop)]
+pub struct Place {
+    pub session: u8,
+    pub hive: u8,
+    pub moment: u64,
+}
+
+/// The place of a first line.
+pub const FIRST: Place = Place {
+    session: 0,
+    hive: 0,
+    moment: 0,
+};
+
+/// What a line of a script asks for; nothing where it is empty, or a setting, by which later lines go.
+pub fn read(alloc: Global, place: &mut Place, line: &str) -> Result<Option<Ask>, Fail> {
+    match parse(alloc, 16, line.as_bytes())? {
+        Line::Call(call) => return Ok(Some(Ask::Call(call))),
+        Line::Notice => return Ok(Some(Ask::TakeNotice)),
+        Line::Setting(Setting::At(moment)) => place.moment = moment,
+        Line::Setting(Setting::As(session)) => place.session = session.number,
+        Line::Setting(Setting::Hive(hive)) => place.hive = hive,
+        Line::Nothing => {}
+        Line::Bad => return Err("no line of a script".into()),
     }
-    Ok(hives)
+    Ok(None)
 }
 
-/// Opens a hive's root with every right.
-pub fn open() -> Change {
-    Change::OpenRoot { mask: 983_103 }
-}
-
-/// A watch of the key that has this handle.
-pub fn watch(handle: u64, filter: u32) -> Change {
-    Change::Notify {
-        handle,
-        filter,
-        subtree: false,
+/// A job of each session, without work.
+pub fn jobs_of(alloc: Global, sessions: Vec<Session>) -> Result<Vec<Job>, AllocError> {
+    let mut jobs = Vec::new(alloc);
+    for session in sessions {
+        jobs.push(Job {
+            session,
+            work: Vec::new(alloc),
+            outcomes: Vec::new(alloc),
+        })?;
     }
+    Ok(jobs)
 }
 
-/// A value of the key that has this handle.
-pub fn set_value(alloc: Global, handle: u64) -> Result<Change, AllocError> {
-    Ok(Change::SetValue {
-        handle,
-        name: Bytes::from_slice(alloc, b"v")?,
-        kind: 4,
-        bytes: Bytes::from_slice(alloc, &[1])?,
-    })
-}
-
-/// A key below the one that has this handle.
-pub fn new_key(alloc: Global, handle: u64) -> Result<Change, AllocError> {
-    Ok(Change::CreateKey {
-        handle,
-        path: Bytes::from_slice(alloc, b"K")?,
-        mask: 983_103,
-        descriptor: None,
-    })
-}
-
-/// Makes a change at a hive so many times, where the session and the hive are there. The count of entries tells how often it was accepted.
-pub fn make<Rt: Wait>(
-    rt: &Rt,
-    registry: &Registry,
-    session: Option<&mut Session>,
-    hive: u8,
-    change: &Change,
-    times: usize,
-) {
-    let Some(session) = session else {
-        return;
+/// Gives a job more work.
+fn add_work(jobs: &mut [Job], place: &Place, ask: Ask) -> Result<(), Fail> {
+    let Some(job) = jobs.get_mut(place.session as usize) else {
+        return Err("no such session".into());
     };
-    for _time in 0..times {
-        if hive as usize >= registry.hives() || hive as usize >= session.hives() {
-            return;
+    job.work.push(Work {
+        hive: place.hive,
+        moment: place.moment,
+        ask,
+    })?;
+    Ok(())
+}
+
+/// Gives jobs the work of lines that are parted by `, `.
+pub fn add_works(alloc: Global, jobs: &mut [Job], lines: &str) -> Result<(), Fail> {
+    let mut place = FIRST;
+    for line in lines.split(", ") {
+        if let Some(ask) = read(alloc, &mut place, line)? {
+            add_work(jobs, &place, ask)?;
         }
-        session.change(rt, registry, &OpenGate, hive, 1, change);
     }
-}
-
-/// A change as a work.
-pub fn to_change(hive: u8, change: Change) -> Work {
-    Work {
-        hive,
-        moment: 1,
-        ask: Ask::Call(Call::Change(change)),
-    }
-}
-
-/// A question as a work.
-pub fn to_ask(hive: u8, query: Query) -> Work {
-    Work {
-        hive,
-        moment: 1,
-        ask: Ask::Call(Call::Query(query)),
-    }
-}
-
-/// A session's job. It has no work where there was no memory for that.
-pub fn job_of(alloc: Global, session: Session, work: Result<Vec<Work>, AllocError>) -> Job {
-    Job {
-        session,
-        work: work.unwrap_or(Vec::new(alloc)),
-        outcomes: Vec::new(alloc),
-    }
+    Ok(())
 }
 
 /// Runs jobs at a gate, each on a thread of its own. False where there is no memory for their outcomes.
-pub fn ran<Rt: Threads + Wait + Sync, G: HiveGate>(
+pub fn ran<Rt: Threads + Wait + Sync>(
     rt: &Rt,
     registry: &Registry,
     jobs: &mut Vec<Job>,
-    gate: &G,
+    gate: &Gate,
 ) -> Result<bool, Fail> {
     if !are_ready(jobs.as_slice(), registry.hives()) {
         return Err("the jobs are not ready".into());
@@ -112,59 +90,41 @@ pub fn ran<Rt: Threads + Wait + Sync, G: HiveGate>(
     Ok(drive(rt, registry, jobs.as_mut_slice(), gate).is_ok())
 }
 
-/// Runs jobs at a gate, for whose outcomes there must be memory.
-pub fn run<Rt: Threads + Wait + Sync, G: HiveGate>(
-    rt: &Rt,
-    registry: &Registry,
-    jobs: &mut Vec<Job>,
-    gate: &G,
-) -> Result<(), Fail> {
-    if ran(rt, registry, jobs, gate)? {
-        return Ok(());
-    }
-    Err("no memory for the outcomes".into())
+/// Whether a Close among a job's work was answered 8: it takes no memory.
+fn is_close_refused(job: &Job) -> bool {
+    job.work.iter().zip(job.outcomes.iter()).any(|(work, done)| match (&work.ask, done) {
+        (Ask::Call(Call::Change(Change::Close { .. })), Done::Outcome(Outcome::Changed(reply))) =>
+            reply.status == NO_MEMORY,
+        _ => false,
+    })
 }
 
-/// Writes a job's outcomes, one after another: the statuses of changes, that a question was answered, and notices.
-fn tell_outcomes(outcomes: &[Done], text: &mut String) {
-    for done in outcomes {
-        let _ = match done {
-            Done::Outcome(Outcome::Changed(reply)) => write!(text, "{} ", reply.status),
-            Done::Outcome(Outcome::Answered(_)) => write!(text, "answered "),
-            Done::Notice(Some(Notice { watch, by, .. })) => write!(text, "notice {watch} {by} "),
-            Done::Notice(None) => write!(text, "no notice "),
-        };
+/// Writes an outcome: the status of a change, that a question was answered, or a notice. Answers that status, or 0.
+fn tell_outcome(done: &Done, text: &mut String) -> Result<u32, AllocError> {
+    match done {
+        Done::Outcome(Outcome::Changed(reply)) => {
+            write!(text, " {}", reply.status)?;
+            return Ok(reply.status);
+        }
+        Done::Outcome(Outcome::Answered(_)) => text.push_str(" answered")?,
+        Done::Notice(Some(Notice { watch, by, .. })) => write!(text, " notice {watch} {by}")?,
+        Done::Notice(None) => text.push_str(" no notice")?,
     }
-    let _ = write!(text, "\n");
+    Ok(0)
 }
 
-/// Takes the sessions out of their jobs, and writes a line of outcomes for each. Where one is lost, they won't be gathered.
-pub fn sessions_of(alloc: Global, jobs: Vec<Job>, text: &mut String) -> Vec<Session> {
-    let mut sessions = Vec::new(alloc);
-    for job in jobs {
-        let Job {
-            session,
-            work: _,
-            outcomes,
-        } = job;
-        tell_outcomes(outcomes.as_slice(), text);
-        let _ = sessions.push(session);
+/// Writes a line of a job's outcomes. Answers 8 where a change was answered so, or else 0.
+pub fn tell_outcomes(job: &Job, text: &mut String) -> Result<u32, Fail> {
+    if is_close_refused(job) {
+        return Err("a Close was answered 8".into());
     }
-    sessions
-}
-
-/// Runs jobs at a gate, gathers their sessions, and tells what came of both.
-pub fn told_of_jobs<Rt: Threads + Wait + Sync, G: HiveGate>(
-    rt: &Rt,
-    alloc: Global,
-    registry: Registry,
-    jobs: Vec<Job>,
-    gate: &G,
-) -> Result<String, Fail> {
-    let mut jobs = jobs;
-    run(rt, &registry, &mut jobs, gate)?;
-    let mut text = String::new(alloc);
-    let sessions = sessions_of(alloc, jobs, &mut text);
-    tell_gathered(registry, sessions, &mut text);
-    Ok(text)
+    let mut status = 0;
+    write!(text, "{}:", job.session.number())?;
+    for done in &job.outcomes {
+        if tell_outcome(done, text)? == NO_MEMORY {
+            status = NO_MEMORY;
+        }
+    }
+    text.push_str("\n")?;
+    Ok(status)
 }

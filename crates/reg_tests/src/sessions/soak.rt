@@ -1,15 +1,14 @@
 //! Sixty-four sessions on threads of their own at sixteen hives, with calls taken at random. When all are gathered, each hive's journal, run
 //! again on one thread, is answered as it was, and leaves the same tree.
-use crate::asserts::assert_report;
-use crate::sessions::jobs::{job_of, run};
+use crate::sessions::stage::{Cast, started};
+use crate::support::{assert_report, seated};
 use reg_callbacks::NoCallback;
 use reg_calls::{Hive, SeatedHive};
-use reg_model::{Bytes, Call, Change, Outcome, Query};
-use reg_sessions::{Ask, Audit, Done, Job, OpenGate, Registry, Session, Work, gather, start};
+use reg_sessions::Audit;
 use reg_tree::Tree;
 use reg_tree_text::dump;
 use reg_workload::Chance;
-use std::alloc::Global;
+use std::alloc::{AllocError, Global};
 use std::sync::Wait;
 use std::test::Fail;
 use std::thread::Threads;
@@ -34,7 +33,7 @@ const MANY: u64 = 1_500;
 /// What is told where all is well.
 const WELL: &str = "16 hives, many entries true";
 
-/// The names of keys, and of values.
+/// The names of keys.
 const NAMES: [&str; 6] = [
     "Alpha",
     "beta",
@@ -44,194 +43,76 @@ const NAMES: [&str; 6] = [
     "alpha\\h",
 ];
 
-/// A fresh hive of one root.
-fn hive(alloc: Global) -> Result<Hive, Fail> {
-    Ok(Hive::new(alloc, b"ROOT", &[7; 20], 0)?)
-}
+/// Sizes of data, some of it of more than one segment.
+const SIZES: [usize; 7] = [0, 3, 4, 5, 100, 2_000, 17_000];
 
-/// A name at random.
-fn name(alloc: Global, chance: &mut Chance) -> Result<Bytes, Fail> {
-    let name = chance.item_of(&NAMES).unwrap_or("Alpha");
-    Ok(Bytes::from_slice(alloc, name.as_bytes())?)
-}
-
-/// Bytes of a length at random, some of them of more than one segment.
-fn data(alloc: Global, chance: &mut Chance) -> Result<Bytes, Fail> {
-    let lengths = [0, 3, 4, 5, 100, 2_000, 17_000];
-    let len = chance.item_of(&lengths).unwrap_or(4);
-    let bytes = vec![in alloc; chance.byte(); len]?;
-    Ok(Bytes::from_slice(alloc, bytes.as_slice())?)
-}
-
-/// A change at random by a handle.
-fn change(alloc: Global, chance: &mut Chance, handle: u64) -> Result<Change, Fail> {
-    Ok(match chance.below(9) {
-        0 => Change::OpenKey {
-            handle,
-            path: name(alloc, chance)?,
-            mask: 983_103,
-        },
-        1 => Change::CreateKey {
-            handle,
-            path: name(alloc, chance)?,
-            mask: 983_103,
-            descriptor: None,
-        },
-        2 => Change::DeleteValue {
-            handle,
-            name: Bytes::from_slice(alloc, b"v")?,
-        },
-        3 => Change::DeleteKey {
-            handle,
-            path: name(alloc, chance)?,
-        },
-        4 => Change::DeleteTree {
-            handle,
-            path: name(alloc, chance)?,
-        },
-        5 => Change::SetSecurity {
-            handle,
-            descriptor: Bytes::from_slice(alloc, &[chance.byte(), 1])?,
-        },
-        6 => Change::Notify {
-            handle,
-            filter: 5,
-            subtree: true,
-        },
-        7 => Change::Close {
-            handle: chance.below(400) as u64,
-        },
-        _ => Change::SetValue {
-            handle,
-            name: Bytes::from_slice(alloc, &[b'v'])?,
-            kind: 3,
-            bytes: data(alloc, chance)?,
-        },
-    })
-}
-
-/// A question at random by a handle.
-fn query(alloc: Global, chance: &mut Chance, handle: u64) -> Result<Query, Fail> {
-    Ok(match chance.below(3) {
-        0 => Query::QueryValue {
-            handle,
-            name: Bytes::from_slice(alloc, b"V")?,
-            room: Some(4_000),
-        },
-        1 => Query::EnumKey {
-            handle,
-            index: 0,
-            room: 255,
-        },
-        _ => Query::QueryInfo { handle },
-    })
-}
-
-/// A work at random at a hive.
-fn work(
+/// Writes a line at random by a handle.
+fn push_line(
     alloc: Global,
     chance: &mut Chance,
-    hive: u8,
-    handle: u64,
-    moment: u64,
-) -> Result<Work, Fail> {
-    let ask = match chance.below(5) {
-        0 => Ask::TakeNotice,
-        1 => Ask::Call(Call::Query(query(alloc, chance, handle)?)),
-        _ => Ask::Call(Call::Change(change(alloc, chance, handle)?)),
-    };
-    Ok(Work { hive, moment, ask })
-}
-
-/// Opens the root of each hive, and tells the handles.
-fn handles<Rt: Wait>(
-    rt: &Rt,
-    alloc: Global,
-    registry: &Registry,
-    session: &mut Session,
-) -> Result<Vec<u64>, Fail> {
-    let mut all = Vec::new(alloc);
-    for hive in 0..registry.hives() {
-        if hive >= session.hives() {
-            return Err("there is no such hive".into());
+    handle: u8,
+    text: &mut String,
+) -> Result<(), AllocError> {
+    let name = chance.item_of(&NAMES).unwrap_or("Alpha");
+    match chance.below(15) {
+        0 => write!(text, "query {handle} =V 4000"),
+        1 => write!(text, "enumkey {handle} 0 255"),
+        2 => write!(text, "info {handle}"),
+        3 => write!(text, "open {handle} ={name} 983103"),
+        4 => write!(text, "create {handle} ={name} 983103"),
+        5 => write!(text, "delvalue {handle} =v"),
+        6 => write!(text, "delkey {handle} ={name}"),
+        7 => write!(text, "deltree {handle} ={name}"),
+        8 => write!(text, "setsec {handle} x{:02x}01", chance.byte()),
+        9 => write!(text, "notify {handle} 5 1"),
+        10 => write!(text, "close {}", chance.below(400)),
+        11 => {
+            let digits = format!(in alloc; "{:02x}", chance.byte())?;
+            let size = chance.item_of(&SIZES).unwrap_or(4);
+            let digits = digits.as_str().repeat(alloc, size)?;
+            write!(text, "set {handle} =v 3 x{}", digits.as_str())
         }
-        let open = Change::OpenRoot { mask: 983_103 };
-        let reply = session.change(rt, registry, &OpenGate, hive as u8, 0, &open);
-        all.push(reply.handle.unwrap_or(0))?;
+        _ => text.push_str("notice"),
     }
-    Ok(all)
 }
 
-/// The work of one session with its seed, by its handle at each hive.
-fn works(alloc: Global, seed: u64, handles: &[u64]) -> Result<Vec<Work>, Fail> {
-    let mut chance = Chance::new(seed);
-    let mut all = Vec::new(alloc);
+/// Writes the lines of a session with its seed. Its handle has its number at each hive.
+fn push_session(
+    alloc: Global,
+    seed: u64,
+    session: u8,
+    text: &mut String,
+) -> Result<(), AllocError> {
+    let mut chance = Chance::new(seed.wrapping_add(u64::from(session)));
+    write!(text, "as {session}, ")?;
     for call in 0..CALLS {
-        let hive = chance.below(handles.len());
-        let handle = handles.get(hive).copied().unwrap_or(0);
-        let hive = u8::try_from(hive).unwrap_or(0);
-        all.push(work(alloc, &mut chance, hive, handle, u64::from(call))?)?;
+        write!(text, "hive {}, at {call}, ", chance.below(HIVES))?;
+        push_line(alloc, &mut chance, session, text)?;
+        text.push_str(", ")?;
     }
-    Ok(all)
+    Ok(())
 }
 
-/// The job of a session with its seed.
-fn job<Rt: Wait>(
-    rt: &Rt,
-    alloc: Global,
-    registry: &Registry,
-    seed: u64,
-    session: Session,
-) -> Result<Job, Fail> {
-    let mut session = session;
-    let handles = handles(rt, alloc, registry, &mut session)?;
-    let seed = seed.wrapping_add(u64::from(session.number()));
-    let work = works(alloc, seed, handles.as_slice())?;
-    Ok(job_of(alloc, session, Ok(work)))
-}
-
-/// A job of each session.
-fn jobs<Rt: Wait>(
-    rt: &Rt,
-    alloc: Global,
-    registry: &Registry,
-    seed: u64,
-    sessions: Vec<Session>,
-) -> Result<Vec<Job>, Fail> {
-    let mut jobs = Vec::new(alloc);
-    for session in sessions {
-        jobs.push(job(rt, alloc, registry, seed, session)?)?;
-    }
-    Ok(jobs)
-}
-
-/// Whether a Close among a job's work was answered 8: it takes no memory.
-fn is_close_refused(job: &Job) -> bool {
-    job.work.iter().zip(job.outcomes.iter()).any(|(work, done)| match (&work.ask, done) {
-        (Ask::Call(Call::Change(Change::Close { .. })), Done::Outcome(Outcome::Changed(reply))) =>
-            reply.status == 8,
-        _ => false,
-    })
-}
-
-/// Runs the jobs, and takes the sessions out. Where one is lost, they won't be gathered.
-fn driven<Rt: Threads + Wait + Sync>(
-    rt: &Rt,
-    alloc: Global,
-    registry: &Registry,
-    jobs: Vec<Job>,
-) -> Result<Vec<Session>, Fail> {
-    let mut jobs = jobs;
-    run(rt, registry, &mut jobs, &OpenGate)?;
-    let mut sessions = Vec::new(alloc);
-    for job in jobs {
-        if is_close_refused(&job) {
-            return Err("a Close was answered 8".into());
+/// Writes lines that open the root of each hive by each session. The first handle of a hive has the number 0, and each other one the next
+/// number.
+fn push_openings(text: &mut String) -> Result<(), AllocError> {
+    for session in 0..SESSIONS {
+        for hive in 0..HIVES {
+            write!(text, "as {session}\nhive {hive}\nroot 983103\n")?;
         }
-        let Job { session, .. } = job;
-        let _ = sessions.push(session);
     }
-    Ok(sessions)
+    Ok(())
+}
+
+/// The lines of all sessions.
+fn lines(alloc: Global, seed: u64) -> Result<String, AllocError> {
+    let mut text = String::new(alloc);
+    push_openings(&mut text)?;
+    text.push_str("drive ")?;
+    for session in 0..SESSIONS {
+        push_session(alloc, seed, session, &mut text)?;
+    }
+    Ok(text)
 }
 
 /// Runs a hive's journal again. Tells whether each change is answered as it was.
@@ -284,13 +165,18 @@ fn is_its_journals(
     Ok(tree.as_slice() == run.as_slice() && is_told_alike(hive, &again.hive))
 }
 
+/// Whether a hive is that of its journal.
+fn is_well(alloc: Global, hive: &Hive) -> Result<bool, Fail> {
+    let mut again = seated(alloc, "")?;
+    is_its_journals(alloc, hive, &mut again)
+}
+
 /// How many hives are those of their journals, and whether there are many entries.
 fn tell(alloc: Global, audit: &Audit) -> Result<String, Fail> {
     let mut same = 0u64;
     let mut entries = 0u64;
     for hive in 0..audit.hives() {
-        let mut again = SeatedHive::new(Hive::new(alloc, b"ROOT", &[7; 20], 0)?)?;
-        if is_its_journals(alloc, audit.hive(hive as u8), &mut again)? {
+        if is_well(alloc, audit.hive(hive as u8))? {
             same = same.saturating_add(1);
         }
         entries = entries.saturating_add(audit.entries(hive as u8));
@@ -298,22 +184,22 @@ fn tell(alloc: Global, audit: &Audit) -> Result<String, Fail> {
     Ok(format!(in alloc; "{same} hives, many entries {}", entries > MANY)?)
 }
 
-fn told<Rt: Threads + Wait + Sync>(rt: &Rt, alloc: Global, seed: u64) -> Result<String, Fail> {
-    let mut hives = Vec::new(alloc);
-    for _hive in 0..HIVES {
-        hives.push(hive(alloc)?)?;
-    }
-    let (registry, sessions) = start(alloc, hives, SESSIONS)?;
-    let jobs = jobs(rt, alloc, &registry, seed, sessions)?;
-    let sessions = driven(rt, alloc, &registry, jobs)?;
-    match gather(registry, sessions) {
-        Ok(audit) => tell(alloc, &audit),
-        Err(_) => Ok(format!(in alloc; "not gathered")?),
-    }
+fn told<Rt: Print + Threads + Wait + Sync>(
+    rt: &Rt,
+    alloc: Global,
+    seed: u64,
+) -> Result<String, Fail> {
+    let lines = lines(alloc, seed)?;
+    let mut stage = started(rt, alloc, &Cast("", HIVES, SESSIONS, &[]))?;
+    let _statuses = stage.take_all(rt, lines.as_str())?;
+    tell(alloc, &stage.gathered()?)
 }
 
 /// What a round tells in which not all is well, with its seed, or else that all is.
-fn told_of_rounds<Rt: Threads + Wait + Sync>(rt: &Rt, alloc: Global) -> Result<String, Fail> {
+fn told_of_rounds<Rt: Print + Threads + Wait + Sync>(
+    rt: &Rt,
+    alloc: Global,
+) -> Result<String, Fail> {
     for round in 0..ROUNDS {
         let seed = SEED.wrapping_add(round.wrapping_mul(u64::from(SESSIONS)));
         let text = told(rt, alloc, seed)?;
@@ -321,7 +207,7 @@ fn told_of_rounds<Rt: Threads + Wait + Sync>(rt: &Rt, alloc: Global) -> Result<S
             return Ok(format!(in alloc; "{}, of seed {seed}", text.as_str())?);
         }
     }
-    Ok(format!(in alloc; "{WELL}")?)
+    Ok(WELL.to_string(alloc)?)
 }
 
 #[test]

@@ -1,13 +1,31 @@
-//! Two sessions at two hives, and the steps that they take. A step that wants memory is answered 8 or the fault Memory; then it is not told.
-use crate::sessions::jobs::{fresh_hives, job_of, ran};
-use crate::sessions::told::boxed;
-use reg_callbacks::{CallbackFault, Cookie};
+//! Sessions at hives, and what comes of lines that they carry out one after another. Each line goes by the session, the hive and the moment
+//! that were set last:
+//!
+//! | Line | What it does, and what is replied |
+//! |---|---|
+//! | a line of a script | as the rules say; before the reply stands `#` and the number of an accepted change, or `@` and how many entries an answer has |
+//! | `register ALTITUDE STATUS KIND` | a callback of `guard` comes to the hive: its cookie, or that the altitude is taken |
+//! | `unregister COOKIE` | it goes: what it answers to an OpenRoot |
+//! | `checkpoint` | a checkpoint of the hive: how many bytes its image has, or the fault |
+//! | `receipts`, `taken` | how many receipts the session has there; the watches of the notices that it took |
+//! | `drive LINE, LINE ..` | lines that sessions carry out on threads of their own: for each session what came of its lines |
+//! | `gate` | what the gate saw |
+use crate::sessions::gate::{Gate, Rule};
+use crate::sessions::guard::boxed;
+use crate::sessions::jobs::{
+    FIRST, NO_MEMORY, Place, add_works, jobs_of, ran, read, tell_outcomes,
+};
+use crate::support::{hive, lines_of};
+use reg_callbacks::{Callback, CallbackFault, Cookie};
 use reg_calls::Hive;
 use reg_image::image;
-use reg_model::{AnswerBody, Call, Change, Outcome, Query};
+use reg_model::{Answer, AnswerBody, Call, Change, ChangeReply, Query};
+use reg_script::{
+    CHANGE_REPLY_LIMIT, NOTICE_REPLY_LIMIT, is_notify, write_answered, write_changed, write_notice,
+};
 use reg_sessions::{
-    Ask, Audit, Done, Job, OpenGate, Registry, RegistryCutFault, Session, StartFault, Work, gather,
-    start,
+    Ask, Audit, GatherFault, Job, OpenGate, Registry, RegistryCutFault, Session, StartFault,
+    gather, start,
 };
 use std::alloc::{AllocError, Global};
 use std::mem;
@@ -15,369 +33,400 @@ use std::sync::Wait;
 use std::test::Fail;
 use std::thread::Threads;
 
-/// The status of a call for which there is no memory.
-const NO_MEMORY: u32 = 8;
-
-/// What a step does.
+/// Who is on a stage: the draft of the first hive, or nothing, where that is a fresh one as all others are; how many hives and sessions there
+/// are; and what the gate does.
 #[derive(Drop)]
-pub enum Act {
-    /// A session's change.
-    Change(Change),
-    /// A session's question.
-    Ask(Query),
-    /// A session takes its next notice.
-    TakeNotice,
-    /// A session makes a change on a thread of its own, beside another one without work.
-    Drive(Change),
-    /// A callback that lets every call go on comes to the hive.
-    Register,
-    /// It goes.
-    Unregister,
-    /// A checkpoint of the hive.
-    Checkpoint,
-}
+pub struct Cast(pub &'static str, pub usize, pub u8, pub &'static [Rule]);
 
-impl Act {
-    /// Whether it may be answered though a request for memory is refused: a job whose thread isn't started is done by another one.
-    pub fn is_answered_anyway(&self) -> bool {
-        self.name() == "drive"
-    }
-
-    /// What the test says of it, where memory may be refused.
-    pub fn name(&self) -> &'static str {
-        match self {
-            Act::Change(Change::Close { .. }) => "close",
-            Act::Change(_) => "change",
-            Act::Ask(_) => "question",
-            Act::TakeNotice => "notice",
-            Act::Drive(_) => "drive",
-            Act::Register => "register",
-            Act::Unregister => "unregister",
-            Act::Checkpoint => "checkpoint",
-        }
-    }
-}
-
-/// A step, of a session at a hive.
-#[derive(Drop)]
-pub struct Step {
-    pub session: u8,
-    pub hive: u8,
-    pub act: Act,
-}
-
-/// What came of a step.
-#[derive(Clone, Copy, Debug, PartialEq, Eq)]
-pub enum Came {
-    Answered,
-    NoMemory,
-}
-
-/// The sessions and the hives, and what was told of the steps that were answered.
+/// The sessions and the hives, and what lines go by.
 #[derive(Drop)]
 pub struct Stage {
+    alloc: Global,
     registry: Registry,
     sessions: Vec<Session>,
-    cookie: Option<Cookie>,
-    text: String,
+    gate: Gate,
+    place: Place,
 }
 
-/// What the steps left: what was told, with each session's receipts and notices, and of each hive its image, and how many entries it had and how
-/// many handles and watches it has.
-#[derive(Drop)]
-pub struct Left {
-    text: String,
-    images: Vec<Vec<u8>>,
+/// The hives of a cast.
+fn hives(alloc: Global, cast: &Cast) -> Result<Vec<Hive>, Fail> {
+    let mut hives = Vec::new(alloc);
+    for number in 0..cast.1 {
+        let table = if number == 0 { cast.0 } else { "" };
+        hives.push(hive(alloc, table)?)?;
+    }
+    Ok(hives)
 }
 
-impl Left {
-    pub fn is_same(&self, other: &Left) -> bool {
-        self.text.as_str() == other.text.as_str()
-            && self.images.len() == other.images.len()
-            && self
-                .images
-                .iter()
-                .zip(other.images.iter())
-                .all(|(one, other)| one.as_slice() == other.as_slice())
+/// Starts the sessions; `None` where that was refused its memory.
+fn begin(alloc: Global, cast: &Cast) -> Result<Option<Stage>, Fail> {
+    match start(alloc, hives(alloc, cast)?, cast.2) {
+        Ok((registry, sessions)) => Ok(Some(Stage {
+            alloc,
+            registry,
+            sessions,
+            gate: Gate::new(cast.3),
+            place: FIRST,
+        })),
+        Err(StartFault::Memory) => Ok(None),
+        Err(fault) => Err(Fail::new(format_args!("{fault}"))),
     }
 }
 
-/// A fault of the test itself.
-fn astray(what: &str) -> Fail {
-    Fail::new(format_args!("{what}"))
-}
-
-/// Writes what a hive holds behind what was told, and gives its image.
-fn left_in(alloc: Global, audit: &Audit, text: &mut String) -> Result<Vec<Vec<u8>>, Fail> {
-    let mut images = Vec::new(alloc);
-    for number in 0..audit.hives() {
-        let hive: &Hive = audit.hive(number as u8);
-        images.push(image(alloc, hive, 0, 0)?)?;
-        let handles = hive.open_handles();
-        write!(text, "{} {handles} {}\n", hive.len(), hive.pending())?;
-    }
-    Ok(images)
-}
-
-/// Writes a session's receipts and the notices that it took.
-fn tell_kept(session: &Session, text: &mut String) -> Result<(), Fail> {
-    for hive in 0..2 {
-        for receipt in session.receipts(hive) {
-            write!(text, "{receipt:?}\n")?;
+/// Starts the sessions, and again where that was refused its memory, which it says.
+pub fn started<Rt: Print>(rt: &Rt, alloc: Global, cast: &Cast) -> Result<Stage, Fail> {
+    for _time in 0..2 {
+        if let Some(stage) = begin(alloc, cast)? {
+            return Ok(stage);
         }
-        for notice in session.taken(hive) {
-            write!(text, "{notice:?}\n")?;
-        }
+        println!(rt; "start: no memory")?;
     }
-    Ok(())
+    Err("refused twice".into())
 }
 
-/// The one work of a job.
-fn work_of(alloc: Global, hive: u8, change: &Change) -> Result<Vec<Work>, AllocError> {
-    let mut work = Vec::new(alloc);
-    work.push(Work {
-        hive,
-        moment: 1,
-        ask: Ask::Call(Call::Change(change.try_clone(alloc)?)),
-    })?;
-    Ok(work)
+/// Writes the reply to a change, and answers its status.
+fn tell_reply(change: &Change, reply: &ChangeReply, text: &mut String) -> Result<u32, AllocError> {
+    if let Some(number) = reply.number {
+        write!(text, "#{number} ")?;
+    }
+    text.reserve(CHANGE_REPLY_LIMIT)?;
+    write_changed(text, is_notify(change), reply);
+    Ok(reply.status)
 }
 
-/// The jobs of all sessions, of which one has work.
-fn jobs_of(
+/// Writes the answer to a question, and answers the status of a refusal, or 0.
+fn tell_answer(
     alloc: Global,
-    sessions: Vec<Session>,
-    worker: u8,
-    hive: u8,
-    change: &Change,
-) -> Result<Vec<Job>, Fail> {
-    let mut jobs = Vec::new(alloc);
-    for session in sessions {
-        let work = if session.number() == worker {
-            work_of(alloc, hive, change)?
-        } else {
-            Vec::new(alloc)
-        };
-        jobs.push(job_of(alloc, session, Ok(work)))?;
+    query: &Query,
+    answer: &Answer,
+    text: &mut String,
+) -> Result<u32, AllocError> {
+    write!(text, "@{} ", answer.at)?;
+    write_answered(alloc, text, query, answer)?;
+    match &answer.body {
+        AnswerBody::Refused { status } => Ok(*status),
+        _ => Ok(0),
     }
-    Ok(jobs)
 }
 
-/// Whether a status among the outcomes of a job is that of no memory. The others are told, and none may be refused.
-fn came_of(outcomes: &[Done], text: &mut String) -> Result<Came, Fail> {
-    for done in outcomes {
-        match done {
-            Done::Outcome(Outcome::Changed(reply)) if reply.status == NO_MEMORY => {
-                return Ok(Came::NoMemory);
-            }
-            Done::Outcome(Outcome::Changed(reply)) if reply.status != 0 => {
-                return Err(astray("a change was refused"));
-            }
-            _ => write!(text, "{done:?}\n")?,
-        }
+/// The numbers of a text.
+fn numbers(alloc: Global, text: &str) -> Result<Vec<u32>, Fail> {
+    let mut numbers = Vec::new(alloc);
+    for word in text.split(' ') {
+        numbers.push(word.parse::<u32>()?)?;
     }
-    Ok(Came::Answered)
+    Ok(numbers)
+}
+
+/// Writes what a callback answers to an OpenRoot.
+fn tell_callback(callback: Box<dyn Callback + Send>, text: &mut String) -> Result<u32, AllocError> {
+    let status = callback.pre_change(0, 0, b"", &Change::OpenRoot { mask: 0 });
+    write!(text, "the box answers {status}\n")?;
+    Ok(0)
 }
 
 impl Stage {
-    /// Starts the sessions; None where that was refused its memory.
-    pub fn start(alloc: Global) -> Result<Option<Stage>, Fail> {
-        let text = String::with_capacity(alloc, 262_144)?;
-        let hives = fresh_hives(alloc, 2)?;
-        match start(alloc, hives, 2) {
-            Ok((registry, sessions)) => Ok(Some(Stage {
-                registry,
-                sessions,
-                cookie: None,
-                text,
-            })),
-            Err(StartFault::Memory) => Ok(None),
-            Err(fault) => Err(Fail::new(format_args!("{fault}"))),
-        }
-    }
-
-    fn change<Rt: Wait>(
-        &mut self,
-        rt: &Rt,
-        session: u8,
-        hive: u8,
-        change: &Change,
-    ) -> Result<Came, Fail> {
-        let Some(session) = self.sessions.get_mut(session as usize) else {
-            return Err(astray("no such session"));
+    /// Has the session that is set ask for something at the hive that is set. Answers the status.
+    fn ask<Rt: Wait>(&mut self, rt: &Rt, ask: &Ask, text: &mut String) -> Result<u32, Fail> {
+        let (hive, moment) = (self.place.hive, self.place.moment);
+        let Some(session) = self.sessions.get_mut(self.place.session as usize) else {
+            return Err("no such session".into());
         };
         if hive as usize >= self.registry.hives() || hive as usize >= session.hives() {
-            return Err(astray("no such hive"));
+            return Err("no such hive".into());
         }
-        let reply = session.change(rt, &self.registry, &OpenGate, hive, 1, change);
-        if reply.status == NO_MEMORY {
-            return match change {
-                Change::Close { .. } => Err(astray("a Close was answered 8")),
-                _ => Ok(Came::NoMemory),
-            };
-        }
-        if reply.status != 0 {
-            return Err(astray("a change was refused"));
-        }
-        write!(self.text, "{reply:?}\n")?;
-        Ok(Came::Answered)
-    }
-
-    fn ask<Rt: Wait>(
-        &mut self,
-        rt: &Rt,
-        session: u8,
-        hive: u8,
-        query: &Query,
-    ) -> Result<Came, Fail> {
-        let Some(session) = self.sessions.get_mut(session as usize) else {
-            return Err(astray("no such session"));
-        };
-        if hive as usize >= self.registry.hives() || hive as usize >= session.hives() {
-            return Err(astray("no such hive"));
-        }
-        let answer = session.ask(rt, &self.registry, &OpenGate, hive, query);
-        match &answer.body {
-            AnswerBody::Refused { status: NO_MEMORY } => Ok(Came::NoMemory),
-            AnswerBody::Refused { .. } => Err(astray("a question was refused")),
-            _ => {
-                write!(self.text, "{answer:?}\n")?;
-                Ok(Came::Answered)
+        match ask {
+            Ask::Call(Call::Change(change)) => {
+                let reply = session.change(rt, &self.registry, &OpenGate, hive, moment, change);
+                Ok(tell_reply(change, &reply, text)?)
+            }
+            Ask::Call(Call::Query(query)) => {
+                let answer = session.ask(rt, &self.registry, &OpenGate, hive, query);
+                Ok(tell_answer(self.alloc, query, &answer, text)?)
+            }
+            Ask::TakeNotice => {
+                let notice = session.take_notice(&self.registry, hive);
+                text.reserve(NOTICE_REPLY_LIMIT)?;
+                write_notice(text, notice);
+                Ok(0)
             }
         }
     }
 
-    fn take_notice(&mut self, session: u8, hive: u8) -> Result<Came, Fail> {
-        let Some(session) = self.sessions.get_mut(session as usize) else {
-            return Err(astray("no such session"));
-        };
-        if hive as usize >= session.hives() {
-            return Err(astray("no such hive"));
+    /// Carries out a line of a script.
+    fn say<Rt: Wait>(&mut self, rt: &Rt, line: &str, text: &mut String) -> Result<u32, Fail> {
+        match read(self.alloc, &mut self.place, line)? {
+            Some(ask) => self.ask(rt, &ask, text),
+            None => Ok(0),
         }
-        let Some(notice) = session.take_notice(&self.registry, hive) else {
-            return Err(astray("no notice came"));
-        };
-        write!(self.text, "{notice:?}\n")?;
-        Ok(Came::Answered)
     }
 
-    fn drive<Rt: Threads + Wait + Sync>(
-        &mut self,
-        rt: &Rt,
-        alloc: Global,
-        session: u8,
-        hive: u8,
-        change: &Change,
-    ) -> Result<Came, Fail> {
-        let sessions = mem::replace(&mut self.sessions, Vec::new(alloc));
-        let mut jobs = jobs_of(alloc, sessions, session, hive, change)?;
-        let mut came = if ran(rt, &self.registry, &mut jobs, &OpenGate)? {
-            Came::Answered
-        } else {
-            Came::NoMemory
+    /// Registers a callback.
+    fn register<Rt: Wait>(&self, rt: &Rt, words: &str, text: &mut String) -> Result<u32, Fail> {
+        let numbers = numbers(self.alloc, words)?;
+        let [altitude, status, kind] = numbers.as_slice() else {
+            return Err("no altitude, status and kind".into());
         };
+        let callback = boxed(self.alloc, *status, *kind)?;
+        if self.place.hive as usize >= self.registry.hives() {
+            return Err("no such hive".into());
+        }
+        match self
+            .registry
+            .register(rt, self.place.hive, callback, *altitude)
+        {
+            Ok(cookie) => {
+                write!(text, "cookie {}\n", cookie.number)?;
+                Ok(0)
+            }
+            Err(CallbackFault::AltitudeTaken(callback)) => {
+                text.push_str("taken, ")?;
+                Ok(tell_callback(callback, text)?)
+            }
+            Err(CallbackFault::Memory(_)) => Ok(NO_MEMORY),
+            Err(_) => Err("a callback was refused".into()),
+        }
+    }
+
+    /// Takes a callback out.
+    fn unregister<Rt: Wait>(&self, rt: &Rt, word: &str, text: &mut String) -> Result<u32, Fail> {
+        let number = word.parse::<u32>()?;
+        if self.place.hive as usize >= self.registry.hives() {
+            return Err("no such hive".into());
+        }
+        match self
+            .registry
+            .unregister(rt, self.place.hive, Cookie { number })
+        {
+            Ok(callback) => Ok(tell_callback(callback, text)?),
+            Err(_) => Err("a callback was not taken out".into()),
+        }
+    }
+
+    /// A checkpoint of the hive.
+    fn checkpoint<Rt: Wait>(&mut self, rt: &Rt, text: &mut String) -> Result<u32, Fail> {
+        let hive = self.place.hive;
+        if hive as usize >= self.registry.hives() {
+            return Err("no such hive".into());
+        }
+        let sessions = self.sessions.as_mut_slice();
+        match self
+            .registry
+            .checkpoint(rt, self.alloc, hive, sessions, 1, 1)
+        {
+            Ok(image) => write!(text, "{} bytes\n", image.len())?,
+            Err(RegistryCutFault::Memory) => return Ok(NO_MEMORY),
+            Err(fault) => write!(text, "{fault}\n")?,
+        }
+        Ok(0)
+    }
+
+    /// Writes how many receipts the session has at the hive, or else which notices it took.
+    fn tell_kept(&self, word: &str, text: &mut String) -> Result<u32, Fail> {
+        let Some(session) = self.sessions.get(self.place.session as usize) else {
+            return Err("no such session".into());
+        };
+        if word == "receipts" {
+            write!(text, "{}\n", session.receipts(self.place.hive).len())?;
+            return Ok(0);
+        }
+        for notice in session.taken(self.place.hive) {
+            write!(text, "{} ", notice.watch)?;
+        }
+        Ok(0)
+    }
+
+    /// Takes the sessions back out of jobs, and writes what came of these.
+    fn end(&mut self, jobs: Vec<Job>, text: &mut String) -> Result<u32, Fail> {
+        let mut status = 0;
         for job in jobs {
-            if came_of(job.outcomes.as_slice(), &mut self.text)? == Came::NoMemory {
-                came = Came::NoMemory;
-            }
+            status = status.max(tell_outcomes(&job, text)?);
             let Job { session, .. } = job;
             self.sessions.push(session)?;
         }
-        Ok(came)
+        Ok(status)
     }
 
-    fn register<Rt: Wait>(&mut self, rt: &Rt, alloc: Global, hive: u8) -> Result<Came, Fail> {
-        let callback = boxed(alloc, 0)?;
-        if hive as usize >= self.registry.hives() {
-            return Err(astray("no such hive"));
-        }
-        match self.registry.register(rt, hive, callback, 7) {
-            Ok(cookie) => self.cookie = Some(cookie),
-            Err(CallbackFault::Memory(_)) => return Ok(Came::NoMemory),
-            Err(_) => return Err(astray("a callback was refused")),
-        }
-        Ok(Came::Answered)
+    /// Has sessions carry out lines, that are parted by `, `, on threads of their own.
+    fn drive<Rt: Threads + Wait + Sync>(
+        &mut self,
+        rt: &Rt,
+        lines: &str,
+        text: &mut String,
+    ) -> Result<u32, Fail> {
+        let sessions = mem::replace(&mut self.sessions, Vec::new(self.alloc));
+        let mut jobs = jobs_of(self.alloc, sessions)?;
+        add_works(self.alloc, jobs.as_mut_slice(), lines)?;
+        let is_run = ran(rt, &self.registry, &mut jobs, &self.gate)?;
+        let status = self.end(jobs, text)?;
+        Ok(if is_run { status } else { NO_MEMORY })
     }
 
-    fn unregister<Rt: Wait>(&mut self, rt: &Rt, hive: u8) -> Result<Came, Fail> {
-        let Some(cookie) = self.cookie else {
-            return Err(astray("no callback was registered"));
-        };
-        if hive as usize >= self.registry.hives() {
-            return Err(astray("no such hive"));
-        }
-        match self.registry.unregister(rt, hive, cookie) {
-            Ok(_) => Ok(Came::Answered),
-            Err(_) => Err(astray("a callback was not taken out")),
-        }
-    }
-
-    fn checkpoint<Rt: Wait>(&mut self, rt: &Rt, alloc: Global, hive: u8) -> Result<Came, Fail> {
-        if hive as usize >= self.registry.hives() {
-            return Err(astray("no such hive"));
-        }
-        let sessions = self.sessions.as_mut_slice();
-        match self.registry.checkpoint(rt, alloc, hive, sessions, 0, 0) {
-            Ok(image) => {
-                write!(self.text, "{} bytes\n", image.len())?;
-                Ok(Came::Answered)
-            }
-            Err(RegistryCutFault::Memory) => Ok(Came::NoMemory),
-            Err(fault) => Err(Fail::new(format_args!("{fault}"))),
-        }
-    }
-
-    /// Takes a step.
+    /// Carries out a line, and writes what came of it. Answers the status: 8 where memory was refused.
     pub fn take<Rt: Threads + Wait + Sync>(
         &mut self,
         rt: &Rt,
-        alloc: Global,
-        step: &Step,
-    ) -> Result<Came, Fail> {
-        let hive = step.hive;
-        match &step.act {
-            Act::Change(change) => self.change(rt, step.session, hive, change),
-            Act::Ask(query) => self.ask(rt, step.session, hive, query),
-            Act::TakeNotice => self.take_notice(step.session, hive),
-            Act::Drive(change) => self.drive(rt, alloc, step.session, hive, change),
-            Act::Register => self.register(rt, alloc, hive),
-            Act::Unregister => self.unregister(rt, hive),
-            Act::Checkpoint => self.checkpoint(rt, alloc, hive),
+        line: &str,
+        text: &mut String,
+    ) -> Result<u32, Fail> {
+        let (word, rest) = line.split_once(' ').unwrap_or((line, ""));
+        match word {
+            "register" => self.register(rt, rest, text),
+            "unregister" => self.unregister(rt, rest, text),
+            "checkpoint" => self.checkpoint(rt, text),
+            "receipts" => self.tell_kept(word, text),
+            "taken" => self.tell_kept(word, text),
+            "drive" => self.drive(rt, rest, text),
+            "gate" => {
+                self.gate.tell(text)?;
+                Ok(0)
+            }
+            _ => self.say(rt, line, text),
         }
     }
 
-    /// The watches of the notices that a session took of a hive, in order.
-    pub fn watches(&self, alloc: Global, session: u8, hive: u8) -> Result<String, Fail> {
-        let Some(session) = self.sessions.get(session as usize) else {
-            return Err(astray("no such session"));
-        };
-        if hive as usize >= session.hives() {
-            return Err(astray("no such hive"));
+    /// Carries out lines. Answers the statuses, each with a space behind it.
+    pub fn take_all<Rt: Threads + Wait + Sync>(
+        &mut self,
+        rt: &Rt,
+        lines: &str,
+    ) -> Result<String, Fail> {
+        let mut statuses = String::new(self.alloc);
+        let mut replies = String::new(self.alloc);
+        for line in lines.lines() {
+            let status = self.take(rt, line, &mut replies)?;
+            write!(statuses, "{status} ")?;
         }
-        let mut text = String::new(alloc);
-        for notice in session.taken(hive) {
-            write!(text, " {}", notice.watch)?;
-        }
-        write!(text, "\n")?;
-        Ok(text)
+        Ok(statuses)
     }
 
-    /// Gathers the sessions, and tells what the steps left.
-    pub fn left(self, alloc: Global) -> Result<Left, Fail> {
+    /// Carries out a step, a line and ` -> ` and what is replied, with ` / ` between lines, or `..` where that may be anything; a line without
+    /// has no reply. Fails where something else is replied. Says of a step that it was refused its memory; then it answers false. Of a
+    /// `drive`, which may be answered all the same, it says where it begins, and that it was answered.
+    pub fn step<Rt: Print + Threads + Wait + Sync>(
+        &mut self,
+        rt: &Rt,
+        step: &str,
+    ) -> Result<bool, Fail> {
+        let (line, wanted) = step.split_once(" -> ").unwrap_or((step, ""));
+        let (word, _) = line.split_once(' ').unwrap_or((line, ""));
+        if word == "drive" {
+            println!(rt; "drive")?;
+        }
+        let mut text = String::new(self.alloc);
+        let status = self.take(rt, line, &mut text)?;
+        if status == NO_MEMORY && word != "close" {
+            println!(rt; "{word}: no memory")?;
+            return Ok(false);
+        }
+        if word == "drive" {
+            println!(rt; "drive: answered")?;
+        }
+        let reply = text.as_str().trim_end().replace(self.alloc, '\n', " / ")?;
+        if wanted == ".." || reply.as_str() == wanted {
+            return Ok(true);
+        }
+        Err(Fail::new(format_args!("{step}: {}", reply.as_str())))
+    }
+
+    /// Takes a step, again where it was refused its memory, so many times in all. Whether it was answered.
+    fn take_often<Rt: Print + Threads + Wait + Sync>(
+        &mut self,
+        rt: &Rt,
+        step: &str,
+        times: u32,
+    ) -> Result<bool, Fail> {
+        for _time in 0..times {
+            if self.step(rt, step)? {
+                return Ok(true);
+            }
+        }
+        if times > 1 {
+            return Err("refused twice".into());
+        }
+        Ok(false)
+    }
+
+    /// Takes steps, so many at most, up to one that isn't answered though it is taken so many times. Answers how many were.
+    pub fn play<Rt: Print + Threads + Wait + Sync>(
+        &mut self,
+        rt: &Rt,
+        steps: &str,
+        most: usize,
+        times: u32,
+    ) -> Result<usize, Fail> {
+        let mut count = 0usize;
+        let lines = lines_of(self.alloc, steps)?;
+        for step in lines.as_str().lines().take(most) {
+            if !self.take_often(rt, step, times)? {
+                break;
+            }
+            count = count.saturating_add(1);
+        }
+        Ok(count)
+    }
+
+    /// Writes each session's receipts and the notices that it took.
+    fn tell_all_kept(&self, text: &mut String) -> Result<(), AllocError> {
+        for session in &self.sessions {
+            for hive in 0..2 {
+                write!(
+                    text,
+                    "{:?} {:?}\n",
+                    session.receipts(hive),
+                    session.taken(hive)
+                )?;
+            }
+        }
+        Ok(())
+    }
+
+    /// Gathers the sessions: in another order, in which they come back where there are several, and then in their own.
+    pub fn gathered(self) -> Result<Audit, Fail> {
         let Stage {
             registry,
             sessions,
-            text,
             ..
         } = self;
-        let mut text = text;
-        for session in &sessions {
-            tell_kept(session, &mut text)?;
+        let mut sessions = sessions;
+        sessions.reverse();
+        match gather(registry, sessions) {
+            Ok(audit) => Ok(audit),
+            Err(fault) => gathered_again(fault),
         }
-        let Ok(audit) = gather(registry, sessions) else {
-            return Err(astray("not gathered"));
-        };
-        let images = left_in(alloc, &audit, &mut text)?;
-        Ok(Left { text, images })
     }
+
+    /// What the steps left: each session's receipts and notices, and of each hive its image, and how many entries it had and how many handles
+    /// and watches it has.
+    pub fn left(self) -> Result<String, Fail> {
+        let alloc = self.alloc;
+        let mut text = String::with_capacity(alloc, 262_144)?;
+        self.tell_all_kept(&mut text)?;
+        tell_hives(alloc, &self.gathered()?, &mut text)?;
+        Ok(text)
+    }
+}
+
+/// Gathers sessions that came back in another order.
+fn gathered_again(fault: GatherFault) -> Result<Audit, Fail> {
+    let GatherFault::Sessions { registry, sessions } = fault else {
+        return Err("a mismatch".into());
+    };
+    let mut sessions = sessions;
+    sessions.reverse();
+    match gather(registry, sessions) {
+        Ok(audit) => Ok(audit),
+        Err(_) => Err("not gathered".into()),
+    }
+}
+
+/// Writes what hives hold.
+fn tell_hives(alloc: Global, audit: &Audit, text: &mut String) -> Result<(), Fail> {
+    for number in 0..audit.hives() {
+        let hive = audit.hive(number as u8);
+        let image = image(alloc, hive, 0, 0)?;
+        let (handles, watches) = (hive.open_handles(), hive.pending());
+        write!(text, "{image:?} {} {handles} {watches}\n", hive.len())?;
+    }
+    Ok(())
 }
