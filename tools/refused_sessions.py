@@ -10,7 +10,6 @@ from soaking import CRATE, TEST, numbered, tests, told
 
 STEPS = (
     "sessions::refusals::a_change_refused_its_memory_moves_what_was_kept_back",
-    "sessions::refusals::a_checkpoint_refused_its_memory_changes_nothing",
     "sessions::refusals::a_step_refused_its_memory_changes_nothing",
     "sessions::refusals::a_step_refused_its_memory_is_answered_when_made_again",
 )

@@ -1,5 +1,5 @@
 //! The words that faults are told in, which no clause says.
-use crate::asserts::assert_report;
+use crate::support::assert_report;
 use reg_arena::ArenaFault;
 use reg_calls::{NewFault, RunFault};
 use reg_journal::SeatFault;
@@ -9,43 +9,39 @@ use reg_script::ScriptFault;
 use reg_tree::TreeFault;
 use reg_tree_image::{ImageFault, LoadFault, WriteFault};
 use reg_tree_text::DumpFault;
-use std::alloc::Global;
+use std::alloc::{AllocError, Global};
 use std::fmt::Display;
 use std::test::Fail;
 
 /// A line for each of these faults.
-fn tell<F: Display>(text: &mut String, faults: &[F]) -> Result<(), Fail> {
+fn tell<F: Display>(text: &mut String, faults: &[F]) -> Result<(), AllocError> {
     for fault in faults {
         write!(text, "{fault}\n")?;
     }
     Ok(())
 }
 
-/// Each fault of a load, with its number.
-fn loads_told(text: &mut String) -> Result<(), Fail> {
-    for fault in [
-        LoadFault::Read,
-        LoadFault::Short,
-        LoadFault::Signature,
-        LoadFault::Version,
-        LoadFault::Checksum,
-        LoadFault::Dirty,
-        LoadFault::Bins,
-        LoadFault::Cells,
-        LoadFault::Record,
-        LoadFault::Loop,
-        LoadFault::Twice,
-        LoadFault::NotInProfile,
-        LoadFault::Limit,
-        LoadFault::Memory,
-    ] {
-        write!(text, "{} {fault}\n", fault.number())?;
-    }
-    Ok(())
-}
-
-/// The faults of what is written, and of scripts.
-fn writes_told(text: &mut String) -> Result<(), Fail> {
+/// The faults of what is loaded and written, and of scripts.
+fn tell_devices(text: &mut String) -> Result<(), AllocError> {
+    tell(
+        text,
+        &[
+            LoadFault::Read,
+            LoadFault::Short,
+            LoadFault::Signature,
+            LoadFault::Version,
+            LoadFault::Checksum,
+            LoadFault::Dirty,
+            LoadFault::Bins,
+            LoadFault::Cells,
+            LoadFault::Record,
+            LoadFault::Loop,
+            LoadFault::Twice,
+            LoadFault::NotInProfile,
+            LoadFault::Limit,
+            LoadFault::Memory,
+        ],
+    )?;
     tell(text, &[ImageFault::Memory])?;
     tell(text, &[WriteFault { written: 4096 }])?;
     tell(text, &[DumpFault::Write { written: 7 }])?;
@@ -60,8 +56,8 @@ fn writes_told(text: &mut String) -> Result<(), Fail> {
     )
 }
 
-/// The faults of names, records, arenas and trees.
-fn trees_told(text: &mut String) -> Result<(), Fail> {
+/// The faults of names, records, arenas, trees and hives.
+fn tell_keys(text: &mut String) -> Result<(), AllocError> {
     tell(
         text,
         &[
@@ -91,11 +87,7 @@ fn trees_told(text: &mut String) -> Result<(), Fail> {
             TreeFault::Full,
             TreeFault::Memory,
         ],
-    )
-}
-
-/// The faults of hives.
-fn hives_told(text: &mut String) -> Result<(), Fail> {
+    )?;
     tell(
         text,
         &[NewFault::Name, NewFault::Descriptor, NewFault::Memory],
@@ -109,30 +101,28 @@ fn hives_told(text: &mut String) -> Result<(), Fail> {
 
 fn told(alloc: Global) -> Result<String, Fail> {
     let mut text = String::new(alloc);
-    loads_told(&mut text)?;
-    writes_told(&mut text)?;
-    trees_told(&mut text)?;
-    hives_told(&mut text)?;
+    tell_devices(&mut text)?;
+    tell_keys(&mut text)?;
     Ok(text)
 }
 
 #[test]
 fn each_fault_has_its_words(rt: HostRuntime) -> Result<(), Fail> {
     let wanted = "\
-1 the image can't be read
-2 the image ends too early
-3 the image has another signature
-4 the image has a version that isn't supported
-5 the checksum of the base block is wrong
-6 the image wasn't written to its end
-7 a bin is bad
-8 a cell is bad
-9 a record is bad
-10 a key is below itself
-11 a cell or a name comes twice
-12 the image has something that isn't supported
-13 a limit is passed
-14 memory runs out
+the image can't be read
+the image ends too early
+the image has another signature
+the image has a version that isn't supported
+the checksum of the base block is wrong
+the image wasn't written to its end
+a bin is bad
+a cell is bad
+a record is bad
+a key is below itself
+a cell or a name comes twice
+the image has something that isn't supported
+a limit is passed
+memory runs out
 no memory for the image
 a write failed after 4096 bytes
 a write failed after 7 bytes

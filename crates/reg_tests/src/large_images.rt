@@ -1,6 +1,6 @@
 //! Images of many bytes: keys whose values take more than one carve, which load, and keys that have, in the cells of new bins, more bytes
 //! than bins may have, with what is wrong with the last of them. The wanted sizes and faults come from the format's tables.
-use crate::asserts::assert_report;
+use crate::support::assert_report;
 use reg_fixtures::{drafted, put_changes, sizes_but};
 use reg_tree::Tree;
 use reg_tree_image::load_tree;
@@ -8,7 +8,7 @@ use std::alloc::{AllocError, Global};
 use std::test::Fail;
 
 /// An image: so many keys below the root, of so many values each, of so many bytes each (a multiple of 16), and another key.
-#[derive(Clone, Copy)]
+#[derive(Drop)]
 struct Image {
     keys: u32,
     values: u32,
@@ -25,8 +25,13 @@ nk 32 0 0 - 0 - @1 - 0 =k99999
 li @2";
 
 /// Appends the lines of a key, behind a line of this number: its values, their list, and the key, whose number it tells.
-fn push_key(table: &mut String, image: Image, number: u32, behind: u32) -> Result<u32, AllocError> {
-    let Image { values, size, .. } = image;
+fn push_key(
+    table: &mut String,
+    image: &Image,
+    number: u32,
+    behind: u32,
+) -> Result<u32, AllocError> {
+    let (values, size) = (image.values, image.size);
     let mut line = behind;
     for value in 0..values {
         line = line.saturating_add(2);
@@ -50,7 +55,7 @@ fn push_key(table: &mut String, image: Image, number: u32, behind: u32) -> Resul
 }
 
 /// The table of an image: its root is `ROOT`, its keys are `k00000` and on, and last `k99999`.
-fn table_of(alloc: Global, image: Image) -> Result<String, AllocError> {
+fn table_of(alloc: Global, image: &Image) -> Result<String, AllocError> {
     let mut table = FIRST_LINES.to_string(alloc)?;
     let mut list = "li".to_string(alloc)?;
     let mut line = 3;
@@ -90,7 +95,7 @@ fn loaded(alloc: Global, image: &[u8]) -> Result<String, Fail> {
 }
 
 /// Makes the changes of each row, one after another, and fails where the image doesn't load to what is wanted.
-fn check(alloc: Global, image: Image, rows: &[Row]) -> Result<(), Fail> {
+fn check(alloc: Global, image: &Image, rows: &[Row]) -> Result<(), Fail> {
     let table = table_of(alloc, image)?;
     let mut bytes = drafted(alloc, 5, table.as_str())?;
     for (changes, wanted) in rows {
@@ -111,7 +116,7 @@ fn values_of_several_carves_fit(rt: HostRuntime) -> Result<(), Fail> {
         (3, 13_256, 4_080, "164003784 close"),
     ] {
         let image = Image { keys, values, size };
-        check(rt.alloc(), image, &[("0 72656766", wanted)])?;
+        check(rt.alloc(), &image, &[("0 72656766", wanted)])?;
     }
     Ok(())
 }
@@ -127,7 +132,7 @@ fn keys_that_fit_without_room_ahead(rt: HostRuntime) -> Result<(), Fail> {
         values: 11,
         size: 4_048,
     };
-    check(rt.alloc(), image, &[("0 72656766", "246402240 close")])
+    check(rt.alloc(), &image, &[("0 72656766", "246402240 close")])
 }
 
 // A key's list of 10 values has a cell of 48 bytes, each value's record one of 32 and its data one of 4,072. With a bin's header of 32 bytes
@@ -144,7 +149,7 @@ fn faults_behind_the_place_without_room(rt: HostRuntime) -> Result<(), Fail> {
     };
     check(
         rt.alloc(),
-        image,
+        &image,
         &[
             ("4180 6e6b", "13"),
             ("4180 6e6c", "9"),

@@ -1,7 +1,7 @@
 use Rattle.std.proofs.Common.{ℕ, List, sym, subst}
 use Rattle.reg_sessions.specs.declared.job.Job.{Job}
 use Rattle.reg_sessions.specs.Jobs.{AreReady}
-use Rattle.reg_session_tests.proofs.jobs.ran.Goals as goal
+use Rattle.reg_tests.proofs.sessions.jobs.ran.Goals as goal
 
 pub drive-requires-clause-ready : goal.drive-requires-clause-ready
 drive-requires-clause-ready g c κs within =

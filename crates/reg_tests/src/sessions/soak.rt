@@ -1,0 +1,218 @@
+//! Sixty-four sessions on threads of their own at sixteen hives, with calls taken at random. When all are gathered, each hive's journal, run
+//! again on one thread, is answered as it was, and leaves the same tree.
+use crate::sessions::stage::{Cast, started};
+use crate::support::{assert_report, seated};
+use reg_callbacks::NoCallback;
+use reg_calls::{Hive, SeatedHive};
+use reg_sessions::Audit;
+use reg_tree::Tree;
+use reg_tree_text::dump;
+use reg_workload::Chance;
+use std::alloc::{AllocError, Global};
+use std::sync::Wait;
+use std::test::Fail;
+use std::thread::Threads;
+
+const HIVES: usize = 16;
+
+const SESSIONS: u8 = 64;
+
+/// How many calls each session makes.
+const CALLS: u32 = 100;
+
+/// The first seed: session 0 has it, and each other session the one after that of the session before.
+const SEED: u64 = 0;
+
+/// How often all is done, with seeds of its own each time. `tools/soak` has other numbers for these three, and `tools/refuse-memory` for
+/// all of `SESSIONS` to `MANY`.
+const ROUNDS: u64 = 1;
+
+/// More entries than these are many.
+const MANY: u64 = 1_500;
+
+/// What is told where all is well.
+const WELL: &str = "16 hives, many entries true";
+
+/// The names of keys.
+const NAMES: [&str; 6] = [
+    "Alpha",
+    "beta",
+    "Beta\\Gamma",
+    "Delta\\e\\f",
+    "G",
+    "alpha\\h",
+];
+
+/// Sizes of data, some of it of more than one segment.
+const SIZES: [usize; 7] = [0, 3, 4, 5, 100, 2_000, 17_000];
+
+/// Writes a line at random by a handle.
+fn push_line(
+    alloc: Global,
+    chance: &mut Chance,
+    handle: u8,
+    text: &mut String,
+) -> Result<(), AllocError> {
+    let name = chance.item_of(&NAMES).unwrap_or("Alpha");
+    match chance.below(15) {
+        0 => write!(text, "query {handle} =V 4000"),
+        1 => write!(text, "enumkey {handle} 0 255"),
+        2 => write!(text, "info {handle}"),
+        3 => write!(text, "open {handle} ={name} 983103"),
+        4 => write!(text, "create {handle} ={name} 983103"),
+        5 => write!(text, "delvalue {handle} =v"),
+        6 => write!(text, "delkey {handle} ={name}"),
+        7 => write!(text, "deltree {handle} ={name}"),
+        8 => write!(text, "setsec {handle} x{:02x}01", chance.byte()),
+        9 => write!(text, "notify {handle} 5 1"),
+        10 => write!(text, "close {}", chance.below(400)),
+        11 => {
+            let digits = format!(in alloc; "{:02x}", chance.byte())?;
+            let size = chance.item_of(&SIZES).unwrap_or(4);
+            let digits = digits.as_str().repeat(alloc, size)?;
+            write!(text, "set {handle} =v 3 x{}", digits.as_str())
+        }
+        _ => text.push_str("notice"),
+    }
+}
+
+/// Writes the lines of a session with its seed. Its handle has its number at each hive.
+fn push_session(
+    alloc: Global,
+    seed: u64,
+    session: u8,
+    text: &mut String,
+) -> Result<(), AllocError> {
+    let mut chance = Chance::new(seed.wrapping_add(u64::from(session)));
+    write!(text, "as {session}, ")?;
+    for call in 0..CALLS {
+        write!(text, "hive {}, at {call}, ", chance.below(HIVES))?;
+        push_line(alloc, &mut chance, session, text)?;
+        text.push_str(", ")?;
+    }
+    Ok(())
+}
+
+/// Writes lines that open the root of each hive by each session. The first handle of a hive has the number 0, and each other one the next
+/// number.
+fn push_openings(text: &mut String) -> Result<(), AllocError> {
+    for session in 0..SESSIONS {
+        for hive in 0..HIVES {
+            write!(text, "as {session}\nhive {hive}\nroot 983103\n")?;
+        }
+    }
+    Ok(())
+}
+
+/// The lines of all sessions.
+fn lines(alloc: Global, seed: u64) -> Result<String, AllocError> {
+    let mut text = String::new(alloc);
+    push_openings(&mut text)?;
+    text.push_str("drive ")?;
+    for session in 0..SESSIONS {
+        push_session(alloc, seed, session, &mut text)?;
+    }
+    Ok(text)
+}
+
+/// Runs a hive's journal again. Tells whether each change is answered as it was.
+fn is_run_again(
+    alloc: Global,
+    hive: &Hive,
+    again: &mut SeatedHive<NoCallback>,
+) -> Result<bool, Fail> {
+    for number in 0..hive.len() {
+        let Some(entry) = hive.entry(number) else {
+            return Err("there is no such entry".into());
+        };
+        if entry.session >= SESSIONS {
+            return Err("there is no such session".into());
+        }
+        let reply = again.apply(entry.session, entry.moment, entry.change.try_clone(alloc)?);
+        if !reply.is_same(&entry.reply) {
+            return Ok(false);
+        }
+    }
+    Ok(true)
+}
+
+fn text_of(alloc: Global, tree: &Tree) -> Result<Vec<u8>, Fail> {
+    let mut output = Vec::new(alloc);
+    dump(alloc, tree, &mut output)?;
+    Ok(output)
+}
+
+/// Whether two hives told each session the same, and have as many handles open and watches pending.
+fn is_told_alike(hive: &Hive, again: &Hive<NoCallback>) -> bool {
+    let mut same = hive.open_handles() == again.open_handles() && hive.pending() == again.pending();
+    for session in 0..SESSIONS {
+        same = same && hive.fired(session) == again.fired(session);
+    }
+    same
+}
+
+/// Whether a hive's journal, run again, leaves its tree, its notices, and as many handles and watches.
+fn is_its_journals(
+    alloc: Global,
+    hive: &Hive,
+    again: &mut SeatedHive<NoCallback>,
+) -> Result<bool, Fail> {
+    if !is_run_again(alloc, hive, again)? {
+        return Ok(false);
+    }
+    let tree = text_of(alloc, hive.tree())?;
+    let run = text_of(alloc, again.hive.tree())?;
+    Ok(tree.as_slice() == run.as_slice() && is_told_alike(hive, &again.hive))
+}
+
+/// Whether a hive is that of its journal.
+fn is_well(alloc: Global, hive: &Hive) -> Result<bool, Fail> {
+    let mut again = seated(alloc, "")?;
+    is_its_journals(alloc, hive, &mut again)
+}
+
+/// How many hives are those of their journals, and whether there are many entries.
+fn tell(alloc: Global, audit: &Audit) -> Result<String, Fail> {
+    let mut same = 0u64;
+    let mut entries = 0u64;
+    for hive in 0..audit.hives() {
+        if is_well(alloc, audit.hive(hive as u8))? {
+            same = same.saturating_add(1);
+        }
+        entries = entries.saturating_add(audit.entries(hive as u8));
+    }
+    Ok(format!(in alloc; "{same} hives, many entries {}", entries > MANY)?)
+}
+
+fn told<Rt: Print + Threads + Wait + Sync>(
+    rt: &Rt,
+    alloc: Global,
+    seed: u64,
+) -> Result<String, Fail> {
+    let lines = lines(alloc, seed)?;
+    let mut stage = started(rt, alloc, &Cast("", HIVES, SESSIONS, &[]))?;
+    let _statuses = stage.take_all(rt, lines.as_str())?;
+    tell(alloc, &stage.gathered()?)
+}
+
+/// What a round tells in which not all is well, with its seed, or else that all is.
+fn told_of_rounds<Rt: Print + Threads + Wait + Sync>(
+    rt: &Rt,
+    alloc: Global,
+) -> Result<String, Fail> {
+    for round in 0..ROUNDS {
+        let seed = SEED.wrapping_add(round.wrapping_mul(u64::from(SESSIONS)));
+        let text = told(rt, alloc, seed)?;
+        if text.as_str() != WELL {
+            return Ok(format!(in alloc; "{}, of seed {seed}", text.as_str())?);
+        }
+    }
+    Ok(WELL.to_string(alloc)?)
+}
+
+#[test]
+fn sessions_at_random_are_gathered_and_each_hive_is_its_journals(
+    rt: HostRuntime,
+) -> Result<(), Fail> {
+    assert_report(told_of_rounds(&rt, rt.alloc()), WELL)
+}
