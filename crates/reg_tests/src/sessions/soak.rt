@@ -9,26 +9,47 @@ use reg_tree::Tree;
 use reg_tree_text::dump;
 use reg_workload::Chance;
 use std::alloc::{AllocError, Global};
+use std::env;
 use std::sync::Wait;
 use std::test::Fail;
 use std::thread::Threads;
 
 const HIVES: usize = 16;
 
+/// The most sessions that there may be.
 const SESSIONS: u8 = 64;
 
-/// How many calls each session makes.
-const CALLS: u32 = 100;
+/// The numbers of a soak. `tools/soak` and `tools/refuse-memory` give others than the gate's, by variables of the environment.
+#[derive(Clone, Copy)]
+struct Numbers {
+    /// The first seed: session 0 has it, and each other session the one after that of the session before.
+    seed: u64,
+    /// How often all is done, with seeds of its own each time.
+    rounds: u64,
+    sessions: u8,
+    /// How many calls each session makes.
+    calls: u32,
+    /// More entries than these are many.
+    many: u64,
+}
 
-/// The first seed: session 0 has it, and each other session the one after that of the session before.
-const SEED: u64 = 0;
+/// The number that a variable has, or else the gate's.
+fn number(rt: &HostRuntime, name: &str, gates: u64) -> u64 {
+    match env::var(rt, name) {
+        Ok(text) => text.as_str().parse::<u64>().unwrap_or(gates),
+        Err(_) => gates,
+    }
+}
 
-/// How often all is done, with seeds of its own each time. `tools/soak` has other numbers for these three, and `tools/refuse-memory` for
-/// all of `SESSIONS` to `MANY`.
-const ROUNDS: u64 = 1;
-
-/// More entries than these are many.
-const MANY: u64 = 1_500;
+fn numbers(rt: &HostRuntime) -> Numbers {
+    Numbers {
+        seed: number(rt, "SOAK_SEED", 0),
+        rounds: number(rt, "SOAK_ROUNDS", 1),
+        sessions: u8::try_from(number(rt, "SOAK_SESSIONS", 64)).unwrap_or(SESSIONS),
+        calls: u32::try_from(number(rt, "SOAK_CALLS", 100)).unwrap_or(u32::MAX),
+        many: number(rt, "SOAK_MANY", 1_500),
+    }
+}
 
 /// What is told where all is well.
 const WELL: &str = "16 hives, many entries true";
@@ -79,13 +100,13 @@ fn push_line(
 /// Writes the lines of a session with its seed. Its handle has its number at each hive.
 fn push_session(
     alloc: Global,
-    seed: u64,
+    numbers: Numbers,
     session: u8,
     text: &mut String,
 ) -> Result<(), AllocError> {
-    let mut chance = Chance::new(seed.wrapping_add(u64::from(session)));
+    let mut chance = Chance::new(numbers.seed.wrapping_add(u64::from(session)));
     write!(text, "as {session}, ")?;
-    for call in 0..CALLS {
+    for call in 0..numbers.calls {
         write!(text, "hive {}, at {call}, ", chance.below(HIVES))?;
         push_line(alloc, &mut chance, session, text)?;
         text.push_str(", ")?;
@@ -95,8 +116,8 @@ fn push_session(
 
 /// Writes lines that open the root of each hive by each session. The first handle of a hive has the number 0, and each other one the next
 /// number.
-fn push_openings(text: &mut String) -> Result<(), AllocError> {
-    for session in 0..SESSIONS {
+fn push_openings(sessions: u8, text: &mut String) -> Result<(), AllocError> {
+    for session in 0..sessions {
         for hive in 0..HIVES {
             write!(text, "as {session}\nhive {hive}\nroot 983103\n")?;
         }
@@ -105,12 +126,12 @@ fn push_openings(text: &mut String) -> Result<(), AllocError> {
 }
 
 /// The lines of all sessions.
-fn lines(alloc: Global, seed: u64) -> Result<String, AllocError> {
+fn lines(alloc: Global, numbers: Numbers) -> Result<String, AllocError> {
     let mut text = String::new(alloc);
-    push_openings(&mut text)?;
+    push_openings(numbers.sessions, &mut text)?;
     text.push_str("drive ")?;
-    for session in 0..SESSIONS {
-        push_session(alloc, seed, session, &mut text)?;
+    for session in 0..numbers.sessions {
+        push_session(alloc, numbers, session, &mut text)?;
     }
     Ok(text)
 }
@@ -171,8 +192,8 @@ fn is_well(alloc: Global, hive: &Hive) -> Result<bool, Fail> {
     is_its_journals(alloc, hive, &mut again)
 }
 
-/// How many hives are those of their journals, and whether there are many entries.
-fn tell(alloc: Global, audit: &Audit) -> Result<String, Fail> {
+/// How many hives are those of their journals, and whether there are more entries than so many.
+fn tell(alloc: Global, audit: &Audit, many: u64) -> Result<String, Fail> {
     let mut same = 0u64;
     let mut entries = 0u64;
     for hive in 0..audit.hives() {
@@ -181,32 +202,38 @@ fn tell(alloc: Global, audit: &Audit) -> Result<String, Fail> {
         }
         entries = entries.saturating_add(audit.entries(hive as u8));
     }
-    Ok(format!(in alloc; "{same} hives, many entries {}", entries > MANY)?)
+    Ok(format!(in alloc; "{same} hives, many entries {}", entries > many)?)
 }
 
 fn told<Rt: Print + Threads + Wait + Sync>(
     rt: &Rt,
     alloc: Global,
-    seed: u64,
+    numbers: Numbers,
 ) -> Result<String, Fail> {
-    let lines = lines(alloc, seed)?;
-    let mut stage = started(rt, alloc, &Cast("", HIVES, SESSIONS, &[]))?;
+    let lines = lines(alloc, numbers)?;
+    let mut stage = started(rt, alloc, &Cast("", HIVES, numbers.sessions, &[]))?;
     let _statuses = stage.take_all(rt, lines.as_str())?;
-    tell(alloc, &stage.gathered()?)
+    tell(alloc, &stage.gathered()?, numbers.many)
 }
 
 /// What a round tells in which not all is well, with its seed, or else that all is.
 fn told_of_rounds<Rt: Print + Threads + Wait + Sync>(
     rt: &Rt,
     alloc: Global,
+    numbers: Numbers,
 ) -> Result<String, Fail> {
-    for round in 0..ROUNDS {
-        let seed = SEED.wrapping_add(round.wrapping_mul(u64::from(SESSIONS)));
-        let text = told(rt, alloc, seed)?;
+    let each = u64::from(numbers.sessions);
+    for round in 0..numbers.rounds {
+        let seed = numbers.seed.wrapping_add(round.wrapping_mul(each));
+        let text = told(rt, alloc, Numbers { seed, ..numbers })?;
         if text.as_str() != WELL {
             return Ok(format!(in alloc; "{}, of seed {seed}", text.as_str())?);
         }
     }
+    println!(rt;
+        "{} rounds of {} sessions with {} calls",
+        numbers.rounds, numbers.sessions, numbers.calls
+    )?;
     Ok(WELL.to_string(alloc)?)
 }
 
@@ -214,5 +241,5 @@ fn told_of_rounds<Rt: Print + Threads + Wait + Sync>(
 fn sessions_at_random_are_gathered_and_each_hive_is_its_journals(
     rt: HostRuntime,
 ) -> Result<(), Fail> {
-    assert_report(told_of_rounds(&rt, rt.alloc()), WELL)
+    assert_report(told_of_rounds(&rt, rt.alloc(), numbers(&rt)), WELL)
 }
