@@ -1,22 +1,7 @@
 //! The cells of an arena: which are allocated, and their sizes.
-ghost use Rattle.std.specs.Prelude.{◌≡◌, true, Some, IsSome, List, ℕ};
-ghost use Rattle.reg_arena.specs.Cells.{cells_of, cell_at};
-
 use crate::FixtureFault;
 use reg_arena::{Arena, ArenaFault, Cell};
 use std::alloc::Global;
-
-/// Whether one of these cells is allocated and stands at an offset.
-pub fn is_among(cells: &[Cell], offset: u32) -> bool
-    ensures { (bytes : List ℕ) → cells_of bytes ≡ Some cells.now → result ≡ true → IsSome (cell_at bytes offset) }
-{
-    for cell in cells {
-        if cell.offset == offset && cell.allocated {
-            return true;
-        }
-    }
-    false
-}
 
 /// The cells of an arena.
 fn all_cells(alloc: Global, arena: &Arena) -> Result<Vec<Cell>, FixtureFault> {

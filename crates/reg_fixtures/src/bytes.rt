@@ -1,6 +1,5 @@
-//! Bytes of an image changed and told.
-ghost use Rattle.std.specs.Prelude.{◌≡◌, ◌+◌, ◌≤◌, ◌↔◌, length, take, drop, string_bytes, IsOk, OnOk, OnErr, IfOk};
-ghost use Rattle.hex.specs.Hex.{encode_lower};
+//! Bytes of an image changed.
+ghost use Rattle.std.specs.Prelude.{◌≡◌, ◌+◌, ◌≤◌, ◌↔◌, length, take, IsOk, OnOk, OnErr, IfOk};
 ghost use Rattle.byteorder.specs.Endian.{little_bytes};
 ghost use Rattle.reg_heap.specs.ByteWords.{splice};
 ghost use Rattle.reg_tree_image.specs.BaseBlock.{checksum_of};
@@ -48,19 +47,6 @@ pub fn seal(image: &mut [u8]) -> Result<(), FixtureFault>
 {
     let sum = sum_of(image)?;
     put(image, CHECKSUM, &sum.to_le_bytes())
-}
-
-/// The digits of so many bytes at a place. The faults are `Place`, where there are fewer, and `Memory`.
-pub fn digits(alloc: Global, bytes: &[u8], at: usize, len: usize) -> Result<String, FixtureFault>
-    ensures { IfOk result (λ text. string_bytes text ≡ encode_lower (take len (drop at bytes.now))) }
-{
-    let Some(rest) = bytes.get(at..) else {
-        return Err(FixtureFault::Place);
-    };
-    let Some(part) = rest.get(..len) else {
-        return Err(FixtureFault::Place);
-    };
-    Ok(hex::encode(alloc, part)?)
 }
 
 /// The bytes that digits stand for. The faults are `Line`, where they aren't whole bytes in digits, and `Memory`.

@@ -3,7 +3,7 @@ ghost use Rattle.std.specs.Prelude.{◌≡◌, length};
 
 use crate::sweeps::{put, seal, turn};
 use anyhow::Result;
-use reg_workload::Chance;
+use reg_fixtures::Chance;
 use std::alloc::Global;
 
 /// Numbers that a reader may trip over.

@@ -4,7 +4,7 @@ use crate::hives::{Subject, fresh_hive, run_on};
 use crate::seeds::{SCRIPTS, images};
 use crate::verdicts::{Tally, Verdict, judge_bytes, verdict_on};
 use anyhow::Result;
-use reg_workload::Chance;
+use reg_fixtures::Chance;
 use std::alloc::Global;
 
 /// Every so many seeds have a script, too.

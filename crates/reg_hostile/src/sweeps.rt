@@ -5,7 +5,7 @@ use crate::verdicts::{Tally, judge, judge_bytes};
 use anyhow::Result;
 use reg_fixtures::FakeReader;
 use reg_tree_image::checksum;
-use reg_workload::Chance;
+use reg_fixtures::Chance;
 use std::alloc::Global;
 
 /// Writes bytes over those at an offset; what would stand behind the end is left out.

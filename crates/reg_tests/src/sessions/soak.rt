@@ -7,7 +7,7 @@ use reg_calls::{Hive, SeatedHive};
 use reg_sessions::Audit;
 use reg_tree::Tree;
 use reg_tree_text::dump;
-use reg_workload::Chance;
+use reg_fixtures::Chance;
 use std::alloc::{AllocError, Global};
 use std::env;
 use std::sync::Wait;

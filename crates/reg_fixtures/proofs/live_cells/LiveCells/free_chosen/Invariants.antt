@@ -1,6 +1,6 @@
 use Rattle.std.proofs.Common.{◌≡◌, ◌+◌, length}
-use Rattle.reg_workload.specs.LiveCells.{FreesChosen}
-use Rattle.reg_workload.proofs.live_cells.LiveCells.free_chosen.Given as goal
+use Rattle.reg_fixtures.specs.LiveCells.{FreesChosen}
+use Rattle.reg_fixtures.proofs.live_cells.LiveCells.free_chosen.Given as goal
 
 abbrev pub invariant-loop-i : goal.invariant-loop-i
 invariant-loop-i l = record {

@@ -1,5 +1,5 @@
 use Rattle.std.proofs.Common.{◌≡◌, ◌+◌, ◌-◌, length}
-use Rattle.reg_workload.proofs.live_cells.LiveCells.choose_some.Given as goal
+use Rattle.reg_fixtures.proofs.live_cells.LiveCells.choose_some.Given as goal
 
 abbrev pub invariant-loop-i : goal.invariant-loop-i
 invariant-loop-i l = record {

@@ -1,6 +1,6 @@
 //! An arena with cells that come and go at random.
 ghost use Rattle.std.specs.Prelude.{◌≡◌, ◌+◌, ◌-◌, [], length, OnOk};
-ghost use Rattle.reg_workload.specs.LiveCells.{AreLive, FreesChosen};
+ghost use Rattle.reg_fixtures.specs.LiveCells.{AreLive, FreesChosen};
 
 use crate::Chance;
 use reg_arena::{Arena, ArenaFault};

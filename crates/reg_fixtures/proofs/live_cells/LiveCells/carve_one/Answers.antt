@@ -1,5 +1,5 @@
-use Rattle.reg_workload.proofs.LiveCellLemmas.{live-carve, live-longer}
-use Rattle.reg_workload.proofs.live_cells.LiveCells.carve_one.Goals as goal
+use Rattle.reg_fixtures.proofs.LiveCellLemmas.{live-carve, live-longer}
+use Rattle.reg_fixtures.proofs.live_cells.LiveCells.carve_one.Goals as goal
 
 pub invariant_of-self : goal.invariant_of-self
 invariant_of-self c =

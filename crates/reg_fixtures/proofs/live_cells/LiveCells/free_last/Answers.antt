@@ -1,5 +1,5 @@
-use Rattle.reg_workload.proofs.LiveCellLemmas.{chosen-stands, chosen-freed, one-freed}
-use Rattle.reg_workload.proofs.live_cells.LiveCells.free_last.Goals as goal
+use Rattle.reg_fixtures.proofs.LiveCellLemmas.{chosen-stands, chosen-freed, one-freed}
+use Rattle.reg_fixtures.proofs.live_cells.LiveCells.free_last.Goals as goal
 
 pub free-requires : goal.free-requires
 free-requires c = chosen-stands _ _ _ c.args.self.now.live _ _ c.in-Some.ensures.items

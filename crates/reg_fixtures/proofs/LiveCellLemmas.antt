@@ -10,7 +10,7 @@ use Rattle.reg_arena.specs.Cells.{cell_at}
 use Rattle.reg_arena.specs.Arena.{Bins}
 use Rattle.reg_arena.specs.Carves.{CarvesExactly, AddsCells}
 use Rattle.reg_arena.specs.declared.ArenaFault.{ArenaFault}
-use Rattle.reg_workload.specs.LiveCells.{AreLive, FreesChosen}
+use Rattle.reg_fixtures.specs.LiveCells.{AreLive, FreesChosen}
 
 abbrev pub is_at : ℕ → ℕ → ℕ
 is_at x y = cond (eqb y x) 1 0

@@ -1,6 +1,6 @@
 use Rattle.std.proofs.Common.{◌<◌, length, arith}
-use Rattle.reg_workload.proofs.LiveCellLemmas.{live-chosen}
-use Rattle.reg_workload.proofs.live_cells.LiveCells.choose_one.Goals as goal
+use Rattle.reg_fixtures.proofs.LiveCellLemmas.{live-chosen}
+use Rattle.reg_fixtures.proofs.live_cells.LiveCells.choose_one.Goals as goal
 
 pub invariant_of-self-2 : goal.invariant_of-self-2
 invariant_of-self-2 c =

@@ -1,2 +1,0 @@
-pub mod LiveCells
-pub mod PlainJournals
