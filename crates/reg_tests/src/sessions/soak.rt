@@ -4,10 +4,10 @@ use crate::sessions::stage::{Cast, started};
 use crate::support::{assert_report, seated};
 use reg_callbacks::NoCallback;
 use reg_calls::{Hive, SeatedHive};
+use reg_fixtures::Chance;
 use reg_sessions::Audit;
 use reg_tree::Tree;
 use reg_tree_text::dump;
-use reg_fixtures::Chance;
 use std::alloc::{AllocError, Global};
 use std::env;
 use std::sync::Wait;
@@ -41,7 +41,7 @@ fn number(rt: &HostRuntime, name: &str, gates: u64) -> u64 {
     }
 }
 
-fn numbers(rt: &HostRuntime) -> Numbers {
+fn given_numbers(rt: &HostRuntime) -> Numbers {
     Numbers {
         seed: number(rt, "SOAK_SEED", 0),
         rounds: number(rt, "SOAK_ROUNDS", 1),
@@ -241,5 +241,5 @@ fn told_of_rounds<Rt: Print + Threads + Wait + Sync>(
 fn sessions_at_random_are_gathered_and_each_hive_is_its_journals(
     rt: HostRuntime,
 ) -> Result<(), Fail> {
-    assert_report(told_of_rounds(&rt, rt.alloc(), numbers(&rt)), WELL)
+    assert_report(told_of_rounds(&rt, rt.alloc(), given_numbers(&rt)), WELL)
 }
