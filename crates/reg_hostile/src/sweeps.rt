@@ -3,9 +3,8 @@ ghost use Rattle.std.specs.Prelude.{◌≡◌, length};
 
 use crate::verdicts::{Tally, judge, judge_bytes};
 use anyhow::Result;
-use reg_fixtures::FakeReader;
+use reg_fixtures::{Chance, FakeReader};
 use reg_tree_image::checksum;
-use reg_fixtures::Chance;
 use std::alloc::Global;
 
 /// Writes bytes over those at an offset; what would stand behind the end is left out.
