@@ -172,6 +172,11 @@ fn compare(rt: &HostRuntime, path: &str, other: &str) -> Result<String> {
     Ok(format!(in alloc; "{path} and {other} differ at byte {at}\n")?)
 }
 
+/// So many bytes from an offset on; `None` where there are fewer.
+fn part_of(bytes: &[u8], at: usize, len: usize) -> Option<&[u8]> {
+    bytes.get(at..)?.get(..len)
+}
+
 /// The digits of a file's bytes: of all, or from an offset on so many.
 fn digits(rt: &HostRuntime, path: &str, words: &[String]) -> Result<String> {
     let bytes = bytes_of(rt, path)?;
@@ -182,7 +187,10 @@ fn digits(rt: &HostRuntime, path: &str, words: &[String]) -> Result<String> {
         ),
         _ => (0, bytes.len()),
     };
-    let text = reg_fixtures::digits(rt.alloc(), &bytes, at, len)?;
+    let Some(part) = part_of(&bytes, at, len) else {
+        bail!("{path} has fewer bytes");
+    };
+    let text = hex::encode(rt.alloc(), part)?;
     Ok(format!(in rt.alloc(); "{}\n", text.as_str())?)
 }
 
