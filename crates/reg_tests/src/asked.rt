@@ -1,6 +1,6 @@
-//! Which callbacks calls and causes ask. Of a call that a cause before them refuses none is asked, of each other call but a Close each is, once,
-//! from the highest altitude down to the first that refuses; and the cause of a change asks as the change does. A callback decides by what it
-//! is shown alone, and so no clause sees a question too many.
+//! Which callbacks calls and causes ask. Of a call that a cause before them refuses none is asked, of each other call but a Close each is,
+//! once, from the highest altitude down to the first that refuses; and the cause of a change asks as the change does. A callback decides by
+//! what it is shown alone, and so no clause sees a question too many.
 //!
 //! The rows are those of the rules' tables: each call, where it is accepted and by each of its refusals. Three causes are left out, which
 //! take more than a test has: a full journal, bins without room and want of memory.
@@ -330,8 +330,8 @@ fn open(hive: &mut Hive<Noting>, share: &mut Share) -> u32 {
         .status
 }
 
-/// A call by the first share of a hive; then the cause of one by that share at another hive, such a call, and a question there; and one more
-/// call at its own hive. Last stand the rows of both hives' books, and which callback of the other hive was asked.
+/// A call by the first share of a hive; then the cause of one by that share at another hive, such a call, and a question there; and one
+/// more call at its own hive. Last stand the rows of both hives' books, and which callback of the other hive was asked.
 fn strange(
     alloc: Global,
     own: &mut Hive<Noting>,

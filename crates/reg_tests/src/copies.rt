@@ -32,11 +32,11 @@ close 2";
 /// Copies of the steps, of what they are answered, and of the entries.
 const COPIES: &str = "\
 Step { session: 3, moment: 9, call: Change(OpenRoot { mask: 983103 }) }
-Step { session: 3, moment: 9, call: Change(CreateKey { handle: 0, path: Bytes { items: [65, 92, 66] }, mask: 983103, descriptor: Some(Bytes { \
-items: [1, 2] }) }) }
+Step { session: 3, moment: 9, call: Change(CreateKey { handle: 0, path: Bytes { items: [65, 92, 66] }, mask: 983103, \
+descriptor: Some(Bytes { items: [1, 2] }) }) }
 Step { session: 3, moment: 9, call: Change(OpenKey { handle: 0, path: Bytes { items: [65] }, mask: 983103 }) }
-Step { session: 3, moment: 9, call: Change(SetValue { handle: 0, name: Bytes { items: [110, 97, 109, 101] }, kind: 3, bytes: Bytes { items: [8, \
-9] } }) }
+Step { session: 3, moment: 9, call: Change(SetValue { handle: 0, name: Bytes { items: [110, 97, 109, 101] }, kind: 3, \
+bytes: Bytes { items: [8, 9] } }) }
 Step { session: 3, moment: 9, call: Change(SetSecurity { handle: 2, descriptor: Bytes { items: [3, 4] } }) }
 Step { session: 3, moment: 9, call: Change(Notify { handle: 2, filter: 268435460, subtree: true }) }
 Step { session: 3, moment: 9, call: Query(QueryValue { handle: 0, name: Bytes { items: [110, 97, 109, 101] }, room: Some(2) }) }
@@ -67,24 +67,24 @@ Changed(ChangeReply { status: 0, number: Some(6), handle: None, disposition: Non
 Changed(ChangeReply { status: 0, number: Some(7), handle: None, disposition: None })
 Changed(ChangeReply { status: 0, number: Some(8), handle: None, disposition: None })
 Changed(ChangeReply { status: 0, number: Some(9), handle: None, disposition: None })
-Entry { number: 0, session: 3, moment: 9, change: OpenRoot { mask: 983103 }, reply: ChangeReply { status: 0, number: Some(0), handle: Some(0), \
-disposition: None } }
+Entry { number: 0, session: 3, moment: 9, change: OpenRoot { mask: 983103 }, reply: ChangeReply { status: 0, number: Some(0), handle: \
+Some(0), disposition: None } }
 Entry { number: 1, session: 3, moment: 9, change: CreateKey { handle: 0, path: Bytes { items: [65, 92, 66] }, mask: 983103, descriptor: \
 Some(Bytes { items: [1, 2] }) }, reply: ChangeReply { status: 0, number: Some(1), handle: Some(1), disposition: Some(1) } }
-Entry { number: 2, session: 3, moment: 9, change: OpenKey { handle: 0, path: Bytes { items: [65] }, mask: 983103 }, reply: ChangeReply { status: \
-0, number: Some(2), handle: Some(2), disposition: None } }
-Entry { number: 3, session: 3, moment: 9, change: SetValue { handle: 0, name: Bytes { items: [110, 97, 109, 101] }, kind: 3, bytes: Bytes { \
-items: [8, 9] } }, reply: ChangeReply { status: 0, number: Some(3), handle: None, disposition: None } }
-Entry { number: 4, session: 3, moment: 9, change: SetSecurity { handle: 2, descriptor: Bytes { items: [3, 4] } }, reply: ChangeReply { status: \
-0, number: Some(4), handle: None, disposition: None } }
-Entry { number: 5, session: 3, moment: 9, change: Notify { handle: 2, filter: 268435460, subtree: true }, reply: ChangeReply { status: 0, \
-number: Some(5), handle: None, disposition: None } }
-Entry { number: 6, session: 3, moment: 9, change: DeleteValue { handle: 0, name: Bytes { items: [110, 97, 109, 101] } }, reply: ChangeReply { \
-status: 0, number: Some(6), handle: None, disposition: None } }
-Entry { number: 7, session: 3, moment: 9, change: DeleteKey { handle: 0, path: Bytes { items: [65, 92, 66] } }, reply: ChangeReply { status: 0, \
-number: Some(7), handle: None, disposition: None } }
-Entry { number: 8, session: 3, moment: 9, change: DeleteTree { handle: 0, path: Bytes { items: [65] } }, reply: ChangeReply { status: 0, number: \
-Some(8), handle: None, disposition: None } }
+Entry { number: 2, session: 3, moment: 9, change: OpenKey { handle: 0, path: Bytes { items: [65] }, mask: 983103 }, \
+reply: ChangeReply { status: 0, number: Some(2), handle: Some(2), disposition: None } }
+Entry { number: 3, session: 3, moment: 9, change: SetValue { handle: 0, name: Bytes { items: [110, 97, 109, 101] }, kind: 3, bytes: \
+Bytes { items: [8, 9] } }, reply: ChangeReply { status: 0, number: Some(3), handle: None, disposition: None } }
+Entry { number: 4, session: 3, moment: 9, change: SetSecurity { handle: 2, descriptor: Bytes { items: [3, 4] } }, \
+reply: ChangeReply { status: 0, number: Some(4), handle: None, disposition: None } }
+Entry { number: 5, session: 3, moment: 9, change: Notify { handle: 2, filter: 268435460, subtree: true }, \
+reply: ChangeReply { status: 0, number: Some(5), handle: None, disposition: None } }
+Entry { number: 6, session: 3, moment: 9, change: DeleteValue { handle: 0, name: Bytes { items: [110, 97, 109, 101] } }, \
+reply: ChangeReply { status: 0, number: Some(6), handle: None, disposition: None } }
+Entry { number: 7, session: 3, moment: 9, change: DeleteKey { handle: 0, path: Bytes { items: [65, 92, 66] } }, \
+reply: ChangeReply { status: 0, number: Some(7), handle: None, disposition: None } }
+Entry { number: 8, session: 3, moment: 9, change: DeleteTree { handle: 0, path: Bytes { items: [65] } }, \
+reply: ChangeReply { status: 0, number: Some(8), handle: None, disposition: None } }
 Entry { number: 9, session: 3, moment: 9, change: Close { handle: 2 }, reply: ChangeReply { status: 0, number: Some(9), handle: None, \
 disposition: None } }
 ";

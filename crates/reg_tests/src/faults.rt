@@ -9,7 +9,7 @@ use reg_script::ScriptFault;
 use reg_tree::TreeFault;
 use reg_tree_image::{ImageFault, LoadFault, WriteFault};
 use reg_tree_text::DumpFault;
-use std::alloc::{AllocError, Global};
+use std::alloc::AllocError;
 use std::fmt::Display;
 use std::test::Fail;
 
@@ -99,13 +99,6 @@ fn tell_keys(text: &mut String) -> Result<(), AllocError> {
     tell(text, &[RunFault::Session, RunFault::Memory])
 }
 
-fn told(alloc: Global) -> Result<String, Fail> {
-    let mut text = String::new(alloc);
-    tell_devices(&mut text)?;
-    tell_keys(&mut text)?;
-    Ok(text)
-}
-
 #[test]
 fn each_fault_has_its_words(rt: HostRuntime) -> Result<(), Fail> {
     let wanted = "\
@@ -155,5 +148,8 @@ no memory
 a session of the steps has no share in its place, or one that isn't current
 no memory for the outcomes
 ";
-    assert_report(told(rt.alloc()), wanted)
+    let mut text = String::new(rt.alloc());
+    tell_devices(&mut text)?;
+    tell_keys(&mut text)?;
+    assert_report(Ok(text), wanted)
 }

@@ -7,16 +7,64 @@ use reg_tree_image::load_tree;
 use std::alloc::{AllocError, Global};
 use std::test::Fail;
 
-/// An image: so many keys below the root, of so many values each, of so many bytes each (a multiple of 16), and another key.
+/// An image: so many keys below the root, of so many values each, of so many bytes each (a multiple of 16), and another key. Its rows are
+/// changes that are made one after another, each with what the image loads to then.
 #[derive(Drop)]
 struct Image {
     keys: u32,
     values: u32,
     size: u32,
+    rows: &'static [(&'static str, &'static str)],
 }
 
-/// Changes of an image, and what it loads to then.
-type Row = (&'static str, &'static str);
+const IMAGES: [Image; 4] = [
+    // A record of 20 bytes and 6 of a name has a cell of 32 bytes, data of 1,104 bytes one of 1,112; a list of 16,384 values 65,544; each
+    // key node 88, their security 48, the list of two subkeys 24: 16,384 * 1,144 + 65,544 + 3 * 88 + 48 + 24. Values are put in carves of
+    // up to 16,777,216 bytes, side by side, so that the bins have little more.
+    Image {
+        keys: 1,
+        values: 16_384,
+        size: 1_104,
+        rows: &[("0 72656766", "18809176 close")],
+    },
+    // Data of 4,080 bytes has a cell of 4,088, a list of 13,256 values 53,032, the list of four subkeys 40:
+    // 3 * (13,256 * 4,120 + 53,032) + 5 * 88 + 48 + 40.
+    Image {
+        keys: 3,
+        values: 13_256,
+        size: 4_080,
+        rows: &[("0 72656766", "164003784 close")],
+    },
+    // A key's list of 11 values has a cell of 48 bytes, each value's record one of 32 and its data one of 4,056, its key node one of 88.
+    // With a bin's header of 32 bytes these 45,136 are more than eleven pages, so that bins for each such key have 49,152 bytes, and those
+    // of 5,462 more than bins may have. Without room made ahead there is a bin for the values alone, of eleven pages. Of the 5,463 subkeys
+    // of the root 5,000 have lists of 250, 2,008 bytes each, and 463 one of 3,712; the index root has 96: 5,462 * 45,104 + 2 * 88 + 48 + 20
+    // * 2,008 + 3,712 + 96.
+    Image {
+        keys: 5_462,
+        values: 11,
+        size: 4_048,
+        rows: &[("0 72656766", "246402240 close")],
+    },
+    // A key's list of 10 values has a cell of 48 bytes, each value's record one of 32 and its data one of 4,072. With a bin's header of 32
+    // bytes these 41,120 are more than ten pages, so that new bins have 45,056 bytes for the values of each such key, and what is left has
+    // no room for those of another. 5,958 such bins have 268,443,648 bytes, more than bins may have. The record of `k99999` begins at
+    // 4,180. Its changes: none, so that the bins alone want room; another signature; its own list of subkeys, which names it; the name of
+    // `k04999`; a predefined handle; 16,385 values.
+    Image {
+        keys: 5_958,
+        values: 10,
+        size: 4_064,
+        rows: &[
+            ("4180 6e6b", "13"),
+            ("4180 6e6c", "9"),
+            ("4180 6e6b, 4200 01000000, 4208 a8000000", "10"),
+            ("4200 00000000, 4208 ffffffff, 4257 3034", "11"),
+            ("4257 3939, 4182 6000", "12"),
+            ("4182 2000, 4216 01400000", "13"),
+        ],
+    },
+];
 
 /// The first lines of a table: a security; the key that the walk meets last; and behind that a list of keys that names this key itself.
 const FIRST_LINES: &str = "\
@@ -94,69 +142,21 @@ fn loaded(alloc: Global, image: &[u8]) -> Result<String, Fail> {
     }
 }
 
-/// Makes the changes of each row, one after another, and fails where the image doesn't load to what is wanted.
-fn check(alloc: Global, image: &Image, rows: &[Row]) -> Result<(), Fail> {
+/// Makes the changes of each row, and fails where the image doesn't load to what is wanted.
+fn check(alloc: Global, image: &Image) -> Result<(), Fail> {
     let table = table_of(alloc, image)?;
     let mut bytes = drafted(alloc, 5, table.as_str())?;
-    for (changes, wanted) in rows {
+    for (changes, wanted) in image.rows {
         put_changes(alloc, &mut bytes, changes)?;
         assert_report(loaded(alloc, &bytes), wanted)?;
     }
     Ok(())
 }
 
-// A record of 20 bytes and 6 of a name has a cell of 32 bytes, data of 1,104 bytes one of 1,112, of 4,080 bytes one of 4,088; a list of
-// 16,384 values 65,544, of 13,256 values 53,032; each key node 88, their security 48, the list of two subkeys 24, of four 40:
-// 16,384 * 1,144 + 65,544 + 3 * 88 + 48 + 24, and 3 * (13,256 * 4,120 + 53,032) + 5 * 88 + 48 + 40. Values are put in carves of up to
-// 16,777,216 bytes, side by side, so that the bins have little more.
 #[test]
-fn values_of_several_carves_fit(rt: HostRuntime) -> Result<(), Fail> {
-    for (keys, values, size, wanted) in [
-        (1, 16_384, 1_104, "18809176 close"),
-        (3, 13_256, 4_080, "164003784 close"),
-    ] {
-        let image = Image { keys, values, size };
-        check(rt.alloc(), &image, &[("0 72656766", wanted)])?;
+fn images_load_or_tell_what_is_wrong_with_the_last_key(rt: HostRuntime) -> Result<(), Fail> {
+    for image in &IMAGES {
+        check(rt.alloc(), image)?;
     }
     Ok(())
-}
-
-// A key's list of 11 values has a cell of 48 bytes, each value's record one of 32 and its data one of 4,056, its key node one of 88. With a
-// bin's header of 32 bytes these 45,136 are more than eleven pages, so that bins for each such key have 49,152 bytes, and those of 5,462 more
-// than bins may have. Without room made ahead there is a bin for the values alone, of eleven pages. Of the 5,463 subkeys of the root 5,000
-// have lists of 250, 2,008 bytes each, and 463 one of 3,712; the index root has 96: 5,462 * 45,104 + 2 * 88 + 48 + 20 * 2,008 + 3,712 + 96.
-#[test]
-fn keys_that_fit_without_room_ahead(rt: HostRuntime) -> Result<(), Fail> {
-    let image = Image {
-        keys: 5_462,
-        values: 11,
-        size: 4_048,
-    };
-    check(rt.alloc(), &image, &[("0 72656766", "246402240 close")])
-}
-
-// A key's list of 10 values has a cell of 48 bytes, each value's record one of 32 and its data one of 4,072. With a bin's header of 32 bytes
-// these 41,120 are more than ten pages, so that new bins have 45,056 bytes for the values of each such key, and what is left has no room
-// for those of another. 5,958 such bins have 268,443,648 bytes, more than bins may have.
-// The record of `k99999` begins at 4,180. Its changes: none, so that the bins alone want room; another signature; its own list of subkeys,
-// which names it; the name of `k04999`; a predefined handle; 16,385 values.
-#[test]
-fn faults_behind_the_place_without_room(rt: HostRuntime) -> Result<(), Fail> {
-    let image = Image {
-        keys: 5_958,
-        values: 10,
-        size: 4_064,
-    };
-    check(
-        rt.alloc(),
-        &image,
-        &[
-            ("4180 6e6b", "13"),
-            ("4180 6e6c", "9"),
-            ("4180 6e6b, 4200 01000000, 4208 a8000000", "10"),
-            ("4200 00000000, 4208 ffffffff, 4257 3034", "11"),
-            ("4257 3939, 4182 6000", "12"),
-            ("4182 2000, 4216 01400000", "13"),
-        ],
-    )
 }

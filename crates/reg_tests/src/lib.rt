@@ -2,8 +2,8 @@
 //! nothing here but tests, and so no contract. Tests that are texts are cases of reg_cases.
 //!
 //! The wanted replies come from the rules of the calls, the wanted bytes and faults from the format's tables. What a clause says of a
-//! function isn't tested again. A test and each of its helpers are proved, too: so there are few, and they go over tables of rows. Calls are
-//! lines of a script, which reg_script reads.
+//! function isn't tested again. A test and each of its helpers are proved, too: so there are few, and they go over tables of rows. Calls
+//! are lines of a script, which reg_script reads.
 #![tactic(auto)]
 
 #[cfg(test)]

@@ -89,7 +89,8 @@ fn told_by_hive(alloc: Global, kind: u32) -> Result<String, Fail> {
     Ok(text)
 }
 
-/// What is told where one kind is refused, behind the five calls before and the registration: questions come first, and a Close isn't asked.
+/// What is told where one kind is refused, behind the five calls before and the registration: questions come first, and a Close isn't
+/// asked.
 fn wanted(alloc: Global, kind: u32) -> Result<String, AllocError> {
     let mut text = "0 0 0 0 0 0 ".to_string(alloc)?;
     for place in (10..KINDS).chain(0..10) {

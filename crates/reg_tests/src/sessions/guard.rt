@@ -47,7 +47,8 @@ struct Guard {
 impl Guard {
     /// What it answers to a call of a kind, where the path of the handle's key has so many bytes.
     fn answer(&self, len: usize, kind: u32) -> u32
-        ensures { result ≡ (if self.now.kind == 15 then (if len == 0 then 0 else self.now.status) else (if kind == self.now.kind then self.now.status else 0)) }
+        ensures { result ≡ (if self.now.kind == 15 then (if len == 0 then 0 else self.now.status)
+            else (if kind == self.now.kind then self.now.status else 0)) }
     {
         if self.kind == 15 {
             if len == 0 { 0 } else { self.status }
@@ -72,8 +73,8 @@ impl Callback for Guard {
     }
 }
 
-/// A callback that answers a status to the calls of one kind, by its place in the rules' tables: changes from 0 on, questions from 10 on; or,
-/// of the kind 15, to all by a handle of a key below the root.
+/// A callback that answers a status to the calls of one kind, by its place in the rules' tables: changes from 0 on, questions from 10 on;
+/// or, of the kind 15, to all by a handle of a key below the root.
 pub fn boxed(
     alloc: Global,
     status: u32,

@@ -1,7 +1,7 @@
-//! Steps of sessions where memory is refused: a step that is refused it is answered 8, or that there is none, and changes nothing. It is answered
-//! when it is taken again, and all others are answered as they are else; what notices were kept back for its session it moves on all the
-//! same. In the gate nothing is refused: `tools/refuse-memory` runs these tests once for each request for memory, and reads in what they
-//! print at which step it was refused, and what came of that step.
+//! Steps of sessions where memory is refused: a step that is refused it is answered 8, or that there is none, and changes nothing. It is
+//! answered when it is taken again, and all others are answered as they are else; what notices were kept back for its session it moves on
+//! all the same. In the gate nothing is refused: `tools/refuse-memory` runs these tests once for each request for memory, and reads in what
+//! they print at which step it was refused, and what came of that step.
 use crate::sessions::stage::{Cast, Stage, started};
 use std::alloc::Global;
 use std::sync::Wait;
@@ -11,8 +11,9 @@ use std::thread::Threads;
 /// Two sessions at two fresh hives.
 const CAST: Cast = Cast("", 2, 2, &[]);
 
-/// Two sessions at hive 0, of which one is told of what the other one does, and changes of other kinds; threads at hive 1, and its checkpoint;
-/// what ends at hive 0, its checkpoint, and behind that its callback and a call. The value of 17,000 bytes takes a bin of 16,384.
+/// Two sessions at hive 0, of which one is told of what the other one does, and changes of other kinds; threads at hive 1, and its
+/// checkpoint; what ends at hive 0, its checkpoint, and behind that its callback and a call. The value of 17,000 bytes takes a bin of
+/// 16,384.
 const STEPS: &str = "\
 root 983103 -> #0 0 handle 0
 register 7 0 0 -> cookie 0

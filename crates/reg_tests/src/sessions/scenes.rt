@@ -47,8 +47,9 @@ as 1
 hive 1
 root 983103 -> #1 0 handle 1";
 
-/// Callbacks come to two hives and go, the second first. Both have the first cookie of their hive. One that comes to an altitude that is taken
-/// comes back. One at a higher altitude is asked first; and one is shown the handle's key, and so refuses calls by `A`'s handle alone.
+/// Callbacks come to two hives and go, the second first. Both have the first cookie of their hive. One that comes to an altitude that is
+/// taken comes back. One at a higher altitude is asked first; and one is shown the handle's key, and so refuses calls by `A`'s handle
+/// alone.
 const TWO_GUARDS: &str = "\
 register 7 5 0 -> cookie 0
 root 983103 -> 5
@@ -96,10 +97,11 @@ as 0
 notice -> notice 1 2 matched
 notice -> notice none";
 
-/// What becomes of a ring. At each of four hives a session watches the root's values 70 times; a change of session 0 tells it all, of which the
-/// ring has room for 64. At the first hive the session makes the changes itself, and its next one moves what was kept back. At the second
-/// another session's change moves nothing, and a question does. At the third the session also watches keys, so that the next change tells it
-/// something while something is kept back: that stays behind it. At the fourth a change of the session's moves it, though it is refused.
+/// What becomes of a ring. At each of four hives a session watches the root's values 70 times; a change of session 0 tells it all, of which
+/// the ring has room for 64. At the first hive the session makes the changes itself, and its next one moves what was kept back. At the
+/// second another session's change moves nothing, and a question does. At the third the session also watches keys, so that the next change
+/// tells it something while something is kept back: that stays behind it. At the fourth a change of the session's moves it, though it is
+/// refused.
 const RINGS: &str = "\
 hive 0
 as 0
@@ -233,8 +235,8 @@ const HANDED_OVER: &str = "\
 drive root 983103, as 1, hive 1, root 983103, hive 0, root 983103 -> 0: 0 / 1: 0 0
 gate -> crowded false, 2 inside, 2 answered, flags true true, failed false";
 
-/// Two sessions change two hives, and each waits inside its hive's lock until the other is inside its own. That ends well only where the jobs
-/// run side by side, and each hive has a lock of its own.
+/// Two sessions change two hives, and each waits inside its hive's lock until the other is inside its own. That ends well only where the
+/// jobs run side by side, and each hive has a lock of its own.
 const MEETING: [Rule; 4] = [
     (INSIDE, 0, 0, RAISES, 0),
     (INSIDE, 0, 0, AWAITS, 1),
@@ -250,8 +252,8 @@ root 983103 -> #0 0 handle 0
 drive create 0 =K 983103, as 1, hive 1, create 0 =K 983103 -> 0: 0 / 1: 0
 gate -> crowded false, 1 inside, 1 answered, flags true true, failed false";
 
-/// Session 1 is inside hive 0 from before session 0's first question, at hive 1, until its second one, at hive 2, was answered. Between these
-/// session 0 takes a notice of hive 0.
+/// Session 1 is inside hive 0 from before session 0's first question, at hive 1, until its second one, at hive 2, was answered. Between
+/// these session 0 takes a notice of hive 0.
 const STAY: [Rule; 4] = [
     (INSIDE, 0, 1, AWAITS, 0),
     (INSIDE, 1, 0, RAISES, 0),

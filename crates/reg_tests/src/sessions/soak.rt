@@ -1,5 +1,5 @@
-//! Sixty-four sessions on threads of their own at sixteen hives, with calls taken at random. When all are gathered, each hive's journal, run
-//! again on one thread, is answered as it was, and leaves the same tree.
+//! Sixty-four sessions on threads of their own at sixteen hives, with calls taken at random. When all are gathered, each hive's journal,
+//! run again on one thread, is answered as it was, and leaves the same tree.
 use crate::sessions::stage::{Cast, started};
 use crate::support::{assert_report, seated};
 use reg_callbacks::NoCallback;

@@ -3,7 +3,7 @@
 //!
 //! | Line | What it does, and what is replied |
 //! |---|---|
-//! | a line of a script | as the rules say; before the reply stands `#` and the number of an accepted change, or `@` and how many entries an answer has |
+//! | one of a script | as the rules say; first `#` and the number of an accepted change, or `@` and how many entries an answer tells |
 //! | `register ALTITUDE STATUS KIND` | a callback of `guard` comes to the hive: its cookie, or that the altitude is taken |
 //! | `unregister COOKIE` | it goes: what it answers to an OpenRoot |
 //! | `checkpoint` | a checkpoint of the hive: how many bytes its image has, or the fault |
@@ -33,8 +33,8 @@ use std::sync::Wait;
 use std::test::Fail;
 use std::thread::Threads;
 
-/// Who is on a stage: the draft of the first hive, or nothing, where that is a fresh one as all others are; how many hives and sessions there
-/// are; and what the gate does.
+/// Who is on a stage: the draft of the first hive, or nothing, where that is a fresh one as all others are; how many hives and sessions
+/// there are; and what the gate does.
 #[derive(Drop)]
 pub struct Cast(pub &'static str, pub usize, pub u8, pub &'static [Rule]);
 
@@ -300,9 +300,9 @@ impl Stage {
         Ok(statuses)
     }
 
-    /// Carries out a step, a line and ` -> ` and what is replied, with ` / ` between lines, or `..` where that may be anything; a line without
-    /// has no reply. Fails where something else is replied. Says of a step that it was refused its memory; then it answers false. Of a
-    /// `drive`, which may be answered all the same, it says where it begins, and that it was answered.
+    /// Carries out a step, a line and ` -> ` and what is replied, with ` / ` between lines, or `..` where that may be anything; a line
+    /// without has no reply. Fails where something else is replied. Says of a step that it was refused its memory; then it answers false.
+    /// Of a `drive`, which may be answered all the same, it says where it begins, and that it was answered.
     pub fn step<Rt: Print + Threads + Wait + Sync>(
         &mut self,
         rt: &Rt,
@@ -396,8 +396,8 @@ impl Stage {
         }
     }
 
-    /// What the steps left: each session's receipts and notices, and of each hive its image, and how many entries it had and how many handles
-    /// and watches it has.
+    /// What the steps left: each session's receipts and notices, and of each hive its image, and how many entries it had and how many
+    /// handles and watches it has.
     pub fn left(self) -> Result<String, Fail> {
         let alloc = self.alloc;
         let mut text = String::with_capacity(alloc, 262_144)?;
