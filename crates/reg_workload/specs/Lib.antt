@@ -1,2 +1,1 @@
 pub mod LiveCells
-pub mod PlainJournals
