@@ -1,76 +1,96 @@
-//! The calls that rows are made of.
+//! What is measured: calls that are made over and over on one value of a key, and how long they take.
 
 use anyhow::Result;
-use reg_model::{Bytes, Change, Query};
+use reg_model::{AnswerBody, Bytes, Call, Change, Query};
 use std::alloc::Global;
+use std::fmt;
+use std::time::Duration;
 
 /// Every right.
-const ALL_RIGHTS: u32 = 0xF_003F;
+pub const ALL_RIGHTS: u32 = 0xF_003F;
 
-/// How many bytes a value has where nothing else is said.
-pub const SIZE: usize = 24;
+/// How many calls are made on one side before the other side's turn.
+pub const BATCH: u32 = 100;
 
-/// Opens the root.
-pub fn open_root() -> Change {
-    Change::OpenRoot { mask: ALL_RIGHTS }
+/// By what is measured, and whether there are to be few keys and calls.
+#[derive_where(Clone, Copy)]
+pub struct Bench<'a, Rt> {
+    pub rt: &'a Rt,
+    pub alloc: Global,
+    pub is_small: bool,
 }
 
-/// Makes a key and opens it.
-pub fn create(alloc: Global, handle: u64, path: &str, descriptor: Option<Bytes>) -> Result<Change> {
-    Ok(Change::CreateKey {
-        handle,
-        path: Bytes::from_slice(alloc, path.as_bytes())?,
-        mask: ALL_RIGHTS,
-        descriptor,
-    })
+/// What is done to the value, which is there: it is asked for, or set to as many bytes as it has.
+#[derive(Clone, Copy)]
+pub enum Act {
+    Ask,
+    Set,
 }
 
-/// Opens a key.
-pub fn open(alloc: Global, handle: u64, path: &str) -> Result<Change> {
-    Ok(Change::OpenKey {
-        handle,
-        path: Bytes::from_slice(alloc, path.as_bytes())?,
-        mask: ALL_RIGHTS,
-    })
+/// How many calls were accepted, and how long all took, which is told where there are many.
+#[derive(Clone, Copy)]
+pub struct Took {
+    pub calls: u64,
+    time: Duration,
+    is_small: bool,
 }
 
-/// Sets the value of a number to so many bytes.
-pub fn set(alloc: Global, handle: u64, value: u32, size: usize) -> Result<Change> {
+impl<Rt> Bench<'_, Rt> {
+    /// No call yet.
+    pub fn took(self) -> Took {
+        Took {
+            calls: 0,
+            time: Duration::ZERO,
+            is_small: self.is_small,
+        }
+    }
+
+    /// So many calls, by a handle of the key.
+    pub fn calls(self, act: Act, handle: u64, count: u32) -> Result<Vec<Call>> {
+        let mut calls = Vec::new(self.alloc);
+        for _call in 0..count {
+            calls.push(match act {
+                Act::Ask => Call::Query(Query::QueryValue {
+                    handle,
+                    name: Bytes::from_slice(self.alloc, b"Value0")?,
+                    room: Some(u32::MAX),
+                }),
+                Act::Set => Call::Change(set_value(self.alloc, handle)?),
+            })?;
+        }
+        Ok(calls)
+    }
+}
+
+impl Took {
+    /// Adds more calls.
+    pub fn add(&mut self, calls: u64, time: Duration) {
+        self.calls = self.calls.saturating_add(calls);
+        self.time = self.time.saturating_add(time);
+    }
+}
+
+impl fmt::Display for Took {
+    fn fmt<W: fmt::Write>(&self, f: &mut fmt::Formatter<W>) -> fmt::Result {
+        write!(f, "{} calls", self.calls)?;
+        if self.is_small {
+            return Ok(());
+        }
+        write!(f, " in {} ns", self.time.as_nanos())
+    }
+}
+
+/// Sets the value to four bytes.
+pub fn set_value(alloc: Global, handle: u64) -> Result<Change> {
     Ok(Change::SetValue {
         handle,
-        name: value_name(alloc, value)?,
+        name: Bytes::from_slice(alloc, b"Value0")?,
         kind: 3,
-        bytes: Bytes::from_vec(vec![in alloc; 7; size]?),
+        bytes: Bytes::from_slice(alloc, &[7; 4])?,
     })
 }
 
-/// Asks for the value of a number.
-pub fn query(alloc: Global, handle: u64, value: u32) -> Result<Query> {
-    Ok(Query::QueryValue {
-        handle,
-        name: value_name(alloc, value)?,
-        room: Some(u32::MAX),
-    })
-}
-
-fn value_name(alloc: Global, value: u32) -> Result<Bytes> {
-    let name = format!(in alloc; "Value{value}")?;
-    Ok(Bytes::from_slice(alloc, name.as_bytes())?)
-}
-
-/// The descriptor of a number. Those of two numbers differ only at their ends.
-pub fn descriptor(alloc: Global, number: u32) -> Result<Bytes> {
-    let text = format!(in alloc; "Descriptor of each key {number}")?;
-    Ok(Bytes::from_slice(alloc, text.as_bytes())?)
-}
-
-/// The name of a key that is there before calls are timed. The order of these names is that of the numbers.
-pub fn key_name(alloc: Global, key: u32) -> Result<String> {
-    Ok(format!(in alloc; "Key{key:08}")?)
-}
-
-/// The name of a parent, or of a key that a timed call makes or deletes. The order of these names isn't that of the numbers.
-pub fn mixed_name(alloc: Global, key: u32) -> Result<String> {
-    let mixed = key.wrapping_mul(2_654_435_769);
-    Ok(format!(in alloc; "{mixed:08X}")?)
+/// Whether a question was answered.
+pub fn is_answered(body: &AnswerBody) -> bool {
+    !matches!(body, AnswerBody::Refused { .. } | AnswerBody::Short { .. })
 }

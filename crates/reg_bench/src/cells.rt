@@ -1,109 +1,82 @@
 //! Carves and frees of an arena, and the memory of a tree.
 
+use crate::calls::Bench;
 use anyhow::{Result, bail};
+use reg_fixtures::LiveCells;
 use reg_names::{check_path, check_value_name};
 use reg_tree::Tree;
-use reg_workload::{LiveCells, PerCall};
 use std::alloc::Global;
 use std::rt::Clock;
 use std::time::{Duration, Instant};
 
-/// How many bytes the value of a key has: less than a page.
-const SIZE: usize = 1_000;
-
-/// Carves so many cells of 16 to 256 bytes and frees a sixth of them. Prints how long a call takes, and how many carves took above a
-/// millisecond; while no time is taken, how many cells stay in how many bytes.
-pub fn run(rt: &(impl Print + Clock), alloc: Global, count: u32, takes_time: bool) -> Result<()> {
-    let mut cells = LiveCells::new(alloc);
-    run_on(rt, &mut cells, count, takes_time)
+/// Carves cells of 16 to 256 bytes and frees a sixth of them.
+pub fn run<Rt: Print + Clock>(bench: Bench<'_, Rt>) -> Result<()> {
+    let mut cells = LiveCells::new(bench.alloc);
+    let count = if bench.is_small { 240 } else { 1_000_000 };
+    come_and_go(bench, &mut cells, count)
 }
 
-fn run_on(
-    rt: &(impl Print + Clock),
+/// Prints how long that takes, and how many carves took above a millisecond; of few cells how many stay in how many bytes.
+fn come_and_go<Rt: Print + Clock>(
+    bench: Bench<'_, Rt>,
     cells: &mut LiveCells,
     count: u32,
-    takes_time: bool,
 ) -> Result<()> {
-    let mut carving = Duration::ZERO;
+    let (mut carved, mut freed) = (bench.took(), bench.took());
     let mut long: u32 = 0;
     for _cell in 0..count {
-        let time = time_carve(rt, cells)?;
-        carving = carving.saturating_add(time);
-        if time > Duration::from_millis(1) {
-            long = long.saturating_add(1);
-        }
+        let start = Instant::now(bench.rt)?;
+        cells.carve_some(1)?;
+        let time = start.elapsed(bench.rt)?;
+        carved.add(1, time);
+        long = long.saturating_add(u32::from(time > Duration::from_millis(1)));
     }
     cells.choose_some((count / 6) as usize)?;
-    let start = Instant::now(rt)?;
-    let calls = cells.free_chosen();
-    let freed = PerCall::new(start.elapsed(rt)?, calls).nanos();
-    if takes_time {
-        let carved = PerCall::new(carving, count as usize).nanos();
-        println!(rt; "carve, {count}: {carved} ns, {long} of them above a millisecond")?;
-        println!(rt; "free, {count}: {freed} ns")?;
+    let start = Instant::now(bench.rt)?;
+    let calls = cells.free_chosen() as u64;
+    freed.add(calls, start.elapsed(bench.rt)?);
+    if bench.is_small {
+        let (stay, bytes) = (cells.len(), cells.bins_size());
+        println!(bench.rt; "arena: {stay} cells stay in {bytes} bytes")?;
         return Ok(());
     }
-    println!(rt;
-        "arena: {} cells stay in {} bytes",
-        cells.len(),
-        cells.bins_size()
-    )?;
+    println!(bench.rt; "carve, {count}: {carved}, {long} above a millisecond")?;
+    println!(bench.rt; "free, {count}: {freed}")?;
     Ok(())
 }
 
-fn time_carve(rt: &impl Clock, cells: &mut LiveCells) -> Result<Duration> {
-    let start = Instant::now(rt)?;
-    cells.carve_some(1)?;
-    Ok(start.elapsed(rt)?)
-}
-
-/// Makes a tree of so many keys with a value each, and prints how many bytes its bins have. What memory the process then has is read
-/// off the system.
-pub fn fill_tree(rt: &impl Print, alloc: Global, keys: u32) -> Result<()> {
-    let Ok(mut tree) = Tree::new(alloc, b"ROOT", &[1], 0) else {
+/// Makes a tree of keys with a value each, and prints how many bytes its bins have. The system tells what memory the process then has.
+pub fn fill_tree<Rt: Print>(bench: Bench<'_, Rt>) -> Result<()> {
+    let Ok(mut tree) = Tree::new(bench.alloc, b"ROOT", &[1], 0) else {
         bail!("there is no memory for a tree");
     };
-    fill(rt, alloc, &mut tree, keys)
+    fill(bench, &mut tree, if bench.is_small { 12 } else { 180_000 })
 }
 
-fn fill(rt: &impl Print, alloc: Global, tree: &mut Tree, keys: u32) -> Result<()> {
-    let bytes = vec![in alloc; 7; SIZE]?;
+fn fill<Rt: Print>(bench: Bench<'_, Rt>, tree: &mut Tree, keys: u32) -> Result<()> {
     for key in 0..keys {
-        let path = format!(in alloc; "Key{}\\Key{}", key / 200, key % 200)?;
-        make(alloc, tree, path.as_bytes())?;
-        set(alloc, tree, path.as_bytes(), bytes.as_slice())?;
+        let path = format!(in bench.alloc; "Key{}\\Key{}", key / 200, key % 200)?;
+        make(bench.alloc, tree, path.as_bytes())?;
     }
     let bins = tree.arena().bins_size();
-    println!(rt; "tree of {keys} keys: {bins} bytes of bins")?;
+    println!(bench.rt; "tree of {keys} keys: {bins} bytes of bins")?;
     Ok(())
 }
 
+/// Makes a key, and its value with less data than a page has.
 fn make(alloc: Global, tree: &mut Tree, path: &[u8]) -> Result<()> {
-    let Ok(()) = check_path(path) else {
-        bail!("that is no path");
+    let name = b"Value".as_slice();
+    let (Ok(()), Ok(())) = (check_path(path), check_value_name(name)) else {
+        bail!("that is no path, or no name");
     };
     let root = tree.root();
     let Ok(_) = tree.create(alloc, root, path, None, 1) else {
         bail!("a key was not made");
     };
-    Ok(())
-}
-
-fn set(alloc: Global, tree: &mut Tree, path: &[u8], bytes: &[u8]) -> Result<()> {
-    let name = b"Value".as_slice();
-    let Ok(()) = check_path(path) else {
-        bail!("that is no path");
-    };
-    let Ok(()) = check_value_name(name) else {
-        bail!("that is no name");
-    };
     let Some(node) = tree.resolve(tree.root(), path) else {
         bail!("a key is missing");
     };
-    if bytes.len() > SIZE {
-        bail!("that is too long");
-    }
-    let Ok(()) = tree.set_value(alloc, node, name, 3, bytes, 2) else {
+    let Ok(()) = tree.set_value(alloc, node, name, 3, &[7; 1_000], 2) else {
         bail!("a value was not set");
     };
     Ok(())
