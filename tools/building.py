@@ -1,9 +1,10 @@
 """Proves and builds a program, or libraries, with all below: by `rt ci` in a room, which is a copy of their sources.
 
-`rt ci` proves crates side by side, as processors and memory allow, and keeps what is done for its next run and for the gate's. So a
-build that is stopped goes on from there. Its libraries have statements in the place of proofs, which a check above reads sooner. The room
-has no wrong bodies, which the gate tries. What was built goes from there to out/ of its crate. `rt ci` leaves libraries without the stamp
-by which the kit's other commands know what they were built of; they get it here, so that `rt check` begins at once.
+`rt ci` proves crates side by side, as processors and memory allow, and keeps what is done for its next run and for the gate's, where the
+kit has a place for that. So a build that is stopped goes on from there. Its libraries have statements in the place of proofs, which a check
+above reads sooner. The room has no wrong bodies, which the gate tries. What was built goes from there to out/ of its crate. `rt ci` leaves
+libraries without the stamp by which the kit's other commands know what they were built of; they get it here, so that `rt check` begins at
+once.
 """
 import fcntl
 import importlib.util
@@ -91,9 +92,9 @@ def fill(room, names):
     shutil.copy2(f"{TOP}/HANDLES", room)
 
 
-def prove(room, names, log, at_once, out):
-    """Proves and builds the crates of a room, and prints a line for each as it is done. Raises `Failed` where one isn't."""
-    begun, done = time.monotonic(), 0
+def prove(room, names, log, at_once, out, done):
+    """Proves and builds the crates of a room, notes each that is done, and prints a line for it. Raises `Failed` where one isn't."""
+    begun = time.monotonic()
     given = {**os.environ, "RT_JOBS": str(at_once or checks_at_once())}
     how = {"cwd": room, "stdin": subprocess.DEVNULL, "stdout": subprocess.PIPE, "stderr": subprocess.STDOUT, "text": True, "errors": "replace"}
     # In a session of its own, so that Ctrl-C reaches this program alone.
@@ -104,9 +105,9 @@ def prove(room, names, log, at_once, out):
                 print(line, end="", file=kept, flush=True)
                 found = DONE.match(line)
                 if found:
-                    done += 1
+                    done.append(found[1])
                     minutes = (time.monotonic() - begun) / 60
-                    print(f"{found[1]}: {done} of {len(names)}, {minutes:.1f} minutes", file=out, flush=True)
+                    print(f"{found[1]}: {len(done)} of {len(names)}, {minutes:.1f} minutes", file=out, flush=True)
         status = command.wait()
     finally:
         command.terminate()
@@ -153,21 +154,32 @@ def build(*crates, at_once=None, out=sys.stdout):
     """Builds crates and all below them, and prints a line for each as it is done. Raises `Failed` where one isn't built."""
     if not shutil.which("rt"):
         raise Untried("rt isn't on the path")
-    names = [*repository.below(crates), *crates]
-    log = f"{folder_of(crates[-1])}/out/build.log"
+    below = repository.below(crates)
+    names, done = [it for it in repository.crates() if it in below or it in crates], []
+    log = f"{folder_of(names[-1])}/out/build.log"
     for it in names:
         os.makedirs(f"{folder_of(it)}/out", exist_ok=True)
     with room_for(names) as room:
-        prove(room, names, log, at_once, out)
-        for it in names:
-            put(room, it)
-    stamp(names)
+        try:
+            prove(room, names, log, at_once, out, done)
+        finally:
+            for it in done:
+                put(room, it)
+            stamp(done)
+
+
+def is_older(path, crate):
+    """Whether a built file is older than a source of its crate or of one below."""
+    made = os.path.getmtime(path)
+    folders = [f"{folder_of(it)}/{part}" for it in [*repository.below([crate]), crate] for part in ("src", "specs", "proofs")]
+    return any(os.path.getmtime(f"{at}/{name}") > made for folder in folders for at, _, names in os.walk(folder) for name in names)
 
 
 def built(crate, tests=False):
-    """The path of a program as LLVM builds it, or of that of a crate's tests. It is proved and built first where it isn't there."""
+    """The path of a program as LLVM builds it, or of that of a crate's tests. It is proved and built first where it isn't there, or older than
+    its sources."""
     path = f"{folder_of(crate)}/out/{crate}{'_tests' if tests else ''}"
-    if not os.path.exists(path):
+    if not os.path.exists(path) or is_older(path, crate):
         tell(f"proving and building {crate} takes up to an hour")
         try:
             build(crate, out=sys.stderr)

@@ -84,10 +84,11 @@ def run_callbacks():
 def soak(library, rounds, sessions, calls=None, program=None):
     """Has sessions on threads call at random for so many rounds, while their memory is refused by chance. Answers whether all went well."""
     seed, calls = random.SystemRandom().randrange(1, 1 << 40), calls or max(FEWEST, CALLS // sessions)
-    here, words = numbered(seed, rounds, sessions, calls, 100), [program or tests(), TEST]
-    status, output, errors = run_threads(library, words, seed, 60 + 2 * rounds, here)
+    # (of the entries 16 of each session open the roots, before there are threads)
+    asked = seed, rounds, sessions, calls, 17 * sessions
+    status, output, errors = run_threads(library, [program or tests(), TEST], seed, 60 + 2 * rounds, numbered(*asked))
     refusals = errors.count(b"R")
-    is_well = status == 0 and told(rounds, sessions, calls).encode() in output and refusals > 0
+    is_well = status == 0 and told(*asked).encode() in output and refusals > 0
     print(f"soak: {rounds} rounds of {sessions} sessions with {calls} calls, seed {seed}: {refusals} refusals")
     if not is_well:
         print(f"soak: status {status}, {output[-300:]!r}, {errors[-300:]!r}")

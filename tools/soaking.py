@@ -17,6 +17,6 @@ def numbered(seed, rounds, sessions, calls, many=1_500):
     return {f"SOAK_{name}": str(number) for name, number in numbers.items()}
 
 
-def told(rounds, sessions, calls):
-    """What the soak says of its numbers, once all went well."""
-    return f"{rounds} rounds of {sessions} sessions with {calls} calls\n"
+def told(seed, rounds, sessions, calls, many=1_500):
+    """What the soak says of its numbers, once all went well: so it took these."""
+    return f"{rounds} rounds of {sessions} sessions with {calls} calls, from seed {seed} on, each of more than {many} entries\n"

@@ -211,8 +211,17 @@ receipts -> 0
 as 0
 receipts -> 0
 root 983103 -> #10 0 handle 10
+as 1
+root 983103 -> #11 0 handle 11
+drive hive 1, notify 10 4 0, close 10, as 1, hive 1, notify 11 4 0, close 11 -> 0: 0 0 / 1: 0 0
+receipts -> 3
+checkpoint -> 8192 bytes
+receipts -> 0
+as 0
+receipts -> 0
+root 983103 -> #16 0 handle 16
 notice -> notice 8 9 closed
-notify 10 4 0 -> #11 0 watch 11
+notify 16 4 0 -> #17 0 watch 17
 receipts -> 2
 checkpoint -> 1 handles are open
 receipts -> 2";
@@ -312,7 +321,7 @@ fn sessions_in_turn_are_told_what_is_so(rt: HostRuntime) -> Result<(), Fail> {
 #[test]
 fn sessions_on_threads_are_told_what_is_so(rt: HostRuntime) -> Result<(), Fail> {
     let alloc = rt.alloc();
-    play(&rt, alloc, &Cast("", 2, 2, &[]), CHECKPOINTS, "4 12 ")?;
+    play(&rt, alloc, &Cast("", 2, 2, &[]), CHECKPOINTS, "4 18 ")?;
     play(&rt, alloc, &Cast("", 1, 4, &[]), CROWD, "800 ")?;
     play(&rt, alloc, &Cast("", 2, 2, &HANDOVER), HANDED_OVER, "2 1 ")?;
     play(&rt, alloc, &Cast("", 2, 2, &MEETING), MET, "2 2 ")?;

@@ -231,8 +231,8 @@ fn told_of_rounds<Rt: Print + Threads + Wait + Sync>(
         }
     }
     println!(rt;
-        "{} rounds of {} sessions with {} calls",
-        numbers.rounds, numbers.sessions, numbers.calls
+        "{} rounds of {} sessions with {} calls, from seed {} on, each of more than {} entries",
+        numbers.rounds, numbers.sessions, numbers.calls, numbers.seed, numbers.many
     )?;
     Ok(WELL.to_string(alloc)?)
 }
