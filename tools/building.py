@@ -20,16 +20,12 @@ from functools import cache
 from glob import glob
 
 import repository
-from repository import TOP, Untried, folder_of, kit, tell
+from repository import TOP, Failed, Untried, folder_of, kit, tell
 
 LEFT_OUT = ("out", "must-fail", "wrong-bodies", "tested-bodies")
 # What a check takes of memory, in bytes. `rt ci` by itself counts up to four times as much, and leaves processors idle.
 MEMORY = 3_000_000_000
 DONE = re.compile(r"rt: (\w+) (?:proved|is kept: .*)$")
-
-
-class Failed(Exception):
-    """A crate that isn't proved or built."""
 
 
 def free_memory():
@@ -121,33 +117,60 @@ def end_of(log):
         return "".join(lines.readlines()[-40:]).strip()
 
 
-def put(room, crate):
-    """Gives what was built of a crate to its out/: a library, a program, and that of its tests."""
+def put(room, crate, begun):
+    """Gives what was built of a crate to its out/: a library, a program, and that of its tests. It is as old as the copy that it was built of,
+    so that a source that was changed since is newer."""
     made = f"{room}/crates/{crate}/out"
     with locked(crate):
         for it in ("rlib", crate, f"{crate}_tests"):
             to = f"{folder_of(crate)}/out/{it}"
             if os.path.isdir(f"{made}/{it}"):
                 shutil.rmtree(to, ignore_errors=True)
+            if os.path.exists(f"{made}/{it}"):
                 shutil.move(f"{made}/{it}", to)
-            elif os.path.isfile(f"{made}/{it}"):
-                shutil.move(f"{made}/{it}", to)
+                os.utime(to, (begun, begun))
 
 
-def stamp(names):
-    """Stamps built libraries. Where the kit's stamps aren't as they are known here, its other commands build libraries anew."""
+def stamps(names):
+    """By which stamps the kit's other commands know libraries that are built of the sources as they stand now, by crates. There are none
+    where the kit's stamps aren't as they are known here."""
     try:
         spec = importlib.util.spec_from_file_location("rtlib", f"{kit()}/bin/rtlib.py")
         rtlib = importlib.util.module_from_spec(spec)
         spec.loader.exec_module(rtlib)
         # A stamp is made of those below, so each is made once alone.
         rtlib.Crate.stamp = cache(rtlib.Crate.stamp)
-        for it in rtlib.crates_below(TOP):
-            if it.name in names and os.path.isdir(it.rlib):
-                with open(f"{os.path.dirname(it.rlib)}/stamp", "w", encoding="utf-8") as out:
-                    out.write(it.stamp())
+        return {it.name: it.stamp() for it in rtlib.crates_below(TOP) if it.name in names}
     except (OSError, AttributeError, TypeError, SystemExit) as why:
         tell(f"the libraries get no stamps, so rt check builds them anew: {why}")
+        return {}
+
+
+def stamp_of(crate):
+    """Where the stamp of a crate's library stands."""
+    return f"{folder_of(crate)}/out/rlib/stamp"
+
+
+def stamp(names, before):
+    """Stamps built libraries, but for those of which a source was changed since these stamps were made."""
+    now = stamps(names)
+    for it in names:
+        if it in now and now[it] == before.get(it) and os.path.isdir(os.path.dirname(stamp_of(it))):
+            with open(stamp_of(it), "w", encoding="utf-8") as out:
+                out.write(now[it])
+
+
+def stale(names):
+    """Which libraries are of other sources than stand now: by their stamps, or where they have none by their age."""
+    found, now = [], stamps(names)
+    for it in names:
+        try:
+            with open(stamp_of(it), encoding="utf-8") as known:
+                is_stale = it in now and known.read() != now[it]
+        except FileNotFoundError:
+            is_stale = is_older(os.path.dirname(stamp_of(it)), it)
+        found += [it] * is_stale
+    return found
 
 
 def build(*crates, at_once=None, out=sys.stdout):
@@ -159,13 +182,14 @@ def build(*crates, at_once=None, out=sys.stdout):
     log = f"{folder_of(names[-1])}/out/build.log"
     for it in names:
         os.makedirs(f"{folder_of(it)}/out", exist_ok=True)
+    begun, before = time.time(), stamps(names)
     with room_for(names) as room:
         try:
             prove(room, names, log, at_once, out, done)
         finally:
             for it in done:
-                put(room, it)
-            stamp(done)
+                put(room, it, begun)
+            stamp(done, before)
 
 
 def is_older(path, crate):
@@ -173,6 +197,14 @@ def is_older(path, crate):
     made = os.path.getmtime(path)
     folders = [f"{folder_of(it)}/{part}" for it in [*repository.below([crate]), crate] for part in ("src", "specs", "proofs")]
     return any(os.path.getmtime(f"{at}/{name}") > made for folder in folders for at, _, names in os.walk(folder) for name in names)
+
+
+def current(crate):
+    """The path of a program that was built of the sources as they stand now."""
+    path = f"{folder_of(crate)}/out/{crate}"
+    if not os.path.exists(path) or is_older(path, crate):
+        raise Untried(f"{os.path.relpath(path)} isn't there, or is older than its sources: the gate builds it{', or ./build' * (crate == 'regtool')}")
+    return path
 
 
 def built(crate, tests=False):

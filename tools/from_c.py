@@ -1,5 +1,6 @@
 """What tries the library by programs in C: where it is, and how these are compiled with it."""
 import os
+import shutil
 import tempfile
 from contextlib import contextmanager
 from glob import glob
@@ -39,6 +40,8 @@ def refuse_stale():
 @contextmanager
 def put(behind_the_gate=False):
     """A folder with the library and its header, as they were built, or, behind the gate, as they are built now of what it left."""
+    if not shutil.which(COMPILER):
+        raise Untried(f"there is no C compiler: {COMPILER} isn't on the path")
     if behind_the_gate:
         library.build_archive()
     refuse_stale()

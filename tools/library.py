@@ -5,8 +5,8 @@ import shutil
 import subprocess
 import tempfile
 
-from building import build
-from repository import TOP, Untried, below, crates, folder_of, kit
+from building import build, stale
+from repository import TOP, Failed, Untried, below, crates, folder_of, kit
 
 NAME = "zugmeled"
 DIST = f"{TOP}/dist"
@@ -19,7 +19,7 @@ def run(*words, folder=None):
     except FileNotFoundError:
         raise Untried(f"{words[0]} isn't on the path") from None
     if done.returncode:
-        raise Untried(f"{' '.join(words)} ended with {done.returncode}:\n{done.stdout}")
+        raise Failed(f"{' '.join(words)} ended with {done.returncode}:\n{done.stdout}")
 
 
 def text_of(path):
@@ -49,6 +49,9 @@ def build_archive():
     missing = [it for it, at in libraries.items() if not os.path.isdir(f"{at}/{it}.rlib")]
     if missing:
         raise Untried(f"{', '.join(missing)} of those below {NAME} is not built")
+    others = stale(libraries)
+    if others:
+        raise Untried(f"{', '.join(others)} of those below {NAME} is of other sources than these: ./build --library")
     names = [f"--extern={it}={libraries[it]}/{it}.rlib" for it in crates()[NAME]]
     rest = [word for at in libraries.values() for word in ("-L", f"dependency={at}")]
     of_kit = [f"--extern=std={kit()}/rlibs/std.rlib", "-L", f"dependency={kit()}/rlibs", "--antt-project", f"{kit()}/rattle/logic/antt-project.json",

@@ -20,6 +20,7 @@ TEXT = b'Windows Registry Editor Version 5.00\r\n\r\n[ROOT\\New]\r\n"w"=dword:00
 COMMANDS = {
     "edit": (["edit", "a", "--at", "9"], SET),
     "import": (["import", "a", "--at", "9"], TEXT),
+    "copy": (["copy", "b", "Software", "a", "Software", "--at", "9"], b""),
     "export": (["export", "a", "--as", "reg"], b""),
     "export as JSON": (["export", "a", "--as", "json"], b""),
     "diff": (["diff", "a", "b"], b""),

@@ -1,5 +1,4 @@
 """Runs a program whose memory is refused: one allocation of it, or some of its threads' by chance."""
-import os
 import subprocess
 import sys
 

@@ -18,13 +18,17 @@ class Untried(Exception):
     """Nothing was tried, and why."""
 
 
+class Failed(Exception):
+    """What has to end well didn't, and how."""
+
+
 def parser(text):
     """A parser of words, whose help is a program's docstring."""
     return argparse.ArgumentParser(description=text, formatter_class=argparse.RawDescriptionHelpFormatter)
 
 
 def end(main, name=os.path.basename(sys.argv[0])):
-    """Runs a program's main, and ends with its status. `name` stands before what is told of why nothing was tried."""
+    """Runs a program's main, and ends with its status. `name` stands before what is told of why nothing was tried, or what failed."""
     for it in (signal.SIGTERM, signal.SIGHUP):
         signal.signal(it, lambda number, _: sys.exit(128 + number))
     try:
@@ -32,6 +36,9 @@ def end(main, name=os.path.basename(sys.argv[0])):
     except Untried as why:
         print(f"{name}: {why}", file=sys.stderr)
         status = UNTRIED
+    except Failed as why:
+        print(f"{name}: {why}", file=sys.stderr)
+        status = WRONG
     except KeyboardInterrupt:
         print(f"{name}: stopped", file=sys.stderr)
         status = 130

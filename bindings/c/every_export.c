@@ -568,7 +568,8 @@ static void loads(zug_hive *hive) {
 
 /* ---- Memory that is refused ---- */
 
-/* Each function that may answer 8, at one place where memory is refused after another; it answers 8 at least once, and then succeeds. */
+/* Each function that may answer 8, at one place where memory is refused after another; it answers 8 at least once, and then succeeds. Names
+ * and data have more than 16 bytes: fewer need no memory. */
 static void until_granted(uint32_t (*call)(zug_hive *, uint64_t), zug_hive *hive, uint64_t handle) {
     unsigned refused = 0;
     for (long grants = 0;; grants++) {
@@ -622,36 +623,36 @@ static uint32_t notify_call(zug_hive *hive, uint64_t handle) {
 
 static uint32_t open_key_call(zug_hive *hive, uint64_t handle) {
     uint64_t opened;
-    return zug_open_key(hive, 0, MOMENT, handle, TEXT("Soft"), 1, &opened);
+    return zug_open_key(hive, 0, MOMENT, handle, TEXT("Soft, of many letters"), 1, &opened);
 }
 
 static uint32_t create_call(zug_hive *hive, uint64_t handle) {
     uint64_t opened;
     uint32_t disposition;
-    return zug_create_key(hive, 0, MOMENT, handle, TEXT("made\\below"), 1, TEXT("own"), &opened, &disposition);
+    return zug_create_key(hive, 0, MOMENT, handle, TEXT("made of many letters\\below"), 1, TEXT("own, of many bytes"), &opened, &disposition);
 }
 
-static uint32_t set_call(zug_hive *hive, uint64_t handle) { return zug_set_value(hive, 0, MOMENT, handle, TEXT("v"), 3, TEXT("bytes")); }
+static uint32_t set_call(zug_hive *hive, uint64_t handle) { return zug_set_value(hive, 0, MOMENT, handle, TEXT("value of many letters"), 3, TEXT("more bytes than sixteen")); }
 
-static uint32_t security_call(zug_hive *hive, uint64_t handle) { return zug_set_security(hive, 0, MOMENT, handle, TEXT("third")); }
+static uint32_t security_call(zug_hive *hive, uint64_t handle) { return zug_set_security(hive, 0, MOMENT, handle, TEXT("third, of many bytes")); }
 
 static uint32_t query_call(zug_hive *hive, uint64_t handle) {
-    uint8_t room[8];
+    uint8_t room[32];
     uint32_t kind, size;
-    return zug_query_value(hive, 0, handle, TEXT("v"), room, 8, &kind, &size);
+    return zug_query_value(hive, 0, handle, TEXT("value of many letters"), room, 32, &kind, &size);
 }
 
 static uint32_t enum_key_call(zug_hive *hive, uint64_t handle) {
-    uint8_t room[8];
+    uint8_t room[32];
     uint32_t size;
     uint64_t time;
-    return zug_enum_key(hive, 0, handle, 0, room, 8, &size, &time);
+    return zug_enum_key(hive, 0, handle, 0, room, 32, &size, &time);
 }
 
 static uint32_t enum_value_call(zug_hive *hive, uint64_t handle) {
-    uint8_t room[8], name[8];
+    uint8_t room[32], name[32];
     uint32_t name_size, kind, size;
-    return zug_enum_value(hive, 0, handle, 0, name, 8, &name_size, room, 8, &kind, &size);
+    return zug_enum_value(hive, 0, handle, 0, name, 32, &name_size, room, 32, &kind, &size);
 }
 
 static uint32_t get_security_call(zug_hive *hive, uint64_t handle) {
@@ -661,14 +662,14 @@ static uint32_t get_security_call(zug_hive *hive, uint64_t handle) {
 }
 
 static uint32_t cause_call(zug_hive *hive, uint64_t handle) {
-    return zug_cause(hive, 0, MOMENT, ZUG_SET, handle, TEXT("v"), 3, TEXT("bytes"), false);
+    return zug_cause(hive, 0, MOMENT, ZUG_SET, handle, TEXT("value of many letters"), 3, TEXT("more bytes than sixteen"), false);
 }
 
-static uint32_t delete_value_call(zug_hive *hive, uint64_t handle) { return zug_delete_value(hive, 0, MOMENT, handle, TEXT("v")); }
+static uint32_t delete_value_call(zug_hive *hive, uint64_t handle) { return zug_delete_value(hive, 0, MOMENT, handle, TEXT("value of many letters")); }
 
-static uint32_t delete_key_call(zug_hive *hive, uint64_t handle) { return zug_delete_key(hive, 0, MOMENT, handle, TEXT("made\\below")); }
+static uint32_t delete_key_call(zug_hive *hive, uint64_t handle) { return zug_delete_key(hive, 0, MOMENT, handle, TEXT("made of many letters\\below")); }
 
-static uint32_t delete_tree_call(zug_hive *hive, uint64_t handle) { return zug_delete_tree(hive, 0, MOMENT, handle, TEXT("made")); }
+static uint32_t delete_tree_call(zug_hive *hive, uint64_t handle) { return zug_delete_tree(hive, 0, MOMENT, handle, TEXT("made of many letters")); }
 
 static void refusals(void) {
     zug_hive hive = {0};
@@ -681,7 +682,7 @@ static void refusals(void) {
     until_granted(load_call, &hive, 0);
     free(saved);
     IS(zug_open_root(&hive, 0, MOMENT, ZUG_ALL_ACCESS, &root), 0);
-    key(&hive, root, "Soft");
+    key(&hive, root, "Soft, of many letters");
     uint32_t (*const calls[])(zug_hive *, uint64_t) = {open_key_call, create_call, set_call, security_call, query_call, enum_key_call,
         enum_value_call, get_security_call, cause_call, delete_value_call, delete_key_call, delete_tree_call};
     for (unsigned at = 0; at < sizeof calls / sizeof *calls; at++)

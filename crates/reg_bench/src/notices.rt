@@ -22,7 +22,8 @@ const TURNS: u64 = 100_000_000_000;
 struct Exchange {
     looks: u64,
     notices: u32,
-    /// How far they are: 1 that one is inside the lock, 2 that the other has looked, and one more for each watch.
+    /// How far they are: 1 that the other one is ready, 2 that one is inside the lock, 3 that the other has looked, and one more for each
+    /// watch.
     step: AtomicU64,
     /// When the last change was begun, in nanoseconds since the start.
     begun: AtomicU64,
@@ -39,8 +40,8 @@ struct Told {
 
 impl HiveGate for Exchange {
     fn inside(&self, _: u8, _: u8) {
-        self.step.store(1, Ordering::SeqCst);
-        self.wait_for(2);
+        self.step.store(2, Ordering::SeqCst);
+        self.wait_for(3);
     }
 
     fn answered(&self, _: u8, _: u8) {}
@@ -81,9 +82,12 @@ impl Exchange {
     /// Stays inside the lock until the other session has looked, and then makes a change each time that it watches.
     fn set_all<Rt: Clock + Wait>(&self, host: Host<'_, Rt>, session: &mut Session) -> Result<()> {
         let set = set_value(host.bench.alloc, host.prepare(session, 0)?)?;
+        if !self.wait_for(1) {
+            bail!("the other session isn't ready");
+        }
         host.change(self, session, 0, &set);
         for round in 0..self.notices {
-            if !self.wait_for(u64::from(round) + 3) {
+            if !self.wait_for(u64::from(round) + 4) {
                 bail!("the other session isn't ready");
             }
             self.begun.store(self.now(host.bench.rt), Ordering::SeqCst);
@@ -100,15 +104,16 @@ impl Exchange {
             subtree: false,
         };
         let mut told = self.told.lock(host.bench.rt);
-        if !self.wait_for(1) {
+        self.step.store(1, Ordering::SeqCst);
+        if !self.wait_for(2) {
             bail!("no session is inside the lock");
         }
         let looked = look(host, session, self.looks, &mut told.locked);
-        self.step.store(2, Ordering::SeqCst);
+        self.step.store(3, Ordering::SeqCst);
         looked?;
         for round in 0..self.notices {
             host.change(&OpenGate, session, 0, &watch);
-            self.step.store(u64::from(round) + 3, Ordering::SeqCst);
+            self.step.store(u64::from(round) + 4, Ordering::SeqCst);
             let mut waited = host.bench.took();
             look(host, session, TURNS, &mut waited)?;
             if waited.calls == TURNS {

@@ -1,5 +1,5 @@
 -- A journal that begins anew: no handle is open, so no watch is pending, and what was told stays told.
-use Rattle.std.proofs.Common.{◌≡◌, ℕ, zero, suc, ◌+◌, ◌≤◌, ◌++◌, Bool, true, false, cond, List, [], ◌∷◌, length, Option, Some, None, refl, sym, ap, ◌∙◌, subst, arith}
+use Rattle.std.proofs.Common.{◌≡◌, ℕ, zero, suc, ◌+◌, ◌≤◌, ◌++◌, Bool, true, false, cond, List, [], ◌∷◌, length, Some, None, refl, sym, ap, ◌∙◌, subst, arith}
 use Rattle.std.specs.Prelude.{nat_lt, slice_index_or}
 use Rattle.std.specs.List.{AllByRecursion}
 use Rattle.std.proofs.lemmas.List.{append-nil}
@@ -16,7 +16,6 @@ use Rattle.reg_model.proofs.PendingWatches.{watches-all}
 use Rattle.reg_journal.specs.Kept.{Seat, IsCurrent}
 use Rattle.reg_tree.specs.TreeKeys.{Keys}
 use Rattle.reg_notify.specs.Tables.{Table, told_to, taken_by}
-use Rattle.reg_calls.specs.declared.cut.CutFault.{CutFault}
 use Rattle.reg_calls.specs.declared.cut.CutFault.TheVariants.{HandlesOpen, Numbers}
 use Rattle.reg_calls.specs.declared.store.Store.{Store}
 use Rattle.reg_calls.specs.declared.quiet.Quiet.{Quiet}

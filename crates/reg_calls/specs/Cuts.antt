@@ -1,5 +1,5 @@
 -- A hive whose journal begins anew.
-use Rattle.std.specs.Prelude.{◌≡◌, ℕ, List, [], length, nat_lt, slice_index_or, if◌then◌else◌, Option, Some, None}
+use Rattle.std.specs.Prelude.{◌≡◌, ℕ, [], length, nat_lt, slice_index_or, if◌then◌else◌, Option, Some, None}
 use Rattle.reg_model.specs.declared.limits.TheConstants.{NUMBERS_LIMIT}
 use Rattle.reg_calls.specs.declared.cut.CutFault.{CutFault}
 use Rattle.reg_calls.specs.declared.cut.CutFault.TheVariants.{HandlesOpen, Numbers}

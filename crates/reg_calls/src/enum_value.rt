@@ -14,6 +14,7 @@ ghost use Rattle.reg_calls.specs.declared.store.JournalEnd.{JournalEnd};
 
 use crate::asking::Asking;
 use crate::store::Store;
+use crate::value_copy::copy_value;
 use reg_callbacks::Callback;
 use reg_model::rights::QUERY_VALUE;
 use reg_model::statuses::{ACCESS_DENIED, MORE_DATA, NO_MORE_ITEMS, NOT_ENOUGH_MEMORY};
@@ -70,12 +71,12 @@ fn member_told(
             bytes: None,
         };
     };
-    match tree.value_bytes(alloc, node, index) {
+    match copy_value(alloc, tree, node, index, size) {
         Ok(bytes) => AnswerBody::Member {
             name,
             kind,
             size,
-            bytes: Some(Bytes::from_vec(bytes)),
+            bytes: Some(bytes),
         },
         Err(_) => AnswerBody::Refused {
             status: NOT_ENOUGH_MEMORY,

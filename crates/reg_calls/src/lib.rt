@@ -79,6 +79,7 @@ mod seated;
 mod set_security;
 mod set_value;
 mod store;
+mod value_copy;
 
 pub use cut::CutFault;
 pub use hive::{Hive, NewFault, RunFault};

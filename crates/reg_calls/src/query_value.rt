@@ -14,12 +14,13 @@ ghost use Rattle.reg_calls.specs.declared.store.JournalEnd.{JournalEnd};
 
 use crate::asking::Asking;
 use crate::store::Store;
+use crate::value_copy::copy_value;
 use reg_callbacks::Callback;
+use reg_model::AnswerBody;
 use reg_model::rights::QUERY_VALUE;
 use reg_model::statuses::{
     ACCESS_DENIED, FILE_NOT_FOUND, INVALID_PARAMETER, MORE_DATA, NOT_ENOUGH_MEMORY,
 };
-use reg_model::{AnswerBody, Bytes};
 use reg_names::check_value_name;
 use reg_tree::{Node, Tree, ValueFound};
 use std::alloc::Global;
@@ -32,7 +33,9 @@ fn value_answer(
     value: ValueFound,
     room: Option<u32>,
 ) -> AnswerBody
-    requires { (p : Path) × IsAt tree.now p node × (value.index < length (values_at tree.now.tree p)) }
+    requires value { (p : Path) × IsAt tree.now p node × (value.index < length (values_at tree.now.tree p)) }
+    requires size { (p : Path) → IsAt tree.now p node → (member : Member) →
+        slice_get (values_at tree.now.tree p) value.index ≡ Some member → value.size ≡ length member.bytes }
     ensures { (p : Path) → IsAt tree.now p node → (member : Member) →
         slice_get (values_at tree.now.tree p) value.index ≡ Some member → value.kind ≡ member.kind →
         value.size ≡ length member.bytes → IsTold (value_told (Some member) room) result }
@@ -52,11 +55,11 @@ fn value_answer(
             size,
         };
     }
-    match tree.value_bytes(alloc, node, index) {
+    match copy_value(alloc, tree, node, index, size) {
         Ok(bytes) => AnswerBody::Value {
             kind,
             size,
-            bytes: Some(Bytes::from_vec(bytes)),
+            bytes: Some(bytes),
         },
         Err(_) => AnswerBody::Refused {
             status: NOT_ENOUGH_MEMORY,

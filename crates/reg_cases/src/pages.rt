@@ -1,6 +1,7 @@
 //! The examples of README.md, of the manual and of the page on hive files, run one after another as they stand there.
 //!
-//! What an example prints and its exit status are compared. A line is printed for each that isn't as shown.
+//! What an example prints and its exit status are compared: standard output, and before or behind it what came on standard error. A line is
+//! printed for each that isn't as shown.
 
 use crate::command::read_line;
 use crate::example::{Example, example_in};
@@ -8,6 +9,7 @@ use crate::given::Given;
 use crate::outcome::{Outcome, tool};
 use crate::shown::are_as_shown;
 use anyhow::{Context, Result};
+use std::alloc::Global;
 use std::fs;
 use std::sync::Wait;
 use std::thread::Threads;
@@ -37,6 +39,13 @@ fn outcome_of<T: Threads + Wait + Sync>(
     )
 }
 
+/// A text behind another one.
+fn joined(alloc: Global, first: &[u8], second: &[u8]) -> Result<String> {
+    let mut bytes = first.to_vec(alloc)?;
+    bytes.extend_from_slice(second)?;
+    Ok(String::from_utf8_lossy(alloc, &bytes)?)
+}
+
 /// Runs an example, and answers what is wrong with it.
 fn fault_of<T: Threads + Wait + Sync>(
     rt: &HostRuntime,
@@ -45,12 +54,13 @@ fn fault_of<T: Threads + Wait + Sync>(
 ) -> Result<Option<String>> {
     let alloc = rt.alloc();
     let outcome = outcome_of(rt, crew, example)?;
-    let mut printed = outcome.output;
-    printed.extend_from_slice(&outcome.errors)?;
-    let text = String::from_utf8_lossy(alloc, &printed)?;
-    let lines: Vec<&str> = text.as_str().lines().collect(alloc)?;
-    if is_example_as_shown(example, outcome.status, &lines) {
-        return Ok(None);
+    let text = joined(alloc, &outcome.output, &outcome.errors)?;
+    let other = joined(alloc, &outcome.errors, &outcome.output)?;
+    for printed in [text.as_str(), other.as_str()] {
+        let lines: Vec<&str> = printed.lines().collect(alloc)?;
+        if is_example_as_shown(example, outcome.status, &lines) {
+            return Ok(None);
+        }
     }
     Ok(Some(format!(in alloc; "{}: {}", outcome.status, text.as_str())?))
 }

@@ -1,11 +1,8 @@
 //! What hinders a change before it is made.
 
-ghost use Rattle.std.specs.Prelude.{◌≡◌, ◌&&◌, ◌<◌, length, nat_lt, is_some, MatchOption};
-ghost use Rattle.reg_heap.specs.Paths.{children_of};
-ghost use Rattle.reg_heap.specs.Edits.{folded_path, values_at};
-ghost use Rattle.reg_heap.specs.Members.{value_named};
+ghost use Rattle.std.specs.Prelude.{◌≡◌, ◌<◌, is_some};
 ghost use Rattle.reg_edits.specs.KeyChanges.{has_key as has_key_at, has_subkeys as has_subkeys_at, has_value as has_value_at, parent_of};
-ghost use Rattle.reg_edits.specs.KeyChanges.{unless, hinders_key, hinders_value, hinders_going_value, hinders_going_key, hindrance_of};
+ghost use Rattle.reg_edits.specs.KeyChanges.{hinders_key, hinders_value, hinders_going_value, hinders_going_key, hindrance_of};
 
 use reg_names::check_path;
 use reg_tree::Tree;

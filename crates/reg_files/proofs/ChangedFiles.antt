@@ -1,5 +1,5 @@
 -- What a change of a file left, put together.
-use Rattle.std.proofs.Common.{◌≡◌, ◌∙◌, ℕ, Bool, true, false, List, Option, inl, inr, refl, sym, ap, subst}
+use Rattle.std.proofs.Common.{◌≡◌, ℕ, true, false, List, Option, inl, inr, refl, subst}
 use Rattle.std.specs.Prelude.{◌&&◌, Result, Ok, Err, OnOk, IfErr}
 use Rattle.reg_words.specs.declared.request.EditRequest.{EditRequest}
 use Rattle.reg_words.specs.ChangeLines.{told as line_of}

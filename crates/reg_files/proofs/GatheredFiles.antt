@@ -1,5 +1,5 @@
 -- Files gathered one after another.
-use Rattle.std.proofs.Common.{◌≡◌, ◌∙◌, ◌++◌, List, [], ◌∷◌, ℕ, Bool, ap, inl, inr, refl, subst, sym}
+use Rattle.std.proofs.Common.{◌≡◌, ◌++◌, List, [], ◌∷◌, ℕ, Bool, ap, inl, inr, refl, subst, sym}
 use Rattle.std.specs.Prelude.{Option}
 use Rattle.reg_heap.specs.Paths.{Tree}
 use Rattle.reg_tables.specs.declared.timeline.Timeline.{Timeline}

@@ -1,5 +1,5 @@
 -- What a status says of a request, by what its call answered.
-use Rattle.std.proofs.Common.{◌≡◌, ◌≤◌, ◌∙◌, ◌++◌, ◌⊎◌, ℕ, zero, suc, Bool, true, false, ◌&&◌, List, [], Option, codes, refl, sym, subst, inl, inr}
+use Rattle.std.proofs.Common.{◌≡◌, ◌≤◌, ◌∙◌, ◌++◌, ◌⊎◌, ℕ, zero, suc, Bool, true, false, ◌&&◌, List, Option, codes, refl, sym, subst, inl, inr}
 use Rattle.std.proofs.Common.{arith}
 use Rattle.std.specs.Prelude.{Result, Ok, Err, OnOk, OnErr, IfOk, IfErr, MatchResult, ⊤}
 use Rattle.std.specs.Io.KnownBytes.{Appends}
@@ -10,11 +10,11 @@ use Rattle.reg_words.specs.declared.request.HiveFile.{HiveFile}
 use Rattle.reg_words.specs.declared.request.Request.{Request}
 use Rattle.reg_words.specs.declared.request.StreamRequest.TheVariants as stream
 use Rattle.std.proofs.lemmas.List.{append_assoc}
-use Rattle.reg_files.specs.Looking.{AnswerStops, IsCutReported, IsReported}
+use Rattle.reg_files.specs.Looking.{IsCutReported, IsReported}
 use Rattle.reg_files.specs.Differing.{AreOther, AreSame, StopsDiffing}
 use Rattle.reg_files.specs.Counting.{Checks, ChecksFiles, CountStops}
 use Rattle.reg_files.specs.Serving.{Fails, Serves}
-use Rattle.reg_files.specs.Looking.{as_read, IsOpened, IsUnopened, LookFails, Looks, OfImage}
+use Rattle.reg_files.specs.Looking.{as_read, IsOpened, IsUnopened, LookFails, Looks}
 use Rattle.reg_files.specs.Counting.{name_before, NameStops}
 use Rattle.reg_files.specs.Differing.{Compares, CompareFails}
 use Rattle.reg_files.specs.Internal.Counted.{IsCounted}

@@ -1,6 +1,6 @@
 -- Timelines of files, told.
 use Rattle.std.proofs.Common.{◌≡◌, ◌≤◌, Bool, List, ℕ, zero, suc, inr, refl, subst, sym, arith}
-use Rattle.std.specs.Prelude.{◌&&◌, Option, Result, Ok, Err, OnOk, IfErr}
+use Rattle.std.specs.Prelude.{Option, Result, Ok, Err, OnOk, IfErr}
 use Rattle.std.specs.Io.KnownBytes.{Appends}
 use Rattle.reg_heap.specs.Paths.{Tree}
 use Rattle.reg_tables.specs.Timelines.{timeline_text}

@@ -1,5 +1,5 @@
 -- Listings and values as they are asked for: told in short, or with what is asked for beside names (this project's own).
-use Rattle.std.specs.Prelude.{◌≡◌, ℕ, Bool, true, false, ◌||◌, not, List, Option}
+use Rattle.std.specs.Prelude.{ℕ, Bool, true, false, ◌||◌, List, Option}
 use Rattle.reg_words.specs.declared.request.Columns.{Columns}
 use Rattle.reg_words.specs.declared.request.DataForm.{DataForm}
 use Rattle.reg_words.specs.declared.request.DataForm.TheVariants.{Told, Typed, Raw}

@@ -1,5 +1,5 @@
 -- What the tool did with files (this project's own).
-use Rattle.std.specs.Prelude.{◌≡◌, ◌⊎◌, ℕ, Bool, true, false, ◌&&◌, Option, is_some, option_copied, ⊤}
+use Rattle.std.specs.Prelude.{◌≡◌, ◌⊎◌, ℕ, Bool, true, false, ◌&&◌, Option, is_some, option_copied}
 use Rattle.std.specs.Prelude.{List, map, codes}
 use Rattle.std.specs.Io.KnownBytes.{Appends}
 use Rattle.reg_words.specs.CommandLines.{AsksNothing, IsCommandLine}
@@ -93,7 +93,7 @@ TextFails is_text closed before after told told_after failed now_failed =
 
 -- the tool's version, and the kit's
 abbrev pub version_text : List ℕ
-version_text = codes "regtool 1.0.0\nrattle-kit-13b logic dac8208d650f15bf\n"
+version_text = codes "regtool 1.0.0\nrattle-kit-13f logic dac8208d650f15bf\n"
 
 -- what a request did with the input and the output, where the status is 0: one of the standard streams was answered; an edit ran the script
 -- on the hive in some file, and no line failed; a key or a value of some file's tree was written, something was found in it, or each of some
@@ -168,7 +168,7 @@ Fails (Change edit change) closed unread left before after told told_after faile
     (left ≡ unread) × ((cut : Bool) × StopsChanging change cut before after × IsReported (closed && cut) told told_after failed now_failed)
 Fails (Copy edit source path into) closed unread left before after told told_after failed now_failed =
     (left ≡ unread) × LookFails source.is_dirty source.file.now closed before after told told_after failed now_failed
-    (StopsCopying path.items into.items before after)
+    (StopsCopying edit path.items into.items before after)
 Fails (Listing list) closed unread left before after told told_after failed now_failed =
     (left ≡ unread) × LookFails list.hive.is_dirty list.hive.file.now closed before after told told_after failed now_failed
     (StopsListing list.columns list.is_tree list.is_whole list.path.items before after)

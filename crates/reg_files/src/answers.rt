@@ -5,7 +5,7 @@ ghost use Rattle.reg_words.specs.declared.request.Request.{Request};
 ghost use Rattle.reg_files.specs.Internal.Fronts.{bytes_of};
 ghost use Rattle.reg_files.specs.Internal.Outcomes.{Outcome, IsSameBehind, IsOtherBehind, IsTextTold, TextStops};
 
-use crate::commands::{change_file, edit_file, import_text, new_file};
+use crate::commands::{change_file, edit_file, import_text, new_file, open_for};
 use crate::copying::copy_file;
 use crate::device::Output;
 use crate::differing::diff_images;
@@ -31,7 +31,7 @@ use std::sync::Wait;
 use std::thread::Threads;
 
 /// What `version` writes: the tool's version, and that of the kit that proves and builds it.
-const VERSION: &[u8] = b"regtool 1.0.0\nrattle-kit-13b logic dac8208d650f15bf\n";
+const VERSION: &[u8] = b"regtool 1.0.0\nrattle-kit-13f logic dac8208d650f15bf\n";
 
 /// `run`, and `dump` and `check` without files.
 fn stream_asked<Rt: Threads + Wait + Sync, R: Read, W: Output, E: Sink>(
@@ -346,10 +346,16 @@ where
         (W.contents output.old) (W.contents output.new)
         (E.contents errors.old) (E.contents errors.new) (E.failures errors.old) (E.failures errors.new) }
 {
+    // The source is opened once the lock is held: it may be the same file, and another one may have changed it until then.
+    let opened = match open_for(alloc, host, edit) {
+        Ok(opened) => opened,
+        Err(fault) => return settle(alloc, errors, edit.file, Err(fault)),
+    };
     match open_image(alloc, host, source.file, source.is_dirty, errors) {
         Ok(mut image) => {
             let path = path.as_slice();
-            let done = copy_file(alloc, host, edit, &mut image, path, into.as_slice(), output);
+            let into = into.as_slice();
+            let done = copy_file(alloc, host, edit, opened, &mut image, path, into, output);
             settle_copy(alloc, errors, output, source.file, &edit, done)
         }
         Err(fault) => settle(alloc, errors, source.file, Err(fault)),

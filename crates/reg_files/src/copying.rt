@@ -1,13 +1,13 @@
 //! A key of one hive file copied to another, which is saved.
 
-ghost use Rattle.std.specs.Prelude.{◌≡◌, ◌≤◌, ℕ, List, Option, true, false, IfOk, IfErr, OnOk, string_bytes};
+ghost use Rattle.std.specs.Prelude.{◌≡◌, ℕ, List, Option, true, false, IfOk, IfErr, OnOk, string_bytes};
 ghost use Rattle.reg_tree_image.specs.FreeBytes.{are_sparse};
 ghost use Rattle.reg_files.specs.Copying.{copy_line, CopiesInto, StopsCopying};
 ghost use Rattle.reg_files.specs.Saves.{IsCopyToSave, IsNotRebuilt};
 ghost use Rattle.reg_files.specs.Internal.Cuts.{is_copy_stop_cut};
 ghost use Rattle.reg_files.specs.Internal.Fronts.{bytes_of};
 
-use crate::commands::{begin_at, open_for, put, tell_change};
+use crate::commands::{Opened, begin_at, put, tell_change};
 use crate::device::Device;
 use crate::fault::{CopyStop, Fault, SaveEnd};
 use crate::images::Image;
@@ -76,18 +76,18 @@ fn stop_of<F, D>(end: CopyEnd, image: &mut Image<F>, file: &mut Device<D>) -> Co
             CopyStop::Target(SaveEnd::Hive(Fault::Load(fault).of_file(file)))
         }
         CopyEnd::Copy(CopyFault::NoKey) => CopyStop::Source(Fault::NoKey),
-        CopyEnd::Copy(CopyFault::NoPlace) => CopyStop::Target(SaveEnd::Hive(Fault::NoKey)),
         CopyEnd::Copy(CopyFault::Memory) => CopyStop::Target(SaveEnd::Hive(Fault::Memory)),
         CopyEnd::Copy(fault) => CopyStop::Target(SaveEnd::Hive(Fault::NoCopy(fault))),
     }
 }
 
 /// Copies a key of a file that is open, with all that is below it, to right below a key of the hive of another file, and saves that, as an
-/// edit does; or, of a dry run, tells what would have been saved. The other file's lock is held until then.
+/// edit does; or, of a dry run, tells what would have been saved. The other file is open and locked, and its lock is held until then.
 pub fn copy_file<H: Files + Clock, F: Read, W: Write>(
     alloc: Global,
     host: &H,
     request: EditRequest<'_>,
+    mut opened: Opened<H::File>,
     image: &mut Image<F>,
     path: &[u8],
     into: &[u8],
@@ -97,11 +97,10 @@ where
     H::File: Lockable,
     ensures ok { OnOk result (CopiesInto request.entry path.now into.now (bytes_of F.remaining image.old) (bytes_of F.remaining image.new)
         (W.contents output.old) (W.contents output.new)) }
-    ensures err { IfErr result (λ end. (left : Option (List ℕ)) × StopsCopying path.now into.now (W.contents output.old) (W.contents output.new)
-        (is_copy_stop_cut end) (bytes_of F.remaining image.old) left) }
+    ensures err { IfErr result (λ end. (left : Option (List ℕ)) × StopsCopying request.entry path.now into.now
+        (W.contents output.old) (W.contents output.new) (is_copy_stop_cut end) (bytes_of F.remaining image.old) left) }
 {
     let line = line_of(alloc, path, into)?;
-    let mut opened = open_for(alloc, host, request)?;
     let begin = begin_at(host, request.begin)?;
     let copied = match copy(alloc, image, path, &mut opened.file, into, begin) {
         Ok(copied) => copied,

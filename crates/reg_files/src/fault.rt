@@ -127,7 +127,8 @@ pub enum Fault {
     /// The root is to go.
     #[error("the root stays")]
     IsRoot,
-    /// A key can't be copied: one of its name is there, there would be too many keys, or the bins have no room.
+    /// A key can't be copied: there is no key to copy into, one of its name is there, there would be too many keys, or the bins have no
+    /// room.
     #[error("{0}")]
     NoCopy(CopyFault),
     /// A change was refused, with this status.

@@ -1,6 +1,6 @@
 //! The commands that look into one file.
 
-ghost use Rattle.std.specs.Prelude.{◌≡◌, ◌≤◌, ◌||◌, ℕ, List, Option, option_copied, false, IfOk, IfErr, OnOk};
+ghost use Rattle.std.specs.Prelude.{◌≡◌, ◌||◌, ℕ, List, Option, option_copied, false, IfOk, IfErr, OnOk};
 ghost use Rattle.reg_queries.specs.Finds.{Finds};
 ghost use Rattle.reg_queries.specs.ImageExports.{Exports, ExportEnds};
 ghost use Rattle.reg_files.specs.Detailed.{ListsKey, ListingEnds, GetsAs, GettingEnds, is_detailed as asks_for_more, table_columns as columns_asked};

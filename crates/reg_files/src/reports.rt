@@ -11,6 +11,7 @@ ghost use Rattle.reg_files.specs.Internal.Outcomes.{status_of, Settles};
 use crate::device::Output;
 use crate::fault::{CopyStop, DiffEnd, Fault, SaveEnd};
 use reg_command::say;
+use reg_copy::CopyFault;
 use reg_dotreg_reader::told;
 use reg_edits::BadText;
 use reg_model::statuses::{
@@ -122,7 +123,7 @@ fn fault_text(alloc: Global, file: &str, input: &str, fault: &Fault) -> Result<S
         }
         Fault::Line(line) => failed_line_text(alloc, input, line),
         Fault::Failed(count) => format!(in alloc; "lines of {input} that failed: {count}"),
-        Fault::NoKey | Fault::NoValue | Fault::NoParent => {
+        Fault::NoKey | Fault::NoValue | Fault::NoParent | Fault::NoCopy(CopyFault::NoPlace) => {
             format!(in alloc; "missing {file}: {fault}")
         }
         Fault::HasSubkeys | Fault::IsRoot | Fault::NoCopy(_) => {

@@ -1,12 +1,16 @@
-ghost use Rattle.std.specs.Prelude.{◌≡◌, ◌≢◌, ◌↔◌, [], IfOk, IsTrue, OnErr};
+ghost use Rattle.std.specs.Prelude.{◌≡◌, ◌≢◌, ◌<◌, ◌↔◌, [], length, IfOk, IsTrue, OnErr};
 
+use smallvec::SmallVec;
 use std::alloc::{AllocError, Global};
 use std::marker::Model;
 
-/// Bytes that contracts see as a list: a name, a value's data or a security descriptor.
+/// How many bytes take no memory of their own: most names have no more, and nor do numbers.
+pub const INLINE_BYTES: usize = 16;
+
+/// Bytes that contracts see as a list: a name, a value's data or a security descriptor. Few take no memory of their own.
 #[derive(Debug, Drop)]
 pub struct Bytes {
-    items: Vec<u8>,
+    items: SmallVec<u8, INLINE_BYTES>,
 }
 
 impl Model for Bytes {
@@ -18,19 +22,13 @@ impl Model for Bytes {
 }
 
 impl Bytes {
-    /// The bytes of a vector, without a copy.
+    /// The bytes of a vector, without a copy where they are many.
     pub fn from_vec(items: Vec<u8>) -> Bytes
         ensures { result ≡ items.items }
     {
-        Bytes { items }
-    }
-
-    /// Gives the vector back, without a copy.
-    pub fn into_vec(self) -> Vec<u8>
-        ensures { result.items ≡ self }
-    {
-        let Bytes { items } = self;
-        items
+        Bytes {
+            items: SmallVec::from_vec(items),
+        }
     }
 
     /// The bytes, lent.
@@ -40,24 +38,26 @@ impl Bytes {
         self.items.as_slice()
     }
 
-    /// A copy of a slice's bytes. Its one fault is that memory was refused; no bytes take no memory.
+    /// A copy of a slice's bytes. Its one fault is that memory was refused, and never for [`INLINE_BYTES`] bytes or less.
     pub fn from_slice(alloc: Global, bytes: &[u8]) -> Result<Bytes, AllocError>
         ensures ok { IfOk result (λ copy. copy ≡ bytes.now) }
         ensures err { OnErr result (bytes.now ≢ []) }
+        ensures many { OnErr result (INLINE_BYTES < length bytes.now) }
     {
         if bytes.is_empty() {
             return Ok(Bytes {
-                items: Vec::new(alloc),
+                items: SmallVec::new(alloc),
             });
         }
-        let items = Vec::from_slice(alloc, bytes)?;
+        let items = SmallVec::from_slice(alloc, bytes)?;
         Ok(Bytes { items })
     }
 
-    /// A copy, which equals its source. Its one fault is that memory was refused; no bytes take no memory.
+    /// A copy, which equals its source. Its one fault is that memory was refused, as for [`Bytes::from_slice`].
     pub fn try_clone(&self, alloc: Global) -> Result<Bytes, AllocError>
         ensures ok { IfOk result (λ copy. copy ≡ self.now) }
         ensures err { OnErr result (self.now ≢ []) }
+        ensures many { OnErr result (INLINE_BYTES < length self.now) }
     {
         Bytes::from_slice(alloc, self.as_slice())
     }

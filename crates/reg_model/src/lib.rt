@@ -29,7 +29,7 @@ pub mod statuses;
 mod step;
 
 pub use answer::{Answer, AnswerBody};
-pub use bytes::Bytes;
+pub use bytes::{Bytes, INLINE_BYTES};
 pub use call::{Call, Change, Query};
 pub use notice::{Notice, Reason};
 pub use reply::{ChangeReply, Entry, Receipt};

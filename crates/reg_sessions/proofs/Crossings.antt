@@ -4,6 +4,7 @@ use denote.Param.Send.{IsSend, IsSync, sendable}
 use Rattle.std.proofs.Crossing.{crosses}
 use Rattle.std.proofs.MapsCrossing as maps
 use Rattle.rtrb.proofs.end.End.TheSendSync as ring
+use Rattle.reg_model.specs.contracts.bytes.Bytes as Bytes
 use Rattle.reg_model.specs.contracts.notice.Notice as Notice
 use Rattle.reg_calls.specs.contracts.hive_core.Core as Core
 use Rattle.reg_sessions.specs.contracts.lines.Line as Line
@@ -11,8 +12,12 @@ use Rattle.reg_sessions.specs.contracts.locked.Locked as Locked
 use Rattle.reg_sessions.specs.contracts.registry.Registry as Registry
 use Rattle.reg_sessions.specs.contracts.registry.Room as Room
 
+-- names and data: those of the journal's changes
+bytes_send : IsSend Bytes.the_row
+bytes_send = search (sendable, crosses) depth 60 fits 20000
+
 core_send : IsSend Core.the_row
-core_send = search (sendable, crosses, maps.crosses) depth 2000 fits 200000
+core_send = let b = bytes_send in search (sendable, crosses, maps.crosses) depth 2000 fits 200000
 
 notice_send : IsSend Notice.the_row
 notice_send = search (sendable, crosses) depth 100

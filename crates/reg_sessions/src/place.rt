@@ -295,20 +295,22 @@ impl Place {
         let reply = guard.change(&mut self.share, self.mark, moment, entered);
         drop(guard);
         gate.answered(session, hive);
-        if reply.status == 0 {
-            let Some(number) = reply.number else {
-                unreachable!();
-            };
-            self.handles = handles_after(self.handles, is_close, &reply);
-            self.notifies = notifies_after(self.notifies, is_notify);
-            self.receipts.push_reserved(Receipt {
-                number,
-                moment,
-                change: kept,
-                reply,
-            });
-            self.mark = number + 1;
+        if reply.status != 0 {
+            drop(kept);
+            return reply;
         }
+        let Some(number) = reply.number else {
+            unreachable!();
+        };
+        self.handles = handles_after(self.handles, is_close, &reply);
+        self.notifies = notifies_after(self.notifies, is_notify);
+        self.receipts.push_reserved(Receipt {
+            number,
+            moment,
+            change: kept,
+            reply,
+        });
+        self.mark = number + 1;
         reply
     }
 

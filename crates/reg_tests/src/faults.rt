@@ -2,6 +2,7 @@
 use crate::support::assert_report;
 use reg_arena::ArenaFault;
 use reg_calls::{NewFault, RunFault};
+use reg_copy::CopyFault;
 use reg_journal::SeatFault;
 use reg_names::NameFault;
 use reg_records::RecordFault;
@@ -96,7 +97,18 @@ fn tell_keys(text: &mut String) -> Result<(), AllocError> {
         text,
         &[SeatFault::Seated, SeatFault::Count, SeatFault::Memory],
     )?;
-    tell(text, &[RunFault::Session, RunFault::Memory])
+    tell(text, &[RunFault::Session, RunFault::Memory])?;
+    tell(
+        text,
+        &[
+            CopyFault::NoKey,
+            CopyFault::NoPlace,
+            CopyFault::Taken,
+            CopyFault::Limit,
+            CopyFault::Full,
+            CopyFault::Memory,
+        ],
+    )
 }
 
 #[test]
@@ -147,6 +159,12 @@ no session, or more than 64
 no memory
 a session of the steps has no share in its place, or one that isn't current
 no memory for the outcomes
+there is no such key
+there is no key to copy into
+a key of that name is there
+there would be too many keys below one another or beside each other
+the bins have no room
+no memory
 ";
     let mut text = String::new(rt.alloc());
     tell_devices(&mut text)?;

@@ -1,4 +1,4 @@
-use Rattle.std.proofs.Common.{◌≡◌, ap, inl, inr, refl, subst, sym, arith}
+use Rattle.std.proofs.Common.{◌≡◌, inl, inr, refl, subst, sym, arith}
 use Rattle.reg_words.specs.CommandLines.{texts, AsksNothing, HasBothOptions, IsCommandLine}
 use Rattle.reg_words.proofs.ToldOptions.{is_options}
 use Rattle.reg_files.proofs.Statuses.{small, served, failed_by}

@@ -1,4 +1,6 @@
-use Rattle.std.proofs.Common.{arith, ap, ◌∙◌}
+use Rattle.std.proofs.Common.{arith, length, sym, ap, ◌∙◌}
+use Rattle.std.proofs.lemmas.Option.{same_Some}
+use Rattle.reg_heap.specs.Paths.{Member}
 use Rattle.std.proofs.lemmas.Grind.{common_steps}
 use Rattle.std.proofs.lemmas.Bool.Decides.{nat_tests}
 use Rattle.reg_model.specs.declared.call.Query.TheVariants.{QueryValue}
@@ -28,11 +30,16 @@ returns-then-key-ne-QUERY_VALUE g c = λ n.
     let chain = value-causes n c.args.store.now c.args.session c.args.handle status c.args.name.now c.args.room c.in-Ok.key.mask k.target k.mask in
     refused (at n c.args.store.now) c.args.session status 5 (QueryValue c.args.handle c.args.name.now c.args.room) (grind (arith, nat_tests, common_steps, chain))
 
-pub value_answer-requires : goal.value_answer-requires
-value_answer-requires g c =
+pub value_answer-requires-clause-value : goal.value_answer-requires-clause-value
+value_answer-requires-clause-value g c =
     let k = c.in-Ok.ensures in
     let found = found_as _ _ _ (c.in-Some.ensures k.target.path k.node) in
     (k.target.path, k.node, found.within)
+
+pub value_answer-requires-clause-size : goal.value_answer-requires-clause-size
+value_answer-requires-clause-size g c = λ p at member is.
+    let found = found_as _ _ _ (c.in-Some.ensures p at) in
+    found.size ∙ ap (λ (m : Member). length m.bytes) (same_Some _ _ (sym found.at_index ∙ is))
 
 pub returns-in-Some : goal.returns-in-Some
 returns-in-Some g c = λ n.

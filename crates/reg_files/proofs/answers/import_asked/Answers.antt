@@ -1,4 +1,4 @@
-use Rattle.std.proofs.Common.{refl, false, subst}
+use Rattle.std.proofs.Common.{refl, false}
 use Rattle.reg_words.specs.declared.request.Request.TheVariants.{Import}
 use Rattle.reg_files.specs.Internal.Cuts.{is_save_end_cut}
 use Rattle.reg_files.proofs.EditedFiles.{text_entered, text_stopped}

@@ -1,4 +1,4 @@
-use Rattle.std.proofs.Common.{inl, ap, refl, sym, ◌∙◌}
+use Rattle.std.proofs.Common.{inl, ap, refl, ◌∙◌}
 use Rattle.reg_files.specs.Internal.Cuts.{is_save_end_cut}
 use Rattle.reg_files.proofs.ChangedFiles.{changed, cut_short, ended}
 use Rattle.reg_files.proofs.StoppedCommands.{from_err}

@@ -27,3 +27,14 @@ returns-clause-lawful g c = λ stale. inl
 
 pub returns-clause-spared : goal.returns-clause-spared
 returns-clause-spared g c = spared (returns-clause-lawful g c)
+
+pub returns-then-reply-ne0-clause-lawful : goal.returns-then-reply-ne0-clause-lawful
+returns-then-reply-ne0-clause-lawful g c = λ stale. inl
+    (subst (λ (p : PlaceState). IsLawfulReply g.C.Callback.answers (seat_of p) p.mark c.args.moment c.args.change.now c.change-reply.result) c.self.view_is
+    (subst (λ (n : ℕ). IsLawfulReply g.C.Callback.answers (seat c.self.inside.share.session n) c.self.inside.mark c.args.moment c.args.change.now c.change-reply.result)
+    (let few = c.self.invariant.0 in omega (arith, few))
+    (subst (λ (x : Change). IsLawfulReply g.C.Callback.answers c.self.inside.share c.self.inside.mark c.args.moment x c.change-reply.result) c.in-Ok.ensures.copies.0
+    (c.change-reply.ensures.lawful stale))))
+
+pub returns-then-reply-ne0-clause-spared : goal.returns-then-reply-ne0-clause-spared
+returns-then-reply-ne0-clause-spared g c = spared (returns-then-reply-ne0-clause-lawful g c)

@@ -15,6 +15,7 @@ use Rattle.std.specs.Global.{Global}
 use Rattle.std.specs.contracts.alloc.Global as heap
 use Rattle.std.proofs.Crossing
 use Rattle.std.proofs.MapsCrossing
+use Rattle.reg_model.specs.contracts.bytes.Bytes as Bytes
 use Rattle.zugmeled.specs.Held.{HeldHive, hive_row, held_owns}
 use Rattle.zugmeled.specs.contracts.held.Held.{the_row, the_type}
 
@@ -26,8 +27,12 @@ lies : (R : RattleType) → IsSend R → (p : Ptr) (x : R.Denot) → Keyless (li
 lies R s (block_ptr b o) x = part_keyless R s full_share x b o
 lies R s null_ptr x = tt
 
+-- names and data may cross: those of the journal's changes
+bytes : IsSend Bytes.the_row
+bytes = search (Crossing.crosses, sendable) depth 60 fits 20000
+
 sends : IsSend hive_row
-sends = search (MapsCrossing.crosses, Crossing.crosses, sendable) depth 60 fits 20000
+sends = let b = bytes in search (MapsCrossing.crosses, Crossing.crosses, sendable) depth 60 fits 20000
 
 owned : (a : Global) (p : Ptr) (o : Option HeldHive) → Keyless (held_owns a p o)
 owned a p None = tt
