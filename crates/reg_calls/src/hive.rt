@@ -74,9 +74,9 @@ impl<C: Callback> Hive<C> {
     ghost use Rattle.reg_calls.specs.Runs.{Run, IsStep};
     ghost use Rattle.reg_calls.specs.Seats.{IsSeated, HaveSeats, HaveCounted};
 
-    /// A hive of one root: the name as given, mark 8 (no delete), no class, the descriptor, the moment (100 ns units
-    /// since 1601) and no values. No handle is open, no watch is pending, no session has a seat, and the journal is empty. `Name` where the name is none that a key may
-    /// have, else `Descriptor` where that is empty or above 65,535 bytes, else `Memory`. It has one bin, of the least size that
+    /// A hive of one root: the name as given, mark 8 (no delete), no class, the descriptor, the moment (100 ns units since 1601) and no
+    /// values. No handle is open, no watch is pending, no session has a seat, and the journal is empty. `Name` where the name is none that
+    /// a key may have, else `Descriptor` where that is empty or above 65,535 bytes, else `Memory`. It has one bin, of the least size that
     /// holds its root's key node and security, and these two stand there (clause `cells`).
     pub fn new(
         alloc: Global,
@@ -204,8 +204,8 @@ impl<C: Callback> Hive<C> {
         self.core.take_notice(session)
     }
 
-    /// The entry of that number, where the hive's first one of all has 0; `None` where the journal doesn't keep it: it was cut, or there was
-    /// none yet.
+    /// The entry of that number, where the hive's first one of all has 0; `None` where the journal doesn't keep it: it was cut, or there
+    /// was none yet.
     pub fn entry(&self, number: usize) -> Option<&Entry>
         ensures { option_copied result ≡ (if nat_lt number (view_of self.now).base then None else
             slice_get (view_of self.now).journal (number - (view_of self.now).base)) }
@@ -220,8 +220,8 @@ impl<C: Callback> Hive<C> {
         self.core.entries()
     }
 
-    /// Why the journal can't begin anew, if something stands against it: `HandlesOpen` where handles are open, with how many; else `Numbers`
-    /// where the hive has had more than 10^18 entries.
+    /// Why the journal can't begin anew, if something stands against it: `HandlesOpen` where handles are open, with how many; else
+    /// `Numbers` where the hive has had more than 10^18 entries.
     pub fn cut_fault(&self) -> Option<CutFault>
         ensures { result ≡ fault_of_cut (view_of self.now) }
     {

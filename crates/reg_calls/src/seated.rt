@@ -15,8 +15,8 @@ use reg_callbacks::Callback;
 use reg_journal::{SeatFault, Share};
 use reg_model::{Answer, Change, ChangeReply, Notice, Query};
 
-/// Answers a change of a session, below 64, as [`Hive::apply`] does, by its share among those of all sessions. The share is current: 1009 comes only
-/// where a callback answers it.
+/// Answers a change of a session, below 64, as [`Hive::apply`] does, by its share among those of all sessions. The share is current: 1009
+/// comes only where a callback answers it.
 pub fn apply_by<C: Callback>(
     hive: &mut Hive<C>,
     shares: &mut Vec<Share>,

@@ -112,8 +112,8 @@ impl Store {
             || end.kept + 2 + self.handles.len() > JOURNAL_LIMIT
     }
 
-    /// What is asked first by the two calls that open a handle by another: that handle's key, or why both are refused, whatever the callbacks would answer: for the
-    /// handle, for bad arguments (`is_bad` says whether some are), or for want of room for one more handle.
+    /// What is asked first by the two calls that open a handle by another: that handle's key, or why both are refused, whatever the
+    /// callbacks would answer: for the handle, for bad arguments (`is_bad` says whether some are), or for want of room for one more handle.
     pub fn key_to_open_at(
         &self,
         end: JournalEnd,

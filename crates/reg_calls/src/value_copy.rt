@@ -34,7 +34,7 @@ fn copy_few(
     }
 }
 
-/// A copy of the bytes of a key's value at an index, counted from 0, which has so many. Few take no memory.
+/// A copy of the bytes of a key's value at an index, counted from 0, which has so many. Few are read to the stack, without a vector.
 pub fn copy_value(
     alloc: Global,
     tree: &Tree,

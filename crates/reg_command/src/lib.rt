@@ -55,15 +55,15 @@ fn perform<Rt: Threads + Wait + Sync, R: Read, W: Write>(
 
 /// Does what is asked of `input`, and answers the exit status.
 ///
-/// `Run` runs a script and writes its replies to `output`; `Image` writes no replies but, at the script's end, the image of its hive
-/// at the moment of the last `at`, with that sequence number. `Workers` reads a whole script, has its sessions work side by side on so many
-/// hives, each on a thread of its own, and then writes each session's replies and how many entries each hive has. `Dump` reads an image and writes its tree as text, `Check` how many keys
-/// and values it has.
+/// `Run` runs a script and writes its replies to `output`; `Image` writes no replies but, at the script's end, the image of its hive at the
+/// moment of the last `at`, with that sequence number. `Workers` reads a whole script, has its sessions work side by side on so many hives,
+/// each on a thread of its own, and then writes each session's replies and how many entries each hive has. `Dump` reads an image and writes
+/// its tree as text, `Check` how many keys and values it has.
 ///
 /// The status is 0 where all that was done. It is 1 after a script's fault (`error script N` on `errors`; no image is written, and of
-/// sessions side by side no reply, or a front of their text where its write failed), after a load fault (`error 1009 load N` on `output`, `error 8` where memory was wanting), after a failed write of an image or of the text
-/// of a tree (`error 1013 written N` on `errors`), and for any other want of memory (`error 8` on `errors`). A failed write to `errors`
-/// changes nothing.
+/// sessions side by side no reply, or a front of their text where its write failed), after a load fault (`error 1009 load N` on `output`,
+/// `error 8` where memory was wanting), after a failed write of an image or of the text of a tree (`error 1013 written N` on `errors`), and
+/// for any other want of memory (`error 8` on `errors`). A failed write to `errors` changes nothing.
 pub fn serve_stream<Rt: Threads + Wait + Sync, R: Read, W: Write, E: Sink>(
     rt: &Rt,
     alloc: Global,

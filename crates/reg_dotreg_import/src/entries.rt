@@ -219,8 +219,8 @@ impl Handles {
 /// meant: it stays, and loses all keys below it and its values. The handles that this opens are closed at the end, and callbacks are
 /// asked as of every call.
 ///
-/// `Refused` tells the line of the first entry that the hive refuses, and its status: 87 for a name, path or data that none may be, 5
-/// where a key to go has mark 8, 1018 where the key of a value went, 1450 where there is no room, or what a callback answers. With line 0 it
+/// `Refused` tells the line of the first entry that the hive refuses, and its status: 87 for a name, path or data that none may be, 5 where
+/// a key to go has mark 8, 1018 where the key of a value went, 1450 where there is no room, or what a callback answers. With line 0 it
 /// tells why the root wasn't opened. `Memory` tells that memory was refused. After a fault the entries before it are applied, handles may
 /// be open, and the hive is of use to nobody: drop it.
 pub fn import<C: Callback>(

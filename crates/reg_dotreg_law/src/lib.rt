@@ -118,8 +118,8 @@ pub fn import_of_an_export_is_the_tree()
         folded name ≡ folded (root_shown front tree) → IsMadeOfFile is_utf8 tree front name bare moment }
 {}
 
-/// The file that is written of what changes from one tree to another, in either encoding, read and applied at any moment to the old one, makes
-/// a tree with the same keys as the new one, and in each key with the same value of each name, as it is spelt, in whatever order.
+/// The file that is written of what changes from one tree to another, in either encoding, read and applied at any moment to the old one,
+/// makes a tree with the same keys as the new one, and in each key with the same value of each name, as it is spelt, in whatever order.
 pub fn import_of_changes_is_the_new_tree()
     ensures { (is_utf8 : Bool) → (old new : Tree) → (moment : ℕ) → IsTree old → IsWithinLimits old → IsTree new → IsWithinLimits new →
         IsOfBytes new → CanWriteChanges old new → IsChangedByFile is_utf8 old new moment }

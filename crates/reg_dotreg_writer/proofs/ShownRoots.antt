@@ -1,15 +1,14 @@
 -- What stands for the root's name, a front or the name itself, and what an export with it says.
 use Rattle.std.proofs.Common.{◌≡◌, ℕ, ◌<◌, Bool, true, false, not, nat_lt, nat_le, ◌==◌, ◌&&◌, List, [], ◌∷◌, length, Option, Some, None, refl}
-use Rattle.std.proofs.Common.{sym, ap, ◌∙◌, subst, arith, inl, inr}
+use Rattle.std.proofs.Common.{sym, ap, subst, arith, inl, inr}
 use Rattle.std.specs.FinMap.{get}
 use Rattle.std.specs.List.{list_all}
 use Rattle.std.specs.Option.{option_map}
 use Rattle.std.specs.Io.KnownBytes.{Appends}
 use Rattle.std.proofs.lemmas.Bool.{and_parts, and_from, false≢true}
-use Rattle.std.proofs.lemmas.Bool.Decides.{nat_tests}
 use Rattle.reg_names.specs.declared.TheConstants.{KEY_NAME_LIMIT}
 use Rattle.reg_names.specs.Names.{is_value_name_byte, is_key_name_byte, is_key_name, text_of}
-use Rattle.reg_heap.specs.Paths.{Tree, Rec}
+use Rattle.reg_heap.specs.Paths.{Tree}
 use Rattle.reg_heap.specs.Trees.{IsTree, IsWithinLimits}
 use Rattle.reg_heap.specs.Edits.{folded_path}
 use Rattle.reg_tree.specs.declared.node.Node.{Node}

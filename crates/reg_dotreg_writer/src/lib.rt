@@ -6,8 +6,8 @@
 //! a path it takes, and on reg_diff, which reads and compares values.
 //!
 //! `encoding` appends characters and units in UTF-8 or UTF-16, `units` reads strings, `value` tells a value's entry, `block` a key's,
-//! `start` begins a walk with the names that lead to a key, and `writable` looks at the names. Of changes, `side` says which tree one is of,
-//! `telling` which values are told, `change` tells a key's block, `changing` the file, and `unwritable` looks at the names. Its type is
+//! `start` begins a walk with the names that lead to a key, and `writable` looks at the names. Of changes, `side` says which tree one is
+//! of, `telling` which values are told, `change` tells a key's block, `changing` the file, and `unwritable` looks at the names. Its type is
 //! [`ExportFault`].
 #![tactic(auto)]
 

@@ -148,8 +148,8 @@ fn apply_change<C: Callback>(
 /// moment and the next sequence number.
 ///
 /// The change is made by the calls of an import of a .reg text that says it. It is hindered, and nothing is made: where the key isn't there
-/// of which a value is set or goes, or the key above the one that is made, unless missing keys are made; where a value that goes isn't there;
-/// and where the key that goes isn't there, is the root, or has keys below it that aren't to go.
+/// of which a value is set or goes, or the key above the one that is made, unless missing keys are made; where a value that goes isn't
+/// there; and where the key that goes isn't there, is the root, or has keys below it that aren't to go.
 pub fn change<F: Source>(
     alloc: Global,
     file: &mut F,

@@ -62,9 +62,9 @@ fn copy_from<F: Source>(
     }
 }
 
-/// Loads a tree from the image at the front of each of two files, copies the key at a path of the first, with all that is below it, to right
-/// below the key at a path of the second ([`reg_copy::copy`]), and answers the second with the moment of the copy and the next sequence
-/// number.
+/// Loads a tree from the image at the front of each of two files, copies the key at a path of the first, with all that is below it, to
+/// right below the key at a path of the second ([`reg_copy::copy`]), and answers the second with the moment of the copy and the next
+/// sequence number.
 ///
 /// `Source` where the first image doesn't load, and then nothing was read of the second file; else `Target` where the second one doesn't;
 /// else `Copy`.

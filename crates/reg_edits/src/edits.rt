@@ -160,7 +160,8 @@ pub enum FreshFault {
     Memory,
 }
 
-/// A hive of one root of that name at moment 0, with the descriptor of a script's root. No session has a seat, and no callback is registered.
+/// A hive of one root of that name at moment 0, with the descriptor of a script's root. No session has a seat, and no callback is
+/// registered.
 pub fn fresh_hive(alloc: Global, name: &[u8]) -> Result<Hive<NoCallback>, FreshFault>
     ensures ok { IfOk result (λ hive. IsFreshHive name.now (view_of hive)) }
     ensures noted { IfOk result (λ hive. noted_of hive ≡ []) }

@@ -188,10 +188,10 @@ fn read_whole<R: Source>(alloc: Global, input: &mut R) -> Result<Vec<u8>, Import
     read_parts(alloc, input, part.as_mut_slice())
 }
 
-/// Loads a hive from the image at the front of a file, makes in it the entries of the .reg text on an input, all at one moment, and
-/// answers the hive that they left, with that moment and the next sequence number. In the text a front stands for the hive's root, where
-/// one is given, in UTF-8, else the root's name. Where lines of the text aren't understood, it tells all of them, or the first alone, and no entry is
-/// made.
+/// Loads a hive from the image at the front of a file, makes in it the entries of the .reg text on an input, all at one moment, and answers
+/// the hive that they left, with that moment and the next sequence number. In the text a front stands for the hive's root, where one is
+/// given, in UTF-8, else the root's name. Where lines of the text aren't understood, it tells all of them, or the first alone, and no entry
+/// is made.
 ///
 /// The input is read to its end before an entry is made; a read of it that fails, or is interrupted, isn't tried again.
 pub fn import<F: Source, R: Source>(

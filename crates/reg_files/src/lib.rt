@@ -1,14 +1,14 @@
 //! Hive files by path: dumped, counted, queried, compared, made, edited, changed, exported and imported.
 //!
-//! Its one contract is that of [`file_tool`]: the status is 0 only where the words are a command line and what it asks for was done; 1 where
-//! something was refused or faulty, which is reported, or where `diff` wrote a difference; 2 for any other words, and then nothing is touched,
-//! and of both options of `run` that is told. It stands on reg_words, which reads the words, on reg_command for the standard streams, on
-//! reg_queries and reg_edits, and on reg_tree_image, by which it saves. What is to be saved has clauses (`specs/Saves.antt`); what files hold
-//! no clause can say.
+//! Its one contract is that of [`file_tool`]: the status is 0 only where the words are a command line and what it asks for was done; 1
+//! where something was refused or faulty, which is reported, or where `diff` wrote a difference; 2 for any other words, and then nothing is
+//! touched, and of both options of `run` that is told. It stands on reg_words, which reads the words, on reg_command for the standard
+//! streams, on reg_queries and reg_edits, and on reg_tree_image, by which it saves. What is to be saved has clauses (`specs/Saves.antt`);
+//! what files hold no clause can say.
 //!
-//! `answers` answers a request, by `streams`, `queries`, `differing`, `timelines`, `commands` and `copying`; `images` opens what is looked into, `saved`
-//! is what is saved, `locks` and `saving` have the steps on files, `device` keeps why one failed, and `reports` says it. Its types are
-//! [`Device`] and the bounds [`Output`] and [`Lockable`].
+//! `answers` answers a request, by `streams`, `queries`, `differing`, `timelines`, `commands` and `copying`; `images` opens what is looked
+//! into, `saved` is what is saved, `locks` and `saving` have the steps on files, `device` keeps why one failed, and `reports` says it. Its
+//! types are [`Device`] and the bounds [`Output`] and [`Lockable`].
 #![tactic(auto)]
 
 mod answers;

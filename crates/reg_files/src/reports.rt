@@ -267,7 +267,8 @@ pub fn settle<E: Sink>(alloc: Global, errors: &mut E, file: &str, done: Result<(
     }
 }
 
-/// Reports a fault of a command on a file, which a failed write of the output ended, and why that failed, save where nobody reads it any more.
+/// Reports a fault of a command on a file, which a failed write of the output ended, and why that failed, save where nobody reads it any
+/// more.
 fn report_cut_fault<W: Output, E: Sink>(
     alloc: Global,
     errors: &mut E,

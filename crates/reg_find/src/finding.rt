@@ -141,8 +141,8 @@ fn has_told(output: &Output<String>) -> bool
 
 /// Finds a pattern in a tree, in the order of a dump: of each key a line with its path where its own name or that path is searched and
 /// matches, and behind it one for each of its values of which the name, the data told as a line, or a text that the data hold, are searched
-/// and match, once, whichever did. The text goes to the writer while the keys are gone over, some 64 KB at a time, and at the end the writer
-/// is flushed. Answers whether anything was found.
+/// and match, once, whichever did. The text goes to the writer while the keys are gone over, some 64 KB at a time, and at the end the
+/// writer is flushed. Answers whether anything was found.
 ///
 /// `Write` only where a write or the flush failed, after so many bytes of the text, and nothing more is asked of the writer then;
 /// `Memory` only where none failed, after some front of the text, also where 64 bits can't count the keys, though no tree has so many.

@@ -12,11 +12,11 @@ pub const BINS_LIMIT: u32 = 268_435_456;
 
 /// The most bytes by which one call lets the bins grow, counted generously: 1.25 MiB, 320 pages of 4,096 bytes.
 ///
-/// A call appends a bin for each of its cells at most, where those are within this bound, and else one for all of them.
-/// SetValue takes most: a record of 16,408 bytes with a name of 16,383, a list of 65,544 for 16,384 values, and for data of
-/// 1,048,576 bytes a big data record of 16, its list of 264, 64 segments of 16,352 and one of 2,568. With the bin's header
-/// of 32 that is 1,131,360, one bin of 1,134,592. The cells of CreateKey have at most 255,280, with an index root of 60,000 lists, and the security of a
-/// descriptor of 65,535 bytes, by CreateKey or SetSecurity, 65,560.
+/// A call appends a bin for each of its cells at most, where those are within this bound, and else one for all of them. SetValue takes
+/// most: a record of 16,408 bytes with a name of 16,383, a list of 65,544 for 16,384 values, and for data of 1,048,576 bytes a big data
+/// record of 16, its list of 264, 64 segments of 16,352 and one of 2,568. With the bin's header of 32 that is 1,131,360, one bin of
+/// 1,134,592. The cells of CreateKey have at most 255,280, with an index root of 60,000 lists, and the security of a descriptor of 65,535
+/// bytes, by CreateKey or SetSecurity, 65,560.
 pub const GROWTH_BOUND: u32 = 1_310_720;
 
 /// The most subkeys of a key.

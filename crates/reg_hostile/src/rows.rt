@@ -222,8 +222,8 @@ enum Outcome {
     Ended,
 }
 
-/// How many rows were answered, how many of them not at once, and how many images were made again for want of memory. One allocation that is
-/// refused is told in one of these, or ends the run: else it was passed over.
+/// How many rows were answered, how many of them not at once, and how many images were made again for want of memory. One allocation that
+/// is refused is told in one of these, or ends the run: else it was passed over.
 #[derive(Clone, Copy)]
 struct Counts {
     rows: u32,

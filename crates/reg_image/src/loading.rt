@@ -29,8 +29,8 @@ pub struct NumberedHive<C> {
 /// no byte more.
 ///
 /// The hive is a new one: its journal is empty, no session has a seat, and no callback is registered. The faults are those of that call,
-/// and `Memory` also where it lacks for the hive itself. The image that a hive made meets none but `Read` and `Memory` (clause `own`), and is
-/// taken as it stands (clause `stands`).
+/// and `Memory` also where it lacks for the hive itself. The image that a hive made meets none but `Read` and `Memory` (clause `own`), and
+/// is taken as it stands (clause `stands`).
 pub fn load<R: Source, C: Callback>(alloc: Global, input: &mut R) -> Result<Hive<C>, LoadFault>
     ensures ok { IfOk result (λ hive. (image : List ℕ) × Consumes (R.remaining input.old) (R.remaining input.new) image
         × IsLoaded image (view_of hive)) }

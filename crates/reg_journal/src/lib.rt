@@ -114,9 +114,9 @@ impl Journal {
         }
     }
 
-    /// Gives the sessions below `n` their seats, once: a share of each, in order, that has counted no call. That is before the first
-    /// entry of all (clauses `never` and `first`). `Seated` where seats were given before, else `Count` where `n` is 0 or above 64, else `Memory`; then
-    /// nothing changed.
+    /// Gives the sessions below `n` their seats, once: a share of each, in order, that has counted no call. That is before the first entry
+    /// of all (clauses `never` and `first`). `Seated` where seats were given before, else `Count` where `n` is 0 or above 64, else
+    /// `Memory`; then nothing changed.
     pub fn seat(&mut self, n: u8) -> Result<Vec<Share>, SeatFault>
         ensures shares { IfOk result (λ shares. shares.items ≡ map (λ s. seat s 0) (range_with_len 0 n)) }
         ensures seated { OnOk result (self.new ≡ record self.old { noted = replicate n 0 }) }

@@ -8,7 +8,7 @@ use std::marker::Model;
 pub const INLINE_BYTES: usize = 16;
 
 /// Bytes that contracts see as a list: a name, a value's data or a security descriptor. Few take no memory of their own.
-#[derive(Debug, Drop)]
+#[derive(Debug)]
 pub struct Bytes {
     items: SmallVec<u8, INLINE_BYTES>,
 }
@@ -21,8 +21,15 @@ impl Model for Bytes {
     ghost view = { λ b. b.items.items };
 }
 
+// By hand, so that a caller that drops bytes calls this, and has no way of its own for those inline and those in memory.
+impl Drop for Bytes {
+    fn drop(self) {
+        let Bytes { items: _ } = self;
+    }
+}
+
 impl Bytes {
-    /// The bytes of a vector, without a copy where they are many.
+    /// The bytes of a vector, which is kept as it is where it has room for more than [`INLINE_BYTES`].
     pub fn from_vec(items: Vec<u8>) -> Bytes
         ensures { result ≡ items.items }
     {

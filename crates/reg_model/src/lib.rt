@@ -1,11 +1,11 @@
 //! Calls on a hive and their replies, as plain values, and the definitions of what each call means.
 //!
-//! Its one contract: a copy equals its source, and what is the same is told to be. What a call means stands in `specs/`, for the contracts of the crates above: worlds
-//! and what a change makes of them, causes of refusals, replies, legal journals, notifications; [`laws`] says what holds of these. It stands on
-//! reg_names and reg_heap.
+//! Its one contract: a copy equals its source, and what is the same is told to be. What a call means stands in `specs/`, for the contracts
+//! of the crates above: worlds and what a change makes of them, causes of refusals, replies, legal journals, notifications; [`laws`] says
+//! what holds of these. It stands on reg_names and reg_heap.
 //!
-//! Its types are [`Change`] and [`Query`], which are [`Call`]s; [`ChangeReply`] and [`Answer`]; [`Entry`], an accepted change, and its [`Receipt`]; [`Step`]
-//! and [`Outcome`], a call made and told; [`Notice`], a notification; and [`Bytes`].
+//! Its types are [`Change`] and [`Query`], which are [`Call`]s; [`ChangeReply`] and [`Answer`]; [`Entry`], an accepted change, and its
+//! [`Receipt`]; [`Step`] and [`Outcome`], a call made and told; [`Notice`], a notification; and [`Bytes`].
 //!
 //! In `specs/`, `Worlds` says what an accepted change makes of a world, `Causes` why a call is refused, `Callbacks` what callbacks
 //! answer, `Replies` the reply to an accepted call, `Watches` which watches a change ends, `Calls` one call whole, and `Histories` what

@@ -1,5 +1,5 @@
 -- Two names compared byte by byte.
-use Rattle.std.proofs.Common.{IsTrue, ◌≡◌, ◌≢◌, ℕ, zero, suc, ◌+◌, ◌-◌, ◌≤◌, ◌<◌, Bool, true, false, List, [], ◌∷◌, length, drop, get_or, sym, ap, ◌∙◌, refl, arith, map, cond, ◌⊎◌, inl, inr}
+use Rattle.std.proofs.Common.{IsTrue, ◌≡◌, ℕ, zero, suc, ◌+◌, ◌-◌, ◌≤◌, Bool, true, false, List, [], ◌∷◌, length, drop, get_or, sym, ap, ◌∙◌, refl, arith, ◌⊎◌, inl, inr}
 use Rattle.std.proofs.Common.{length-drop, min, take}
 use Rattle.std.proofs.Math.Seq.{take-add}
 use Rattle.std.specs.Ordering.{nat_cmp, is_eq}

@@ -1,5 +1,5 @@
 -- What was found along a path of an image, told: the lines of a key, one by one, and that a key's text, or a value's, is that of the tree.
-use Rattle.std.proofs.Common.{◌≡◌, ℕ, ◌+◌, ◌<◌, ◌≤◌, List, [], ◌∷◌, ◌++◌, map, drop, get_or, length, Bool, true, false, Option, Some, None, Ok, refl, sym, ap, ◌∙◌, subst}
+use Rattle.std.proofs.Common.{◌≡◌, ℕ, ◌+◌, ◌<◌, ◌≤◌, List, [], ◌∷◌, ◌++◌, map, drop, get_or, length, Bool, true, Option, Some, None, Ok, refl, sym, ap, ◌∙◌, subst}
 use Rattle.std.specs.Prelude.{Vec, flat_map, ◌&&◌, is_some, if◌then◌else◌}
 use Rattle.std.specs.FinMap.{get}
 use Rattle.std.specs.Option.{option_map, option_and_then}
@@ -7,14 +7,14 @@ use Rattle.std.specs.Io.KnownBytes.{Appends}
 use Rattle.std.proofs.lemmas.List.{drop_all, drop_more}
 use Rattle.std.proofs.lemmas.Option.{same_Some}
 use Rattle.std.proofs.lemmas.List.Folds.{flat_map-map}
-use Rattle.reg_names.specs.Names.{is_path, path_of, folded}
+use Rattle.reg_names.specs.Names.{is_path, path_of}
 use Rattle.reg_heap.specs.Paths.{Path, Rec, Tree, Member, children_of}
 use Rattle.reg_heap.specs.Edits.{folded_path, values_at, values_of}
 use Rattle.reg_heap.specs.Members.{value_named}
 use Rattle.reg_tree_image.specs.Images.{loaded}
 use Rattle.reg_tree_image.specs.declared.path_listing.ListedValue.{ListedValue}
 use Rattle.reg_tree_image.specs.KeysAtPaths.{listed_in, names_in}
-use Rattle.reg_tree_image.specs.KeyListing.{Listing, listed_member, name_found, names_below, listing_in_tree}
+use Rattle.reg_tree_image.specs.KeyListing.{Listing, listed_member, name_found, names_below}
 use Rattle.reg_tree_image.specs.PathLoads.{ListsThere, FindsThere}
 use Rattle.reg_tree_text.specs.DumpTexts.{name_of}
 use Rattle.reg_tree_text.specs.Listings.{key_line, value_lines, list_text}

@@ -47,8 +47,8 @@ fn diff_from<R: Source, W: Sink>(
 /// these are whole hives.
 ///
 /// `Old` where the old image doesn't load, and then nothing was read of the new one; else `New` where the new one doesn't; else `NoOldKey`
-/// where the text is no path or the old hive has no key there, and else `NoNewKey` where the new one has none. With any of these nothing was
-/// written. Else `Stopped` after a front of the text.
+/// where the text is no path or the old hive has no key there, and else `NoNewKey` where the new one has none. With any of these nothing
+/// was written. Else `Stopped` after a front of the text.
 pub fn diff<R: Source, S: Source, W: Sink>(
     alloc: Global,
     old: &mut R,

@@ -164,9 +164,9 @@ fn look_up_key<R: Source, W: Sink>(
 
 /// Lists the key at a path of an image: its values and the keys right below it, or with `is_tree` all keys below it and their values. Where
 /// not all below it is listed, just the bins and cells of the image are tested, and of the records those that are passed on the way to the
-/// key, its values and their data, and the nodes of the keys right below it, whose names aren't compared and which aren't counted: where the
-/// image loads, the text is that of its tree; where it doesn't, the first fault on the way is told, if there is one. With `is_tree` or `is_whole` the image is loaded first, and so it is where
-/// the text is no path.
+/// key, its values and their data, and the nodes of the keys right below it, whose names aren't compared and which aren't counted: where
+/// the image loads, the text is that of its tree; where it doesn't, the first fault on the way is told, if there is one. With `is_tree` or
+/// `is_whole` the image is loaded first, and so it is where the text is no path.
 pub fn list<R: Source, W: Sink>(
     alloc: Global,
     image: &mut R,

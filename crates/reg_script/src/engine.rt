@@ -563,8 +563,8 @@ pub fn run_counted<R: Read, W: Write, C: Callback>(
     }
 }
 
-/// Runs a script as [`run_to`] does, from `moment` on, to its first line that failed: that has no form of a line, or whose change was
-/// told another status than 0. Such a line's reply is the last that is written, the hive is as the lines before it left it, and what was read
+/// Runs a script as [`run_to`] does, from `moment` on, to its first line that failed: that has no form of a line, or whose change was told
+/// another status than 0. Such a line's reply is the last that is written, the hive is as the lines before it left it, and what was read
 /// behind it does nothing. A question's status never ends it.
 pub fn run_strictly<R: Read, W: Write, C: Callback>(
     alloc: Global,

@@ -179,10 +179,10 @@ fn first_spot<C: Callback>(audit: &Audit<C>, sessions: &[Session]) -> Option<Spo
 }
 
 /// Takes the hives out of their locks, and compares each journal with the receipts of all sessions. Where it is Ok, each journal holds of
-/// each session just the accepted changes since the last checkpoint that the session has receipts of, in order, and no others. `Sessions` exactly where the list
-/// isn't that of the sessions that were started, in order; it hands all back. Else `Mismatch` where a receipt and its entry differ, or one
-/// is missing, or where a notice that was taken isn't the one that was told. Where it is Ok, each session took the first of the notices
-/// that each hive told it, in order. Takes no memory.
+/// each session just the accepted changes since the last checkpoint that the session has receipts of, in order, and no others. `Sessions`
+/// exactly where the list isn't that of the sessions that were started, in order; it hands all back. Else `Mismatch` where a receipt and
+/// its entry differ, or one is missing, or where a notice that was taken isn't the one that was told. Where it is Ok, each session took the
+/// first of the notices that each hive told it, in order. Takes no memory.
 pub fn gather<C: Callback>(
     registry: Registry<C>,
     sessions: Vec<Session>,

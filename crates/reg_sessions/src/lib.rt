@@ -1,10 +1,10 @@
 //! Sessions on threads of their own: up to 64 sessions call up to 16 hives, each of which stands behind a lock.
 //!
 //! Its one contract: whenever a hive's lock is free, the hive is whole, its book counts each of its entries (`IsAdmitted` in
-//! `specs/Locked.antt`, the property of the [`Locked`] type), and what its rings were sent is what its sessions were told first (`AreAhead`). A
-//! session keeps a receipt of each accepted change since the hive's last checkpoint. When all sessions are gathered, each journal holds
-//! just these changes, each once; those before were compared by the checkpoint. It stands on reg_calls, which answers the calls, on
-//! reg_image, which makes the image of a checkpoint, and on reg_outbox, whose rings bring notices to sessions.
+//! `specs/Locked.antt`, the property of the [`Locked`] type), and what its rings were sent is what its sessions were told first
+//! (`AreAhead`). A session keeps a receipt of each accepted change since the hive's last checkpoint. When all sessions are gathered, each
+//! journal holds just these changes, each once; those before were compared by the checkpoint. It stands on reg_calls, which answers the
+//! calls, on reg_image, which makes the image of a checkpoint, and on reg_outbox, whose rings bring notices to sessions.
 //!
 //! [`start`] puts hives behind locks, and makes a [`Registry`] and the [`Session`]s. A session goes to the thread that calls by it.
 //! Each call names its hive, waits for that hive's lock, and lets it go once it is answered. No call holds two locks. [`drive`] runs

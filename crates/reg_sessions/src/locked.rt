@@ -146,8 +146,8 @@ impl<C: Callback> Locked<C> {
         reply
     }
 
-    /// Answers a change for whose receipt there is no memory: 1009 as of `change`, else its first cause, or else 8. Takes no memory. That is
-    /// lawful of a Close only where its session has no open handle.
+    /// Answers a change for whose receipt there is no memory: 1009 as of `change`, else its first cause, or else 8. Takes no memory. That
+    /// is lawful of a Close only where its session has no open handle.
     pub(crate) fn lack(&self, share: &Share, mark: u64, moment: u64, change: &Change) -> ChangeReply
         ensures refused { result.status ≢ 0 }
         ensures lawful { result.status ≢ BAD_DATABASE → (handles : ℕ) → (closes change.now ≡ true → handles ≡ 0) →

@@ -17,9 +17,9 @@ use std::alloc::{AllocError, Global};
 use std::marker::Model;
 use std::sync::{Mutex, Wait};
 
-/// What a session has at one hive: its seat, a receipt of each of its accepted changes there since the last checkpoint, and its mark; its end of the ring by which
-/// the hive's notices come, and those that it took. For the closing of each handle that it has open there is room for the receipt, so that
-/// a Close takes no memory; for the notice of each accepted Notify there is room, so that to take it takes none.
+/// What a session has at one hive: its seat, a receipt of each of its accepted changes there since the last checkpoint, and its mark; its
+/// end of the ring by which the hive's notices come, and those that it took. For the closing of each handle that it has open there is room
+/// for the receipt, so that a Close takes no memory; for the notice of each accepted Notify there is room, so that to take it takes none.
 #[derive(Drop)]
 pub struct Place {
     share: Share,
@@ -227,8 +227,8 @@ impl Place {
         self.taken.as_slice()
     }
 
-    /// Takes the next notice out of the ring. `None` where the ring is empty, and where there is no room for a notice more, as there is while
-    /// fewer were taken than Notify calls were accepted. Takes no memory and no lock.
+    /// Takes the next notice out of the ring. `None` where the ring is empty, and where there is no room for a notice more, as there is
+    /// while fewer were taken than Notify calls were accepted. Takes no memory and no lock.
     pub fn take_notice(&mut self) -> Option<Notice>
         ensures taken { self.new.taken ≡ self.old.taken ++ notice_of result }
         ensures popped { self.new.popped ≡ self.old.popped ++ notice_of result }

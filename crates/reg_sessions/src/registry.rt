@@ -11,7 +11,8 @@ use std::sync::{Mutex, Wait};
 /// How many hives a registry has at most.
 pub const HIVES_LIMIT: usize = 16;
 
-/// Room for all hives of an audit, so that gathering takes no memory. It stands behind a lock as the hives do, since callbacks needn't be `Sync`.
+/// Room for all hives of an audit, so that gathering takes no memory. It stands behind a lock as the hives do, since callbacks needn't be
+/// `Sync`.
 #[derive(Drop)]
 pub struct Room<C = Box<dyn Callback + Send>> {
     hives: Vec<Locked<C>>,
@@ -101,8 +102,8 @@ impl<C: Callback> Registry<C> {
         guard.register(callback, altitude)
     }
 
-    /// Takes the callback of a cookie out of a hive, as `Hive::unregister` of reg_calls: it waits for the hive's lock. `NoSuchCookie` is its
-    /// one fault. Takes no memory.
+    /// Takes the callback of a cookie out of a hive, as `Hive::unregister` of reg_calls: it waits for the hive's lock. `NoSuchCookie` is
+    /// its one fault. Takes no memory.
     pub fn unregister<Rt: Wait>(
         &self,
         rt: &Rt,

@@ -106,10 +106,10 @@ impl Session {
         }
     }
 
-    /// Makes a change at a hive, at a moment (100 ns units since 1601): it waits for the hive's lock, and is answered as by
-    /// `Hive::apply` of reg_calls. Where it is accepted, and only then, the session has one receipt more, of this moment, change and
-    /// reply. 1009 also where the hive has had fewer entries than the session's mark there, which is never so at the hive that gave the seat. Want of
-    /// memory is 8, where nothing else refuses the change, and never the answer to a Close while a handle of the session is open there.
+    /// Makes a change at a hive, at a moment (100 ns units since 1601): it waits for the hive's lock, and is answered as by `Hive::apply`
+    /// of reg_calls. Where it is accepted, and only then, the session has one receipt more, of this moment, change and reply. 1009 also
+    /// where the hive has had fewer entries than the session's mark there, which is never so at the hive that gave the seat. Want of memory
+    /// is 8, where nothing else refuses the change, and never the answer to a Close while a handle of the session is open there.
     #[tactic(auto, using(crate::proofs::SessionPlaces::place_set))]
     pub fn change<Rt: Wait, G: HiveGate, C: Callback>(
         &mut self,
@@ -171,9 +171,9 @@ impl Session {
     }
 
     /// Takes the session's next notice of a hive, if one has come: it takes no lock and no memory. What the hive keeps back comes by the
-    /// session's next change or question there, as far as the ring of 64 has room then. A notice that was taken is kept, and compared when all
-    /// are gathered. `None` where the ring is empty, and may be so where as many notices were taken as Notify calls were accepted there; then
-    /// nothing changed.
+    /// session's next change or question there, as far as the ring of 64 has room then. A notice that was taken is kept, and compared when
+    /// all are gathered. `None` where the ring is empty, and may be so where as many notices were taken as Notify calls were accepted
+    /// there; then nothing changed.
     #[tactic(auto, using(crate::proofs::SessionPlaces::place_set, crate::proofs::SessionPlaces::set_same))]
     pub fn take_notice<C: Callback>(&mut self, _registry: &Registry<C>, hive: u8) -> Option<Notice>
         requires seat { hive < length self.old.places }

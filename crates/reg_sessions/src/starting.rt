@@ -179,9 +179,9 @@ fn locked<C: Callback>(
     Ok(locks)
 }
 
-/// Puts hives behind locks, and starts the sessions below `n`, each with a seat and a ring at each hive, no receipt, and marks of 0. The hives get
-/// the numbers from 0 on, in order. `Hives` where there is none or more than 16, else `Sessions` where `n` is 0 or above 64, else `Used`
-/// where a hive gave seats before or has an entry, else `Memory`; the hives are dropped then.
+/// Puts hives behind locks, and starts the sessions below `n`, each with a seat and a ring at each hive, no receipt, and marks of 0. The
+/// hives get the numbers from 0 on, in order. `Hives` where there is none or more than 16, else `Sessions` where `n` is 0 or above 64, else
+/// `Used` where a hive gave seats before or has an entry, else `Memory`; the hives are dropped then.
 #[tactic(auto, using(crate::proofs::Starts::in_order, crate::proofs::Starts::each_fresh))]
 pub fn start<C: Callback>(
     alloc: Global,

@@ -2,15 +2,15 @@
 //!
 //! Its one contract: [`export_json`], [`export_jsonl`], [`export_html`] and [`export_csv`] write just the text that `specs/Tables.antt` and
 //! `specs/Pages.antt` say of the key that is there and of all below it, or a front of it where a write or memory fails; where there is
-//! none, they say so and write nothing. So does [`list_long`] of a key and what is below it (`specs/LongListings.antt`), and [`get_typed`] of
-//! a value (`specs/TypedValues.antt`). It stands on reg_tree_text, whose walk, gathered output and texts of data it takes, and on serde_json,
-//! csv and jiff, whose own words the texts are. Its types are [`Columns`] and [`Timeline`], which writes the keys of several trees by the time
-//! of their last write (`specs/Timelines.antt`), with [`TimelineForm`].
+//! none, they say so and write nothing. So does [`list_long`] of a key and what is below it (`specs/LongListings.antt`), and [`get_typed`]
+//! of a value (`specs/TypedValues.antt`). It stands on reg_tree_text, whose walk, gathered output and texts of data it takes, and on
+//! serde_json, csv and jiff, whose own words the texts are. Its types are [`Columns`] and [`Timeline`], which writes the keys of several
+//! trees by the time of their last write (`specs/Timelines.antt`), with [`TimelineForm`].
 //!
 //! `keys` begins a walk at a key, with the names that lead to it. `gather` makes of a key a struct of `entry`, which `json_table` writes
 //! between the texts of `layout`, for a page those of `page`; `comma_table` writes the rows of `row`. `form` and `units` say what data are
-//! in JSON, `told_form` what a row says of their form, `sddl` how a security descriptor is told, `shield` how JSON stands in a page, and `time`
-//! how an instant is written. `typed` tells a value with its type, and `long_line` the lines of a listing.
+//! in JSON, `told_form` what a row says of their form, `sddl` how a security descriptor is told, `shield` how JSON stands in a page, and
+//! `time` how an instant is written. `typed` tells a value with its type, and `long_line` the lines of a listing.
 #![tactic(auto)]
 
 mod columns;

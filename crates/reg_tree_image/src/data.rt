@@ -158,7 +158,8 @@ fn big_data<'a>(
     Ok(ReadData::Copied(bytes))
 }
 
-/// Names the cells of a value's data, and reads it; that of several cells is copied. `size` and `offset` are those fields of the value's record, as they stand.
+/// Names the cells of a value's data, and reads it; that of several cells is copied. `size` and `offset` are those fields of the value's
+/// record, as they stand.
 ///
 /// With the top bit of `size` the data stands in `offset`: more than 4 bytes are `Record`. Else more than 1,048,576 are `Limit`,
 /// before anything is named. Of size 0 nothing is named. Up to 16,344 bytes, and in minor version 3 data of any size, stand in

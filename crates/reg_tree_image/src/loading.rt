@@ -240,13 +240,14 @@ fn load_by<R: Source>(
 /// The first test that fails is the fault. `Short` where the image ends before its base block or its bins do, `Read` only where a read
 /// fails, and then no other is made: one that is interrupted fails too. Of the base block `Signature`, `Version`, `Checksum`, `Dirty`,
 /// `Bins` and `Limit`; of the bins, once all are read, `Bins` where the header of one is bad, else `Cells` where a cell's size is; of the
-/// keys, as they are met from the root on, `Record`, `Loop`, `Twice`, `NotInProfile` and `Limit`. Where none of these tests fails,
-/// `Limit` comes for want of room in the new bins: bins that came about by building the keys in the order in which they are met, each
-/// with just the cells that it takes, and grew only where no free cell had room for the cells of a key or of values. They have none for a key's key node with its class, its descriptor and its place in a
-/// list, or then none for its values: for as many of them together, from the first on, as have cells of at most 16,777,216 bytes with a
-/// list that has room for all, or then again for as many of those that are left as have cells of at most so many bytes. No room is that
-/// no free cell has room for all cells of one of these, and that with a bin more for them the bins would pass 268,435,456 bytes. `Memory`
-/// may come as soon as the base block passed. The image of a whole hive meets none of these but `Read` and `Memory`.
+/// keys, as they are met from the root on, `Record`, `Loop`, `Twice`, `NotInProfile` and `Limit`. Where none of these tests fails, `Limit`
+/// comes for want of room in the new bins: bins that came about by building the keys in the order in which they are met, each with just the
+/// cells that it takes, and grew only where no free cell had room for the cells of a key or of values. They have none for a key's key node
+/// with its class, its descriptor and its place in a list, or then none for its values: for as many of them together, from the first on, as
+/// have cells of at most 16,777,216 bytes with a list that has room for all, or then again for as many of those that are left as have cells
+/// of at most so many bytes. No room is that no free cell has room for all cells of one of these, and that with a bin more for them the
+/// bins would pass 268,435,456 bytes. `Memory` may come as soon as the base block passed. The image of a whole hive meets none of these but
+/// `Read` and `Memory`.
 pub fn load_tree<R: Source>(alloc: Global, input: &mut R) -> Result<Tree, LoadFault>
     ensures ok { IfOk result (λ tree. ReadsImage (R.remaining input.old) (R.remaining input.new) tree.tree) }
     ensures err { IfErr result (λ fault. MeetsFault fault (R.remaining input.old) (R.remaining input.new)) }

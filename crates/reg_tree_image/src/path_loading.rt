@@ -95,8 +95,8 @@ fn value_in_bins(
 /// and the cells; of the records only those are read that are passed in looking for the key and then the value. Names are compared after
 /// folding.
 ///
-/// The first test on the way that fails is the fault. Where the image would load, it is what its tree has there, and only a read may fail or
-/// memory lack. Of an image that doesn't load there may be an answer, or another fault than loading meets, since not all is read.
+/// The first test on the way that fails is the fault. Where the image would load, it is what its tree has there, and only a read may fail
+/// or memory lack. Of an image that doesn't load there may be an answer, or another fault than loading meets, since not all is read.
 pub fn value_at_path<R: Source>(
     alloc: Global,
     input: &mut R,

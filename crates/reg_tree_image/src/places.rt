@@ -278,9 +278,9 @@ fn unread(fault: LoadFault) -> Result<Option<FaultPlace>, LoadFault>
 /// of room in new bins has no place.
 ///
 /// A bad bin and a bad size of a cell are told by their offsets; a key by that of its node, also where its name comes twice or it is too
-/// deep; a class, a security, a list of values or of subkeys by the offset that the key or the index root has for it; a value by that of its
-/// record, and data that stands elsewhere by the offset that the record has for it, but for data that is too long; a key's 60,001st subkey
-/// by that of its node. Takes memory as the walk of the keys does.
+/// deep; a class, a security, a list of values or of subkeys by the offset that the key or the index root has for it; a value by that of
+/// its record, and data that stands elsewhere by the offset that the record has for it, but for data that is too long; a key's 60,001st
+/// subkey by that of its node. Takes memory as the walk of the keys does.
 pub fn fault_place<R: Source>(alloc: Global, input: &mut R) -> Result<Option<FaultPlace>, LoadFault>
     ensures ok { IfOk result (λ place. Locates (R.remaining input.old) (R.remaining input.new) (option_map place_in place)) }
     ensures err { IfErr result (λ fault. NotLocated fault (R.remaining input.old) (R.remaining input.new)) }

@@ -76,8 +76,8 @@ impl Room {
         self.bins = arena.bins_size();
     }
 
-    /// Looks at the size of the bins. Where they grew, and not by a bin of its own for what came, that didn't fit in what was kept, which is
-    /// used up.
+    /// Looks at the size of the bins. Where they grew, and not by a bin of its own for what came, that didn't fit in what was kept, which
+    /// is used up.
     fn look(&mut self, bins: u32) {
         if self.bins < bins && !self.beside {
             self.kept = 0;

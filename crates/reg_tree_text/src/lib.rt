@@ -1,11 +1,10 @@
 //! What is said of a tree of keys as text: its dump, its keys listed, and a key or a value by its path.
 //!
 //! Its one contract: each call writes just the text that its definition says, byte for byte, or a front of it where a write or memory
-//! fails. [`dump`] tells all keys (`specs/DumpTexts.antt`), [`count`] and [`check_line`] how many keys and values there are, [`list`]
-//! and [`list_tree`] a key (`specs/Listings.antt`), and [`value_text`] is a value's data as one line (`specs/ValueTexts.antt`), which
-//! [`tell_value`] writes.
-//! [`list_at`] and [`get_at`] find the key or the value first, by a path and a name (`specs/PathQueries.antt`); where there is none, they say
-//! so and write nothing. It stands on reg_tree, whose trees it reads, and on reg_text.
+//! fails. [`dump`] tells all keys (`specs/DumpTexts.antt`), [`count`] and [`check_line`] how many keys and values there are, [`list`] and
+//! [`list_tree`] a key (`specs/Listings.antt`), and [`value_text`] is a value's data as one line (`specs/ValueTexts.antt`), which
+//! [`tell_value`] writes. [`list_at`] and [`get_at`] find the key or the value first, by a path and a name (`specs/PathQueries.antt`);
+//! where there is none, they say so and write nothing. It stands on reg_tree, whose trees it reads, and on reg_text.
 //!
 //! `walk` goes from key to key with a stack of those on the present path, `dump_line` and `list_line` tell a key ([`put_value_line`] and
 //! [`put_key_line`] its lines, one by one), and `output` sends what was gathered ([`settle`], [`finish`]), and names and data piece by

@@ -9,8 +9,8 @@ use reg_text::{Gathered, Output, Sink, write_digits, write_escaped};
 /// How many bytes of a name or of data are told at a time.
 const PIECE: usize = 8_192;
 
-/// Writes what was gathered, once it is enough, so that less than 65,536 bytes are left. A write that fails, or takes no byte, is a fault. `Memory` comes for a count of what was
-/// written that 64 bits can't hold, before anything is written.
+/// Writes what was gathered, once it is enough, so that less than 65,536 bytes are left. A write that fails, or takes no byte, is a fault.
+/// `Memory` comes for a count of what was written that 64 bits can't hold, before anything is written.
 pub fn settle<T: Gathered, W: Sink>(output: &mut Output<T>, writer: &mut W) -> Result<(), DumpFault>
     ensures tells { Tells (T.bytes output.old.gathered) output.old.written (W.contents writer.old, W.failures writer.old)
         (T.bytes output.new.gathered) output.new.written (W.contents writer.new, W.failures writer.new) [] result }

@@ -5,8 +5,8 @@
 //! as the writer took. It stands on reg_script, which understands the lines and writes the replies, and on reg_sessions, which drives the
 //! sessions.
 //!
-//! `reading` goes over the bytes; `plan` keeps what each line gives its session to do, in a `part` for each; `working` has the sessions do it;
-//! `replies` writes what came of it.
+//! `reading` goes over the bytes; `plan` keeps what each line gives its session to do, in a `part` for each; `working` has the sessions do
+//! it; `replies` writes what came of it.
 #![tactic(auto)]
 
 mod part;

@@ -1,6 +1,6 @@
 use Rattle.std.proofs.Common.{sym, ◌∙◌}
 use Rattle.std.specs.Prelude.{option_copied}
-use Rattle.reg_dotreg_writer.proofs.ShownRoots.{root-good, is-exported, is-cut_off, is-unwritable, not-begun}
+use Rattle.reg_dotreg_writer.proofs.ShownRoots.{root-good, is-exported, is-cut_off}
 use Rattle.reg_dotreg_writer.proofs.exporting.export.Goals as goal
 
 pub unwritable_at-requires-clause-root : goal.unwritable_at-requires-clause-root

@@ -1,5 +1,4 @@
 use Rattle.std.proofs.Common.{◌+◌, ◌*◌, arith, refl}
-use Rattle.std.proofs.lemmas.Bool.Decides.{nat_tests}
 use Rattle.reg_find.proofs.HeldTexts.{units_start, units_more, units_all}
 use Rattle.reg_find.proofs.wide.units_in.Goals as goal
 

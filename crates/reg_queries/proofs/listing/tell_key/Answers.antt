@@ -1,4 +1,4 @@
-use Rattle.std.proofs.Common.{◌≡◌, List, Some, ap, map, ◌∙◌, sym}
+use Rattle.std.proofs.Common.{ap, map, ◌∙◌}
 use Rattle.reg_tree_image.specs.KeysAtPaths.{listed_in, names_in, listing_there}
 use Rattle.reg_queries.proofs.LookSteps.{found-listing}
 use Rattle.reg_queries.proofs.listing.tell_key.Goals as goal

@@ -2,7 +2,7 @@ use Rattle.std.proofs.Common.{◌≡◌, ◌+◌, ◌-◌, ◌≤◌, ◌∙◌,
 use Rattle.reg_bins.specs.Internal.{bytes_of, IsBin, IsPut}
 use Rattle.reg_bins.proofs.BinBytes.{splice-none}
 use Rattle.reg_bins.proofs.Bins.{bin-there, is-inside, piece-fits, piece-long, moved, still-there, copied}
-use Rattle.reg_bins.proofs.row.BinRow.copy.Goals.{After-index_mut, After-move_in_bin, After-index, After-bin_slice, After-write_bin}
+use Rattle.reg_bins.proofs.row.BinRow.copy.Goals.{After-index_mut, After-move_in_bin, After-index, After-write_bin}
 use Rattle.reg_bins.proofs.row.BinRow.copy.Goals as goal
 
 pub returns-then-len-eq0-clause-items : goal.returns-then-len-eq0-clause-items
