@@ -3,16 +3,24 @@
  * A hive is a tree of keys in memory. It is made new or loaded from the bytes of a primary file (regf, versions 1.3 to 1.5), and its image
  * is such bytes again. The calls are those of the Win32 registry reference; docs/RULES.md says what each does.
  *
- *     zug_hive hive = {0};
- *     if (zug_hive_load(&hive, bytes, length, &fault) == 0) {
- *         zug_open_root(&hive, 0, moment, ZUG_ALL_ACCESS, &root);
- *         zug_set_value(&hive, 0, moment, root, ZUG_TEXT("Version"), ZUG_DWORD, data, 4);
+ *     #include <stdio.h>
+ *     #include <zugmeled.h>
+ *
+ *     int main(void) {
+ *         zug_hive hive = {0};
+ *         uint64_t root;
+ *         zug_hive_new(&hive, ZUG_TEXT("ROOT"), ZUG_EMPTY_SECURITY, 0);
+ *         zug_open_root(&hive, 0, 0, ZUG_ALL_ACCESS, &root);
+ *         printf("%u\n", zug_set_value(&hive, 0, 0, root, ZUG_TEXT("Version"), ZUG_DWORD, ZUG_TEXT("\4\0\0\0")));
+ *         zug_hive_close(&hive);
  *     }
- *     zug_hive_close(&hive);
+ *
+ * bindings/c/example.c goes on from there: it asks for the value, and saves the hive's image to a file.
  *
  * Status. Each function but zug_version and zug_hive_close answers a status of Win32: 0 is success. Under each stands which others come.
  * 6 comes where the zug_hive holds no hive, 87 where the session is 64 or above, both before all else. 8 comes where memory was refused:
- * for a copy of what was given, before all else that a call tests, or in place of a success that needed some. No call ends the process.
+ * for a copy of what was given, before all else that a call tests, or in place of a success that needed some. No call ends the process
+ * while the stack is enough.
  *
  * What goes out. A call that answers another status than 0 changes nothing of the hive, sets each number that it hands out to 0, and leaves
  * each room, a buffer of yours, as it was. Only 234 and 122 tell a size, and 234 a type, or the first row of several. With 0 a room has the
@@ -36,8 +44,11 @@
  *   - A pointer points to what its type says. NULL is only allowed before a length of 0: it is empty, as any other address is there.
  *   - What a call writes to overlaps nothing else that the call is given.
  *   - malloc, realloc and free are one allocator's. No call comes from a signal handler, nor from the child of a process with threads.
+ *   - The calling thread has enough stack: where that ends, the system ends the process. No proof says how much a call takes. The tests run
+ *     with the 8 MiB that Linux gives a thread; with less nothing was tried.
  *
- * Link libzugmeled.a: `cc program.c $(pkg-config --cflags --libs zugmeled)`.
+ * Link libzugmeled.a, which ./build --library puts in dist beside this header: `cc program.c -Idist dist/libzugmeled.a`. By pkg-config it is
+ * `cc program.c $(PKG_CONFIG_PATH=dist pkg-config --cflags --libs zugmeled)`.
  */
 #ifndef ZUGMELED_H
 #define ZUGMELED_H
@@ -170,7 +181,7 @@ uint32_t zug_image_part(zug_hive *hive, uint64_t moment, uint32_t sequence, uint
 
 /* ---- Changes ----
  * Each takes a session, below 64, to which its handles and notices belong: they are of use to it alone. Sessions need no start; where one
- * caller is enough, 0 is.
+ * caller is enough, 0 is. C cuts a number that uint8_t doesn't hold, before the call sees it: 256 is session 0.
  * Where a handle is given: 6 the session has no such handle, 1018 its key was deleted. All but zug_close: 1450 the journal has no room. */
 
 /* Opens a handle to the root, with the rights of a mask.

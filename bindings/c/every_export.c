@@ -1,7 +1,8 @@
 /* Goes through every function of zugmeled.h, and every status that it can answer but 1450 for a journal or for bins that are full, which
  * takes gigabytes, and for 10^18 entries. Then it makes, saves, loads and closes 10,000 hives.
  *
- *     cc -O2 every_export.c -Wl,--wrap=malloc -Wl,--wrap=realloc $(pkg-config --cflags --libs zugmeled) && ./a.out
+ *     cc -O2 bindings/c/every_export.c -Wl,--wrap=malloc -Wl,--wrap=realloc \
+ *         $(PKG_CONFIG_PATH=dist pkg-config --cflags --libs zugmeled) && ./a.out
  *
  * malloc and realloc are wrapped so that memory can be refused. The program ends with status 1 at the first call that answers otherwise.
  */
@@ -78,7 +79,8 @@ static uint64_t open_with(zug_hive *hive, uint64_t handle, uint32_t mask) {
 static uint64_t key(zug_hive *hive, uint64_t handle, const char *path) {
     uint64_t opened = 7;
     uint32_t disposition = 7;
-    IS(zug_create_key(hive, 0, MOMENT, handle, (const uint8_t *)path, strlen(path), ZUG_ALL_ACCESS, descriptor, 0, &opened, &disposition), 0);
+    const uint8_t *bytes = (const uint8_t *)path;
+    IS(zug_create_key(hive, 0, MOMENT, handle, bytes, strlen(path), ZUG_ALL_ACCESS, descriptor, 0, &opened, &disposition), 0);
     return opened;
 }
 
@@ -629,12 +631,17 @@ static uint32_t open_key_call(zug_hive *hive, uint64_t handle) {
 static uint32_t create_call(zug_hive *hive, uint64_t handle) {
     uint64_t opened;
     uint32_t disposition;
-    return zug_create_key(hive, 0, MOMENT, handle, TEXT("made of many letters\\below"), 1, TEXT("own, of many bytes"), &opened, &disposition);
+    return zug_create_key(hive, 0, MOMENT, handle, TEXT("made of many letters\\below"), 1, TEXT("own, of many bytes"),
+                          &opened, &disposition);
 }
 
-static uint32_t set_call(zug_hive *hive, uint64_t handle) { return zug_set_value(hive, 0, MOMENT, handle, TEXT("value of many letters"), 3, TEXT("more bytes than sixteen")); }
+static uint32_t set_call(zug_hive *hive, uint64_t handle) {
+    return zug_set_value(hive, 0, MOMENT, handle, TEXT("value of many letters"), 3, TEXT("more bytes than sixteen"));
+}
 
-static uint32_t security_call(zug_hive *hive, uint64_t handle) { return zug_set_security(hive, 0, MOMENT, handle, TEXT("third, of many bytes")); }
+static uint32_t security_call(zug_hive *hive, uint64_t handle) {
+    return zug_set_security(hive, 0, MOMENT, handle, TEXT("third, of many bytes"));
+}
 
 static uint32_t query_call(zug_hive *hive, uint64_t handle) {
     uint8_t room[32];
@@ -665,11 +672,52 @@ static uint32_t cause_call(zug_hive *hive, uint64_t handle) {
     return zug_cause(hive, 0, MOMENT, ZUG_SET, handle, TEXT("value of many letters"), 3, TEXT("more bytes than sixteen"), false);
 }
 
-static uint32_t delete_value_call(zug_hive *hive, uint64_t handle) { return zug_delete_value(hive, 0, MOMENT, handle, TEXT("value of many letters")); }
+static uint32_t delete_value_call(zug_hive *hive, uint64_t handle) {
+    return zug_delete_value(hive, 0, MOMENT, handle, TEXT("value of many letters"));
+}
 
-static uint32_t delete_key_call(zug_hive *hive, uint64_t handle) { return zug_delete_key(hive, 0, MOMENT, handle, TEXT("made of many letters\\below")); }
+static uint32_t delete_key_call(zug_hive *hive, uint64_t handle) {
+    return zug_delete_key(hive, 0, MOMENT, handle, TEXT("made of many letters\\below"));
+}
 
-static uint32_t delete_tree_call(zug_hive *hive, uint64_t handle) { return zug_delete_tree(hive, 0, MOMENT, handle, TEXT("made of many letters")); }
+static uint32_t delete_tree_call(zug_hive *hive, uint64_t handle) {
+    return zug_delete_tree(hive, 0, MOMENT, handle, TEXT("made of many letters"));
+}
+
+/* Those that take no memory, and so never answer 8, with none granted. */
+static void without_memory(void) {
+    zug_hive hive = {0};
+    uint64_t root = 7, watch = 7, size = 7, entries = 7, kept = 7, cut = 7, ended = 7, entry = 7;
+    uint32_t count = 7, reason = 7;
+    uint8_t room[64];
+    zug_info info;
+    zug_subkey row;
+    zug_value value;
+    make(&hive, &root);
+    IS(zug_close(&hive, 0, MOMENT, key(&hive, root, "Soft, of many letters")), 0);
+    IS(zug_notify(&hive, 0, MOMENT, root, ZUG_FILTER_LAST_SET, false, &watch), 0);
+    IS(set_call(&hive, root), 0);
+    granted = 0;
+    IS(zug_query_info(&hive, 0, root, &info), 0);
+    IS(info.subkeys == 1 && info.values == 1, true);
+    IS(zug_key_at(&hive, TEXT("Soft, of many letters"), &row, room, sizeof room), 0);
+    IS(row.name_size, 21);
+    IS(zug_subkeys_at(&hive, TEXT(""), 0, &row, 1, room, sizeof room, &count), 0);
+    IS(count == 1 && row.name_size == 21, true);
+    IS(zug_values_at(&hive, TEXT(""), 0, &value, 1, room, sizeof room, &count), 0);
+    IS(count == 1 && value.name_size == 21 && value.size == 23, true);
+    IS(zug_entries(&hive, &entries, &kept), 0);
+    IS(kept, entries);
+    IS(zug_image_size(&hive, &size, &entries), 0);
+    IS(zug_image_part(&hive, MOMENT, 5, entries, size - sizeof room, room, sizeof room), 0);
+    IS(zug_take_notice(&hive, 0, &ended, &entry, &reason), 0);
+    IS(ended == watch && reason == ZUG_MATCHED, true);
+    IS(zug_close(&hive, 0, MOMENT, root), 0);
+    IS(zug_hive_cut(&hive, &cut), 0);
+    IS(cut, entries + 1);
+    zug_hive_close(&hive);
+    granted = -1;
+}
 
 static void refusals(void) {
     zug_hive hive = {0};
@@ -693,6 +741,7 @@ static void refusals(void) {
     IS(zug_close(&hive, 0, MOMENT, root), 0);
     granted = -1;
     zug_hive_close(&hive);
+    without_memory();
 }
 
 /* ---- Many hives ---- */

@@ -1,7 +1,8 @@
 /* Loads hostile images: each is one of those given, with 1 to 8 changes drawn at random.
  *
- *     cc -O2 hostile.c -Wl,--wrap=malloc -Wl,--wrap=realloc $(pkg-config --cflags --libs zugmeled) -o hostile
- *     ./hostile COUNT SEED IMAGE..
+ *     cc -O2 bindings/c/hostile.c -Wl,--wrap=malloc -Wl,--wrap=realloc \
+ *         $(PKG_CONFIG_PATH=dist pkg-config --cflags --libs zugmeled) -o dist/hostile
+ *     dist/hostile COUNT SEED IMAGE..
  *
  * A change is of a byte, a bit or a word, or moves a piece, or cuts or lengthens the image. Three quarters of the images have the checksum
  * mended, so that a change of the base block gets past it. Of one in 16 memory is refused from some request on. Each load answers 0, 8, or

@@ -31,8 +31,9 @@ static uint32_t open_root(uint8_t session, uint64_t *opened) {
 static uint32_t set_value(uint8_t session, uint64_t handle, unsigned number) {
     char name[16];
     int length = snprintf(name, sizeof name, "%u-%u", (unsigned)session, number);
+    const uint8_t *name_bytes = (const uint8_t *)name, *bytes = (const uint8_t *)&number;
     pthread_mutex_lock(&shared.lock);
-    uint32_t status = zug_set_value(&shared.hive, session, 0, handle, (const uint8_t *)name, (size_t)length, 4, (const uint8_t *)&number, 4);
+    uint32_t status = zug_set_value(&shared.hive, session, 0, handle, name_bytes, (size_t)length, ZUG_DWORD, bytes, 4);
     pthread_mutex_unlock(&shared.lock);
     return status;
 }

@@ -23,7 +23,7 @@ class CPythonTest(unittest.TestCase):
         try:
             return make()
         except ImportError:
-            return self.skipTest("this Python has no tests with it")
+            return self.skipTest(cpython_winreg.NO_TESTS)
 
     def run_all(self, tests):
         result = Result()

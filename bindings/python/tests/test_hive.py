@@ -264,6 +264,52 @@ class LifeTest(HiveTest):
         self.assertEqual(len(list(self.hive.notices())), 1)
         self.hive.cut()
 
+    def interrupted(self, name, call, is_behind):
+        """Makes a call with Ctrl-C right before the library's, or right behind it."""
+        function = getattr(c.library, name)
+
+        def interrupts(*arguments):
+            if is_behind:
+                function(*arguments)
+            raise KeyboardInterrupt
+
+        with mock.patch.object(c.library, name, interrupts):
+            self.assertRaises(KeyboardInterrupt, call)
+
+    def test_a_watch_that_is_interrupted(self):
+        """Nobody was told of it, so that a cut doesn't wait for its notice."""
+        for is_behind in (False, True):
+            with self.subTest(is_behind=is_behind):
+                self.interrupted("zug_notify", self.root.notify, is_behind)
+                self.hive.cut()
+                # The cut ended the watch, if there was one.
+                self.assertEqual([notice.reason for notice in self.hive.notices()], [zugmeled.CLOSED] * is_behind)
+                self.hive.cut()
+
+    def test_a_watch_beside_one_that_was_interrupted(self):
+        """Its notice is still waited for once the other's was taken."""
+        watch = self.root.notify(zugmeled.FILTER_SECURITY)
+        self.interrupted("zug_notify", self.root.notify, is_behind=True)
+        self.root["Name"] = 1
+        self.assertEqual([notice.reason for notice in self.hive.notices()], [zugmeled.MATCHED])
+        self.assertStatus(170, self.hive.cut)
+        self.root.security = EMPTY_SECURITY
+        self.assertEqual([notice.watch for notice in self.hive.notices()], [watch])
+        self.hive.cut()
+
+    def test_a_notice_whose_taking_is_interrupted(self):
+        """It is taken or it isn't, and a cut waits for it only then."""
+        for is_behind in (False, True):
+            with self.subTest(is_behind=is_behind):
+                self.root.notify()
+                self.root["Name"] = 1
+                self.interrupted("zug_take_notice", lambda: list(self.hive.notices()), is_behind)
+                if not is_behind:
+                    self.assertStatus(170, self.hive.cut)
+                    self.assertEqual(len(list(self.hive.notices())), 1)
+                self.hive.cut()
+                self.assertEqual(list(self.hive.notices()), [])
+
     def test_journal_is_cut_by_itself(self):
         data = bytes(1 << 20)
         key = self.root.create("A")

@@ -227,6 +227,27 @@ class HandleTest(WinregTest):
         winreg.CreateKey(0x80000001, "A").Close()
         self.assertEqual(winreg.EnumKey(HKEY_CURRENT_USER, 0), "A")
 
+    def test_roots_with_their_sign(self):
+        """Numbers are widened as CPython widens them, so that those of pywin32 are the roots'."""
+        current_user, local_machine = -2147483647, -2147483646
+        winreg.CreateKey(current_user, "A").Close()
+        self.assertEqual(winreg.EnumKey(HKEY_CURRENT_USER, 0), "A")
+        self.assertEqual(winreg.CreateKey(current_user, None).handle, HKEY_CURRENT_USER)
+        self.mount(local_machine, "SOFTWARE")
+        self.assertEqual(winreg.EnumKey(HKEY_LOCAL_MACHINE, 0), "SOFTWARE")
+        winreg.unmount(local_machine, "SOFTWARE")
+        for number in (-1, -2147483649, -(1 << 63), (1 << 64) - 1):
+            self.assertStatus(6, winreg.OpenKey, number, "A")
+        for number in (-(1 << 63) - 1, 1 << 64):
+            self.assertRaises(OverflowError, winreg.OpenKey, number, "A")
+
+    def test_type_is_immutable(self):
+        self.assertEqual(winreg.HKEYType.__qualname__, "PyHKEY")
+        with self.assertRaisesRegex(TypeError, "cannot set 'foo' attribute of immutable type 'PyHKEY'"):
+            winreg.HKEYType.foo = "bar"
+        with self.assertRaisesRegex(TypeError, "immutable"):
+            del winreg.HKEYType.Close
+
 
 class KeyTest(WinregTest):
     def test_create_and_open(self):
@@ -526,6 +547,13 @@ class MountTest(WinregTest):
         with winreg.OpenKey(HKEY_CURRENT_USER, "A") as key:
             self.assertEqual(winreg.QueryInfoKey(key)[0], 1)
             self.assertEqual(winreg.EnumKey(key, 0), "B")
+
+    def test_indexes_beside_a_mount(self):
+        self.mount(HKEY_LOCAL_MACHINE, "SOFTWARE")
+        for index in (1, -1, (1 << 31) - 1, -(1 << 31)):
+            self.assertStatus(259, winreg.EnumKey, HKEY_LOCAL_MACHINE, index)
+        for index in (1 << 31, -(1 << 31) - 1):
+            self.assertRaises(OverflowError, winreg.EnumKey, HKEY_LOCAL_MACHINE, index)
 
     def test_mounts_are_not_deleted(self):
         winreg.CreateKey(HKEY_CURRENT_USER, "A").Close()

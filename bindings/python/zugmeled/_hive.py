@@ -8,7 +8,7 @@ import weakref
 from collections import deque
 from ctypes import c_uint8, c_uint32, c_uint64, create_string_buffer, string_at
 from types import TracebackType
-from typing import Any, Callable, Deque, Iterator, List, NamedTuple, Optional, Tuple, Type
+from typing import Any, Callable, Deque, Iterator, List, NamedTuple, Optional, Set, Tuple, Type
 
 from . import _files
 from . import _library as c
@@ -90,7 +90,9 @@ class Hive:
         self._keys: "weakref.WeakSet[Key]" = weakref.WeakSet()
         # The keys that a cut closed and that are to be opened again, behind the root. None where nothing is due.
         self._closed_by_cut: Optional[List[Key]] = None
-        self._watches = 0
+        # The numbers of the watches that somebody was told of, and whose notice wasn't taken. A count would be wrong for ever where Ctrl-C
+        # came between it and the library's call.
+        self._watches: Set[int] = set()
         self._uncut = 0
         # How many changes there may have been, and of how many the hive's own file knows.
         self._changes = 0
@@ -223,12 +225,10 @@ class Hive:
         """Takes the notices that came, each once, until no more are there."""
         watch, entry, reason = c_uint64(), c_uint64(), c_uint32()
         while True:
-            status = self._call(c.library.zug_take_notice, _SESSION, watch, entry, reason)
+            status = self._take(watch, entry, reason)
             if status == c.NO_MORE_ITEMS:
                 return
             _told(status)
-            with self._lock:
-                self._watches -= 1
             yield Notice(watch.value, entry.value, reason.value)
 
     def entries(self) -> Tuple[int, int]:
@@ -329,11 +329,23 @@ class Hive:
         with self._lock:
             self._make(function, key, *arguments, is_of_keys=True)
 
-    def _watch(self, function: Any, key: "Key", *arguments: Any) -> None:
+    def _watch(self, watch: c_uint64, function: Any, key: "Key", *arguments: Any) -> None:
         """Makes a change by a key's handle that asks for a notice."""
         with self._lock:
             self._make(function, key, *arguments)
-            self._watches += 1
+            # Where Ctrl-C comes before this nobody is told of the watch, and a cut may end it.
+            self._watches.add(watch.value)
+
+    def _take(self, watch: c_uint64, *arguments: Any) -> int:
+        """Takes a notice, and answers the status."""
+        with self._lock:
+            self._close_forgotten()
+            try:
+                return c.library.zug_take_notice(self._words, _SESSION, watch, *arguments)
+            finally:
+                # It is gone from the library even where Ctrl-C came behind the call. Where none was taken there is 0, which is no watch's
+                # number: the root was opened first.
+                self._watches.discard(watch.value)
 
     def _open_key(self, opens: "Key", opened: c_uint64, function: Any, key: "Key", *arguments: Any) -> None:
         """Makes a change by a key's handle that opens another key."""
@@ -614,7 +626,7 @@ class Key:
         The number that is told names the watch in `hive.notices()`. The watch ends with the key, too: it has to stay open.
         """
         watch = c_uint64()
-        self.hive._watch(c.library.zug_notify, self, _word(kinds), subtree, watch)
+        self.hive._watch(watch, c.library.zug_notify, self, _word(kinds), subtree, watch)
         return watch.value
 
     def close(self) -> None:

@@ -6,12 +6,13 @@
         with winreg.CreateKey(winreg.HKEY_LOCAL_MACHINE, r"SOFTWARE\\Zug") as key:
             winreg.SetValueEx(key, "Version", 0, winreg.REG_DWORD, 4)
 
-Functions, constants, conversions and errors are those of the standard module. Its roots are here what `mount` puts there. Instead of
-hives that Windows has open there are files, which are saved by `FlushKey`, by `unmount`, or at the end of the block above.
+Functions, constants, conversions, errors and audit events are those of the standard module. Its roots are here what `mount` puts there.
+Instead of hives that Windows has open there are files, which are saved by `FlushKey`, by `unmount`, or at the end of the block above.
 """
 
 import itertools
 import os
+import sys
 from types import TracebackType
 from typing import Any, Dict, List, NamedTuple, Optional, Tuple, Type, Union
 
@@ -215,7 +216,17 @@ class Mount:
         self.unmount(save=kind is None)
 
 
-class HKEYType:
+class _Immutable(type):
+    """The kind of a class whose attributes stay as they are, as those of a class that is written in C do."""
+
+    def __setattr__(cls, name: str, value: Any) -> None:
+        raise TypeError(f"cannot set '{name}' attribute of immutable type '{cls.__name__}'")
+
+    def __delattr__(cls, name: str) -> None:
+        raise TypeError(f"cannot delete '{name}' attribute of immutable type '{cls.__name__}'")
+
+
+class PyHKEY(metaclass=_Immutable):
     """A key that is open. It closes by itself when nothing refers to it any more."""
 
     _handle = 0
@@ -231,10 +242,14 @@ class HKEYType:
 
     def Close(self) -> None:
         """Closes the key. Where it is closed already nothing happens."""
-        _close(self.Detach())
+        _close(self._let_go())
 
     def Detach(self) -> int:
         """Gives the handle's number away: the key stays open, and is closed by `CloseKey` of that number."""
+        _audit("PyHKEY.Detach", self)
+        return self._let_go()
+
+    def _let_go(self) -> int:
         handle, self._handle = self._handle, 0
         return handle
 
@@ -266,7 +281,7 @@ class HKEYType:
         return f"<PyHKEY:0x{self._handle:016X}>"
 
 
-HKEYType.__name__ = HKEYType.__qualname__ = "PyHKEY"
+HKEYType = PyHKEY
 
 _KeyType = Union[HKEYType, int]
 
@@ -330,7 +345,9 @@ def CloseKey(hkey: Optional[_KeyType], /) -> None:
 
 def ConnectRegistry(computer_name: Optional[str], key: _KeyType, /) -> HKEYType:
     """Opens a root. Only this computer is reached: FileNotFoundError for any other."""
-    if _text(computer_name, "ConnectRegistry", "computer_name"):
+    computer = _text(computer_name, "ConnectRegistry", "computer_name")
+    sys.audit("winreg.ConnectRegistry", computer_name, _signed(key))
+    if computer:
         raise _error(BAD_NETWORK_PATH)
     return _open(_place(_root(_key_number(key)), ""), KEY_ALL_ACCESS)
 
@@ -338,52 +355,66 @@ def ConnectRegistry(computer_name: Optional[str], key: _KeyType, /) -> HKEYType:
 def CreateKey(key: _KeyType, sub_key: Optional[str], /) -> HKEYType:
     """Opens a key with all rights, and makes what is missing of its path. Of a root and None it is that root's own handle."""
     path = _text(sub_key, "CreateKey", "sub_key")
-    return _root_itself(key, sub_key) or _create(_place(key, path), KEY_ALL_ACCESS)
+    # The standard module tells this mask, though the key has all rights.
+    _audit("CreateKey", key, sub_key, KEY_WRITE)
+    return _audited(_root_itself(key, sub_key) or _create(_place(key, path), KEY_ALL_ACCESS))
 
 
 def CreateKeyEx(key: _KeyType, sub_key: Optional[str], reserved: int = 0, access: int = KEY_WRITE) -> HKEYType:
     """Opens a key with the rights of a mask, and makes what is missing of its path. Of a root and None it is that root's own handle."""
     path = _text(sub_key, "CreateKeyEx", "sub_key")
-    return _root_itself(key, sub_key) or _create(_place(key, path), access)
+    _audit("CreateKey", key, sub_key, access)
+    return _audited(_root_itself(key, sub_key) or _create(_place(key, path), access))
 
 
 def DeleteKey(key: _KeyType, sub_key: str, /) -> None:
     """Deletes a key that has no subkeys, with its values."""
-    _delete(key, _text(sub_key, "DeleteKey", "sub_key", needed=True))
+    path = _text(sub_key, "DeleteKey", "sub_key", needed=True)
+    _audit("DeleteKey", key, sub_key, 0)
+    _delete(key, path)
 
 
 def DeleteKeyEx(key: _KeyType, sub_key: str, access: int = KEY_WOW64_64KEY, reserved: int = 0) -> None:
     """Deletes a key that has no subkeys, with its values. There is one view of the registry, whatever the mask says."""
-    _delete(key, _text(sub_key, "DeleteKeyEx", "sub_key", needed=True))
+    path = _text(sub_key, "DeleteKeyEx", "sub_key", needed=True)
+    _audit("DeleteKey", key, sub_key, access)
+    _delete(key, path)
 
 
 def DeleteValue(key: _KeyType, value: Optional[str], /) -> None:
     """Deletes a value of a key."""
     name = _text(value, "DeleteValue", "value")
+    _audit("DeleteValue", key, value)
     _to_change(_place(key, "")).key.delete_value(name)
 
 
 def EnumKey(key: _KeyType, index: int, /) -> str:
     """The name of the subkey at an index. OSError past the last."""
+    at = _index(index)
+    _audit("EnumKey", key, index)
     opened = _opened_of(key)
     mounted = _mounted_below(opened)
     if not mounted:
-        return opened.key.subkey_at(_index(index))[0]
+        return opened.key.subkey_at(at)[0]
     names = opened.key.subkeys() + mounted
-    if not 0 <= index < len(names):
+    if at >= len(names):
         raise _error(_c.NO_MORE_ITEMS)
-    return names[index]
+    return names[at]
 
 
 def EnumValue(key: _KeyType, index: int, /) -> Tuple[str, Value, int]:
     """The name, the data and the type of the value at an index. OSError past the last."""
-    name, kind, data = _opened_of(key).key.value_at(_index(index))
+    at = _index(index)
+    _audit("EnumValue", key, index)
+    name, kind, data = _opened_of(key).key.value_at(at)
     return name, from_data(data, kind), kind
 
 
 def ExpandEnvironmentStrings(string: str, /) -> str:
     """Puts the values of environment variables in the place of their names, as in %PATH%. Others stay as they are."""
-    first, *parts = _text(string, "ExpandEnvironmentStrings", "string", needed=True).split("%")
+    text = _text(string, "ExpandEnvironmentStrings", "string", needed=True)
+    sys.audit("winreg.ExpandEnvironmentStrings", string)
+    first, *parts = text.split("%")
     expanded = [first]
     at = 0
     while at < len(parts):
@@ -407,22 +438,28 @@ def LoadKey(key: _KeyType, sub_key: str, file_name: str, /) -> None:
     """Mounts the hive of a file at a subkey, as `mount` does."""
     path = _text(sub_key, "LoadKey", "sub_key", needed=True)
     file = _text(file_name, "LoadKey", "file_name", needed=True)
+    _audit("LoadKey", key, sub_key, file_name)
     place = _place(key, path)
     _mount_at(place.mount._root, place.names, file, False, False)
 
 
 def OpenKey(key: _KeyType, sub_key: Optional[str], reserved: int = 0, access: int = KEY_READ) -> HKEYType:
     """Opens a key with the rights of a mask."""
-    return _open(_place(key, _text(sub_key, "OpenKey", "sub_key")), access)
+    path = _text(sub_key, "OpenKey", "sub_key")
+    _audit("OpenKey", key, sub_key, access)
+    return _audited(_open(_place(key, path), access))
 
 
 def OpenKeyEx(key: _KeyType, sub_key: Optional[str], reserved: int = 0, access: int = KEY_READ) -> HKEYType:
     """Opens a key with the rights of a mask."""
-    return _open(_place(key, _text(sub_key, "OpenKeyEx", "sub_key")), access)
+    path = _text(sub_key, "OpenKeyEx", "sub_key")
+    _audit("OpenKey", key, sub_key, access)
+    return _audited(_open(_place(key, path), access))
 
 
 def QueryInfoKey(key: _KeyType, /) -> Tuple[int, int, int]:
     """How many subkeys and values a key has, and when it was last written, in units of 100 ns since 1601."""
+    _audit("QueryInfoKey", key)
     opened = _opened_of(key)
     info = opened.key.info
     return info.subkeys + len(_mounted_below(opened)), info.values, info.time
@@ -431,21 +468,18 @@ def QueryInfoKey(key: _KeyType, /) -> Tuple[int, int, int]:
 def QueryValue(key: _KeyType, sub_key: Optional[str], /) -> str:
     """The text of a key's default value; the empty text where it has none. OSError where the value is of another type than REG_SZ."""
     path = _text(sub_key, "QueryValue", "sub_key")
-    if path:
-        with _open(_place(key, path), KEY_QUERY_VALUE) as opened:
-            return QueryValue(opened, None)
-    try:
-        kind, data = _opened_of(key).key.value()
-    except FileNotFoundError:
-        return ""
-    if kind != REG_SZ:
-        raise _error(INVALID_DATA)
-    return str(from_data(data, kind))
+    _audit("QueryValue", key, sub_key, None)
+    if not path:
+        return _default_text(key)
+    with _open(_place(key, path), KEY_QUERY_VALUE) as opened:
+        return _default_text(opened)
 
 
 def QueryValueEx(key: _KeyType, name: Optional[str], /) -> Tuple[Value, int]:
     """The data and the type of a value."""
-    kind, data = _opened_of(key).key.value(_text(name, "QueryValueEx", "name"))
+    text = _text(name, "QueryValueEx", "name")
+    _audit("QueryValue", key, None, name)
+    kind, data = _opened_of(key).key.value(text)
     return from_data(data, kind), kind
 
 
@@ -456,6 +490,7 @@ def SaveKey(key: _KeyType, file_name: str, /) -> None:
     some may not be deleted. What is mounted below a key isn't part of either.
     """
     file = _text(file_name, "SaveKey", "file_name", needed=True)
+    _audit("SaveKey", key, file_name)
     opened = _opened_of(key)
     if _fold(opened.names) == opened.mount._folded:
         _files.make(file, opened.mount.hive.image())
@@ -471,35 +506,58 @@ def SetValue(key: _KeyType, sub_key: Optional[str], type: int, value: str, /) ->
     path = _text(sub_key, "SetValue", "sub_key")
     if not isinstance(value, str):
         raise TypeError(f"SetValue() argument 'value' must be str, not {_type_name(value)}")
+    data = to_data(value, REG_SZ)
+    _audit("SetValue", key, sub_key, type, value)
     if path:
         with _create(_place(key, path), KEY_SET_VALUE) as opened:
-            SetValueEx(opened, None, 0, REG_SZ, value)
+            _set(opened, "", REG_SZ, data)
     else:
-        SetValueEx(key, None, 0, REG_SZ, value)
+        _set(key, "", REG_SZ, data)
 
 
 def SetValueEx(key: _KeyType, value_name: Optional[str], reserved: Any, type: int, value: Any, /) -> None:
     """Sets a value to a type, and to data that is made of an object as that type has it."""
     name = _text(value_name, "SetValueEx", "value_name")
     kind = _kind(type)
-    place = _to_change(_place(key, ""))
-    place.key.set(name, kind, to_data(value, kind))
+    data = to_data(value, kind)
+    _audit("SetValue", key, value_name, type, value)
+    _set(key, name, kind, data)
 
 
 def DisableReflectionKey(key: _KeyType, /) -> None:
     """Does nothing: there is no view for 32 bits to which a key could be reflected."""
+    _audit("DisableReflectionKey", key)
     _opened_of(key)
 
 
 def EnableReflectionKey(key: _KeyType, /) -> None:
     """Does nothing, as `DisableReflectionKey`."""
+    _audit("EnableReflectionKey", key)
     _opened_of(key)
 
 
 def QueryReflectionKey(key: _KeyType, /) -> bool:
     """Whether reflection is off for a key, which it always is."""
+    _audit("QueryReflectionKey", key)
     _opened_of(key)
     return True
+
+
+def _audit(event: str, key: Any, *arguments: Any) -> None:
+    """Tells the hooks of `sys.addaudithook` of a call on a key, by the names and arguments that the standard module documents."""
+    sys.audit(f"winreg.{event}", _signed(key), *arguments)
+
+
+def _audited(opened: HKEYType) -> HKEYType:
+    """The same of a key that a call opened."""
+    _audit("OpenKey/result", opened)
+    return opened
+
+
+def _signed(key: Any) -> int:
+    """A key's number as the standard module's events have it: signed, so that the roots' are negative."""
+    number = _key_number(key)
+    return number - (1 << 64) if number >> 63 else number
 
 
 def _fold(names: Tuple[str, ...]) -> _Folded:
@@ -572,14 +630,25 @@ def _key_number(key: Any) -> int:
     if isinstance(key, HKEYType):
         return key.handle
     if isinstance(key, int):
-        return key
+        return _pointer(key)
     if key is None:
         raise TypeError("None is not a valid HKEY in this context")
     raise TypeError("The object is not a PyHKEY object")
 
 
+def _pointer(number: int) -> int:
+    """A number as a pointer in C is. A negative one is widened with its sign: pywin32 has such numbers for the roots.
+
+    OverflowError where it has more than 64 bits.
+    """
+    if not -(1 << 63) <= number < 1 << 64:
+        raise OverflowError("Python int too large to convert to C pointer")
+    return number & (1 << 64) - 1
+
+
 def _root_number(number: int) -> Optional[int]:
     """A root's number, which in a program of 32 bits has no bits above those. None where it is no root's."""
+    number = _pointer(number)
     if number >> 32 == 0:
         number |= 0xFFFFFFFF << 32
     return number if number in _mounts else None
@@ -672,6 +741,21 @@ def _close(number: int) -> None:
     if not opened:
         raise _error(_c.INVALID_HANDLE)
     opened.key.close()
+
+
+def _default_text(key: Any) -> str:
+    """The text of the default value of an open key; the empty text where it has none. OSError where the value is of another type."""
+    try:
+        kind, data = _opened_of(key).key.value()
+    except FileNotFoundError:
+        return ""
+    if kind != REG_SZ:
+        raise _error(INVALID_DATA)
+    return str(from_data(data, kind))
+
+
+def _set(key: Any, name: str, kind: int, data: bytes) -> None:
+    _to_change(_place(key, "")).key.set(name, kind, data)
 
 
 def _delete(key: Any, path: str) -> None:

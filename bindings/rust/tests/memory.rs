@@ -1,5 +1,5 @@
 //! Memory that is refused to the library: each call answers so and changes nothing, and succeeds
-//! once enough is granted.
+//! once enough is granted. Names and data have more than 16 bytes: fewer need no memory.
 //!
 //! The library calls `malloc` and `realloc`, which stand here. Rust's own memory comes by `calloc`,
 //! and is never refused.
@@ -10,6 +10,11 @@ use std::cell::Cell;
 use std::ffi::c_void;
 use std::ptr;
 use zugmeled::{Change, Filter, Hive, Key, Kind, Result, Rights, Status, EMPTY_SECURITY};
+
+const KEY: &str = "key of many letters";
+const BELOW: &str = "key of many letters\\below";
+const VALUE: &str = "value of many letters";
+const TEXT: &str = "text of many letters";
 
 thread_local! {
     /// How many requests of this thread are granted before all others are refused.
@@ -113,18 +118,18 @@ fn makers_are_refused() {
 #[test]
 fn changes_are_refused() {
     with_root(|root| {
-        until_granted(|| root.create_with("made\\below", Rights::ALL, b"own"));
-        until_granted(|| root.open("made"));
-        until_granted(|| root.set("v", 1_u32));
-        until_granted(|| root.set_security(b"third"));
-        until_granted(|| root.delete_value("v"));
-        until_granted(|| root.delete("made\\below"));
-        until_granted(|| root.delete_tree("made"));
+        until_granted(|| root.create_with(BELOW, Rights::ALL, b"own, of many bytes"));
+        until_granted(|| root.open(KEY));
+        until_granted(|| root.set(VALUE, TEXT));
+        until_granted(|| root.set_security(b"third, of many bytes"));
+        until_granted(|| root.delete_value(VALUE));
+        until_granted(|| root.delete(BELOW));
+        until_granted(|| root.delete_tree(KEY));
         until_granted(|| {
             root.check(Change::Set {
-                name: "v",
+                name: VALUE,
                 kind: Kind::BINARY,
-                bytes: b"bytes",
+                bytes: TEXT.as_bytes(),
             })
         });
     });
@@ -133,10 +138,10 @@ fn changes_are_refused() {
 #[test]
 fn questions_are_refused() {
     with_root(|root| {
-        root.create("k").unwrap();
-        root.set("v", 1_u32).unwrap();
-        until_granted(|| root.value("v"));
-        until_granted(|| root.get::<u32>("v"));
+        root.create(KEY).unwrap();
+        root.set(VALUE, TEXT).unwrap();
+        until_granted(|| root.value(VALUE));
+        until_granted(|| root.get::<String>(VALUE));
         until_granted(|| root.keys().collect::<Result<Vec<_>>>());
         until_granted(|| root.values().collect::<Result<Vec<_>>>());
         until_granted(|| root.security());

@@ -1,11 +1,14 @@
 -- What calls do with the hive that C holds.
-use Rattle.std.specs.Prelude.{◌≡◌, ◌≢◌, ℕ, ◌<◌, ◌≤◌, ◌⊎◌, List, [], Option, Some, None}
+use Rattle.std.specs.Prelude.{◌≡◌, ℕ, ◌<◌, ◌≤◌, ◌⊎◌, List, [], length, Option, Some, None, unwrap_or}
 use Rattle.reg_model.specs.declared.statuses.TheConstants.{INVALID_HANDLE, INVALID_PARAMETER, NOT_ENOUGH_MEMORY}
 use Rattle.reg_model.specs.declared.limits.TheConstants.{SESSIONS_LIMIT}
 use Rattle.reg_model.specs.Replies.{refusal}
 use Rattle.reg_model.specs.Callbacks.{Callbacks}
+use Rattle.reg_model.specs.declared.bytes.TheConstants.{INLINE_BYTES}
 use Rattle.reg_model.specs.declared.call.Change.{Change}
+use Rattle.reg_model.specs.declared.call.Change.TheVariants.{OpenRoot, OpenKey, CreateKey, SetValue, DeleteValue, DeleteKey, DeleteTree, SetSecurity, Notify, Close}
 use Rattle.reg_model.specs.declared.call.Query.{Query}
+use Rattle.reg_model.specs.declared.call.Query.TheVariants.{QueryValue, EnumKey, EnumValue, QueryInfo, GetSecurity}
 use Rattle.reg_model.specs.declared.answer.AnswerBody.{AnswerBody}
 use Rattle.reg_model.specs.declared.answer.AnswerBody.TheVariants.{Refused}
 use Rattle.reg_model.specs.declared.reply.ChangeReply.{ChangeReply}
@@ -43,27 +46,51 @@ IsAsked (Some hive) session query body =
     ((SESSIONS_LIMIT ≤ session) × (body ≡ Refused INVALID_PARAMETER))
     ⊎ ((session < SESSIONS_LIMIT) × IsRead (asks hive) (state (seen hive)) session query body)
 
--- where there is no memory for a copy of what is given, of which there is some, nothing changes: with no hive 6, else of a session from 64
--- on 87, else 8
+-- a copy of these bytes takes memory: they are more than stand in the copy itself
+abbrev pub IsLong : List ℕ → Type 0
+IsLong bytes = INLINE_BYTES < length bytes
+
+-- so of a change: of its path or name, its descriptor or its data
+unfoldable pub ChangeTakesMemory : Change → Type 0
+ChangeTakesMemory (OpenRoot mask) = ⊥
+ChangeTakesMemory (OpenKey handle path mask) = IsLong path
+ChangeTakesMemory (CreateKey handle path mask descriptor) = IsLong path ⊎ IsLong (unwrap_or descriptor [])
+ChangeTakesMemory (SetValue handle name kind bytes) = IsLong name ⊎ IsLong bytes
+ChangeTakesMemory (DeleteValue handle name) = IsLong name
+ChangeTakesMemory (DeleteKey handle path) = IsLong path
+ChangeTakesMemory (DeleteTree handle path) = IsLong path
+ChangeTakesMemory (SetSecurity handle descriptor) = IsLong descriptor
+ChangeTakesMemory (Notify handle filter subtree) = ⊥
+ChangeTakesMemory (Close handle) = ⊥
+
+-- and of a question
+unfoldable pub QueryTakesMemory : Query → Type 0
+QueryTakesMemory (QueryValue handle name room) = IsLong name
+QueryTakesMemory (EnumKey handle index room) = ⊥
+QueryTakesMemory (EnumValue handle index name_room room) = ⊥
+QueryTakesMemory (QueryInfo handle) = ⊥
+QueryTakesMemory (GetSecurity handle room) = ⊥
+
+-- where memory is refused for a copy, nothing changes: with no hive 6, else of a session from 64 on 87, else 8
 abbrev pub IsLack : Option HeldHive → ℕ → ℕ → Type 0
 IsLack None session status = status ≡ INVALID_HANDLE
 IsLack (Some hive) session status =
     ((SESSIONS_LIMIT ≤ session) × (status ≡ INVALID_PARAMETER))
     ⊎ ((session < SESSIONS_LIMIT) × (status ≡ NOT_ENOUGH_MEMORY))
 
--- a change, or a question, is answered, or lacks that copy
-abbrev pub IsReplied : List ℕ → Option HeldHive → Option HeldHive → ℕ → ℕ → Change → ChangeReply → Type 0
-IsReplied given old new session moment change reply =
-    ((given ≢ []) × (status : ℕ) × IsLack old session status × (reply ≡ refusal status) × (new ≡ old))
+-- a change, or a question, is answered, or lacks memory for a copy that takes some
+abbrev pub IsReplied : Option HeldHive → Option HeldHive → ℕ → ℕ → Change → ChangeReply → Type 0
+IsReplied old new session moment change reply =
+    (ChangeTakesMemory change × (status : ℕ) × IsLack old session status × (reply ≡ refusal status) × (new ≡ old))
     ⊎ IsChanged old new session moment change reply
 
-abbrev pub IsAnswered : List ℕ → Option HeldHive → ℕ → Query → AnswerBody → Type 0
-IsAnswered given hive session query body =
-    ((given ≢ []) × (status : ℕ) × IsLack hive session status × (body ≡ Refused status)) ⊎ IsAsked hive session query body
+abbrev pub IsAnswered : Option HeldHive → ℕ → Query → AnswerBody → Type 0
+IsAnswered hive session query body =
+    (QueryTakesMemory query × (status : ℕ) × IsLack hive session status × (body ≡ Refused status)) ⊎ IsAsked hive session query body
 
 -- so a call tells what it tells of that reply, or of that answer
-abbrev pub Replies : List ℕ → Option HeldHive → Option HeldHive → ℕ → ℕ → Change → (ChangeReply → Type 0) → Type 0
-Replies given old new session moment change Tells = (reply : ChangeReply) × IsReplied given old new session moment change reply × Tells reply
+abbrev pub Replies : Option HeldHive → Option HeldHive → ℕ → ℕ → Change → (ChangeReply → Type 0) → Type 0
+Replies old new session moment change Tells = (reply : ChangeReply) × IsReplied old new session moment change reply × Tells reply
 
-abbrev pub Answers : List ℕ → Option HeldHive → ℕ → Query → (AnswerBody → Type 0) → Type 0
-Answers given hive session query Tells = (body : AnswerBody) × IsAnswered given hive session query body × Tells body
+abbrev pub Answers : Option HeldHive → ℕ → Query → (AnswerBody → Type 0) → Type 0
+Answers hive session query Tells = (body : AnswerBody) × IsAnswered hive session query body × Tells body

@@ -1,8 +1,8 @@
 //! The refusal that a change would meet.
-ghost use Rattle.std.specs.Prelude.{◌≡◌, ◌≢◌, ◌⊎◌, ◌<◌, ◌++◌, [], Ok, Some, IfOk, OnErr, IsErr};
+ghost use Rattle.std.specs.Prelude.{◌≡◌, ◌⊎◌, ◌<◌, Ok, Some, IfOk, OnErr, IsErr};
 ghost use Rattle.reg_model.specs.declared.limits.TheConstants.{SESSIONS_LIMIT};
 ghost use Rattle.zugmeled.specs.Calls.{IsLack};
-ghost use Rattle.zugmeled.specs.Causes.{cause_at, IsCause, IsCauseOf};
+ghost use Rattle.zugmeled.specs.Causes.{cause_at, IsCause, IsCauseOf, MayTakeMemory};
 ghost use Rattle.zugmeled.specs.Makers.{change_of};
 ghost use Rattle.zugmeled.specs.Told.{or_zero};
 
@@ -37,7 +37,7 @@ fn made(
     below: bool,
 ) -> Result<Option<Change>, AllocError>
     ensures made { IfOk result (λ made. made ≡ change_of change handle text.now number bytes.now below) }
-    ensures lack { OnErr result (text.now ++ bytes.now ≢ []) }
+    ensures lack { OnErr result (MayTakeMemory (change_of change handle text.now number bytes.now below)) }
 {
     if change == 0 {
         return Ok(Some(Change::OpenRoot { mask: number }));
@@ -133,7 +133,7 @@ pub extern "C" fn zug_cause(
     below: bool,
 ) -> u32
     ensures same { hive.new.held.value ≡ hive.old.held.value }
-    ensures told { ((text.now ++ bytes.now ≢ []) × IsLack hive.old.held.value session result)
+    ensures told { (MayTakeMemory (change_of change handle text.now number bytes.now below) × IsLack hive.old.held.value session result)
         ⊎ IsCause hive.old.held.value session moment (change_of change handle text.now number bytes.now below) result }
 {
     match made(alloc, change, handle, text, number, bytes, below) {

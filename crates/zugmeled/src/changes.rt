@@ -1,5 +1,5 @@
 //! The calls that change a hive.
-ghost use Rattle.std.specs.Prelude.{◌≡◌, ◌++◌, [], None};
+ghost use Rattle.std.specs.Prelude.{◌≡◌};
 ghost use Rattle.reg_model.specs.declared.call.Change.TheVariants.{OpenRoot, OpenKey, CreateKey, SetValue, DeleteValue, DeleteKey, DeleteTree, SetSecurity, Notify, Close};
 ghost use Rattle.zugmeled.specs.Calls.{Replies};
 ghost use Rattle.zugmeled.specs.Makers.{given_of};
@@ -21,7 +21,7 @@ pub extern "C" fn zug_open_root(
     mask: u32,
     opened: &mut u64,
 ) -> u32
-    ensures { Replies [] hive.old.held.value hive.new.held.value session moment (OpenRoot mask)
+    ensures { Replies hive.old.held.value hive.new.held.value session moment (OpenRoot mask)
         (λ reply. (result ≡ reply.status) × (opened.new ≡ or_zero reply.handle)) }
 {
     let reply = change(alloc, hive, session, moment, Change::OpenRoot { mask });
@@ -41,7 +41,7 @@ pub extern "C" fn zug_open_key(
     mask: u32,
     opened: &mut u64,
 ) -> u32
-    ensures { Replies path.now hive.old.held.value hive.new.held.value session moment (OpenKey handle path.now mask)
+    ensures { Replies hive.old.held.value hive.new.held.value session moment (OpenKey handle path.now mask)
         (λ reply. (result ≡ reply.status) × (opened.new ≡ or_zero reply.handle)) }
 {
     let made = makers::open_key(alloc, handle, path, mask);
@@ -64,7 +64,7 @@ pub extern "C" fn zug_create_key(
     opened: &mut u64,
     disposition: &mut u32,
 ) -> u32
-    ensures { Replies (path.now ++ descriptor.now) hive.old.held.value hive.new.held.value session moment
+    ensures { Replies hive.old.held.value hive.new.held.value session moment
         (CreateKey handle path.now mask (given_of descriptor.now))
         (λ reply. (result ≡ reply.status) × (opened.new ≡ or_zero reply.handle) × (disposition.new ≡ or_zero reply.disposition)) }
 {
@@ -87,7 +87,7 @@ pub extern "C" fn zug_set_value(
     kind: u32,
     bytes: &[u8],
 ) -> u32
-    ensures { Replies (name.now ++ bytes.now) hive.old.held.value hive.new.held.value session moment
+    ensures { Replies hive.old.held.value hive.new.held.value session moment
         (SetValue handle name.now kind bytes.now) (λ reply. result ≡ reply.status) }
 {
     let made = makers::set_value(alloc, handle, name, kind, bytes);
@@ -104,7 +104,7 @@ pub extern "C" fn zug_delete_value(
     handle: u64,
     name: &[u8],
 ) -> u32
-    ensures { Replies name.now hive.old.held.value hive.new.held.value session moment (DeleteValue handle name.now)
+    ensures { Replies hive.old.held.value hive.new.held.value session moment (DeleteValue handle name.now)
         (λ reply. result ≡ reply.status) }
 {
     let made = makers::delete_value(alloc, handle, name);
@@ -121,7 +121,7 @@ pub extern "C" fn zug_delete_key(
     handle: u64,
     path: &[u8],
 ) -> u32
-    ensures { Replies path.now hive.old.held.value hive.new.held.value session moment (DeleteKey handle path.now)
+    ensures { Replies hive.old.held.value hive.new.held.value session moment (DeleteKey handle path.now)
         (λ reply. result ≡ reply.status) }
 {
     let made = makers::delete_key(alloc, handle, path);
@@ -138,7 +138,7 @@ pub extern "C" fn zug_delete_tree(
     handle: u64,
     path: &[u8],
 ) -> u32
-    ensures { Replies path.now hive.old.held.value hive.new.held.value session moment (DeleteTree handle path.now)
+    ensures { Replies hive.old.held.value hive.new.held.value session moment (DeleteTree handle path.now)
         (λ reply. result ≡ reply.status) }
 {
     let made = makers::delete_tree(alloc, handle, path);
@@ -155,7 +155,7 @@ pub extern "C" fn zug_set_security(
     handle: u64,
     descriptor: &[u8],
 ) -> u32
-    ensures { Replies descriptor.now hive.old.held.value hive.new.held.value session moment (SetSecurity handle descriptor.now)
+    ensures { Replies hive.old.held.value hive.new.held.value session moment (SetSecurity handle descriptor.now)
         (λ reply. result ≡ reply.status) }
 {
     let made = makers::set_security(alloc, handle, descriptor);
@@ -174,7 +174,7 @@ pub extern "C" fn zug_notify(
     subtree: bool,
     watch: &mut u64,
 ) -> u32
-    ensures { Replies [] hive.old.held.value hive.new.held.value session moment (Notify handle filter subtree)
+    ensures { Replies hive.old.held.value hive.new.held.value session moment (Notify handle filter subtree)
         (λ reply. (result ≡ reply.status) × (watch.new ≡ or_zero reply.number)) }
 {
     let asked = Change::Notify {
@@ -196,7 +196,7 @@ pub extern "C" fn zug_close(
     moment: u64,
     handle: u64,
 ) -> u32
-    ensures { Replies [] hive.old.held.value hive.new.held.value session moment (Close handle) (λ reply. result ≡ reply.status) }
+    ensures { Replies hive.old.held.value hive.new.held.value session moment (Close handle) (λ reply. result ≡ reply.status) }
 {
     change(alloc, hive, session, moment, Change::Close { handle }).status
 }

@@ -1,12 +1,14 @@
-//! Changes and questions, with a copy of what they need. A copy lacks memory only where there is a byte to copy.
-ghost use Rattle.std.specs.Prelude.{◌≡◌, ◌≢◌, ◌++◌, [], None, IfOk, OnErr, Some};
+//! Changes and questions, with a copy of what they need. A copy lacks memory only where it takes some.
+ghost use Rattle.std.specs.Prelude.{◌≡◌, IfOk, OnErr};
 ghost use Rattle.reg_model.specs.declared.call.Change.TheVariants.{OpenKey, CreateKey, SetValue, DeleteValue, DeleteKey, DeleteTree, SetSecurity};
 ghost use Rattle.reg_model.specs.declared.call.Query.TheVariants.{QueryValue};
+ghost use Rattle.zugmeled.specs.Calls.{IsLong, ChangeTakesMemory, QueryTakesMemory};
 ghost use Rattle.zugmeled.specs.Makers.{given_of};
 
 use reg_model::{Bytes, Change, Query};
 use std::alloc::{AllocError, Global};
 
+#[tactic(auto, unfolding(crate::specs::Calls::ChangeTakesMemory))]
 pub(crate) fn open_key(
     alloc: Global,
     handle: u64,
@@ -14,7 +16,7 @@ pub(crate) fn open_key(
     mask: u32,
 ) -> Result<Change, AllocError>
     ensures made { IfOk result (λ change. change ≡ OpenKey handle path.now mask) }
-    ensures lack { OnErr result (path.now ≢ []) }
+    ensures lack { OnErr result (ChangeTakesMemory (OpenKey handle path.now mask)) }
 {
     match Bytes::from_slice(alloc, path) {
         Ok(path) => Ok(Change::OpenKey { handle, path, mask }),
@@ -25,7 +27,7 @@ pub(crate) fn open_key(
 /// A descriptor, where it has a byte.
 fn given(alloc: Global, descriptor: &[u8]) -> Result<Option<Bytes>, AllocError>
     ensures made { IfOk result (λ given. given ≡ given_of descriptor.now) }
-    ensures lack { OnErr result (descriptor.now ≢ []) }
+    ensures lack { OnErr result (IsLong descriptor.now) }
 {
     if descriptor.len() == 0 {
         return Ok(None);
@@ -36,6 +38,7 @@ fn given(alloc: Global, descriptor: &[u8]) -> Result<Option<Bytes>, AllocError>
     }
 }
 
+#[tactic(auto, unfolding(crate::specs::Calls::ChangeTakesMemory))]
 pub(crate) fn create_key(
     alloc: Global,
     handle: u64,
@@ -44,7 +47,7 @@ pub(crate) fn create_key(
     descriptor: &[u8],
 ) -> Result<Change, AllocError>
     ensures made { IfOk result (λ change. change ≡ CreateKey handle path.now mask (given_of descriptor.now)) }
-    ensures lack { OnErr result (path.now ++ descriptor.now ≢ []) }
+    ensures lack { OnErr result (ChangeTakesMemory (CreateKey handle path.now mask (given_of descriptor.now))) }
 {
     let path = Bytes::from_slice(alloc, path)?;
     let descriptor = given(alloc, descriptor)?;
@@ -56,6 +59,7 @@ pub(crate) fn create_key(
     })
 }
 
+#[tactic(auto, unfolding(crate::specs::Calls::ChangeTakesMemory))]
 pub(crate) fn set_value(
     alloc: Global,
     handle: u64,
@@ -64,7 +68,7 @@ pub(crate) fn set_value(
     bytes: &[u8],
 ) -> Result<Change, AllocError>
     ensures made { IfOk result (λ change. change ≡ SetValue handle name.now kind bytes.now) }
-    ensures lack { OnErr result (name.now ++ bytes.now ≢ []) }
+    ensures lack { OnErr result (ChangeTakesMemory (SetValue handle name.now kind bytes.now)) }
 {
     let name = Bytes::from_slice(alloc, name)?;
     let bytes = Bytes::from_slice(alloc, bytes)?;
@@ -76,9 +80,10 @@ pub(crate) fn set_value(
     })
 }
 
+#[tactic(auto, unfolding(crate::specs::Calls::ChangeTakesMemory))]
 pub(crate) fn delete_value(alloc: Global, handle: u64, name: &[u8]) -> Result<Change, AllocError>
     ensures made { IfOk result (λ change. change ≡ DeleteValue handle name.now) }
-    ensures lack { OnErr result (name.now ≢ []) }
+    ensures lack { OnErr result (ChangeTakesMemory (DeleteValue handle name.now)) }
 {
     match Bytes::from_slice(alloc, name) {
         Ok(name) => Ok(Change::DeleteValue { handle, name }),
@@ -86,9 +91,10 @@ pub(crate) fn delete_value(alloc: Global, handle: u64, name: &[u8]) -> Result<Ch
     }
 }
 
+#[tactic(auto, unfolding(crate::specs::Calls::ChangeTakesMemory))]
 pub(crate) fn delete_key(alloc: Global, handle: u64, path: &[u8]) -> Result<Change, AllocError>
     ensures made { IfOk result (λ change. change ≡ DeleteKey handle path.now) }
-    ensures lack { OnErr result (path.now ≢ []) }
+    ensures lack { OnErr result (ChangeTakesMemory (DeleteKey handle path.now)) }
 {
     match Bytes::from_slice(alloc, path) {
         Ok(path) => Ok(Change::DeleteKey { handle, path }),
@@ -96,9 +102,10 @@ pub(crate) fn delete_key(alloc: Global, handle: u64, path: &[u8]) -> Result<Chan
     }
 }
 
+#[tactic(auto, unfolding(crate::specs::Calls::ChangeTakesMemory))]
 pub(crate) fn delete_tree(alloc: Global, handle: u64, path: &[u8]) -> Result<Change, AllocError>
     ensures made { IfOk result (λ change. change ≡ DeleteTree handle path.now) }
-    ensures lack { OnErr result (path.now ≢ []) }
+    ensures lack { OnErr result (ChangeTakesMemory (DeleteTree handle path.now)) }
 {
     match Bytes::from_slice(alloc, path) {
         Ok(path) => Ok(Change::DeleteTree { handle, path }),
@@ -106,13 +113,14 @@ pub(crate) fn delete_tree(alloc: Global, handle: u64, path: &[u8]) -> Result<Cha
     }
 }
 
+#[tactic(auto, unfolding(crate::specs::Calls::ChangeTakesMemory))]
 pub(crate) fn set_security(
     alloc: Global,
     handle: u64,
     descriptor: &[u8],
 ) -> Result<Change, AllocError>
     ensures made { IfOk result (λ change. change ≡ SetSecurity handle descriptor.now) }
-    ensures lack { OnErr result (descriptor.now ≢ []) }
+    ensures lack { OnErr result (ChangeTakesMemory (SetSecurity handle descriptor.now)) }
 {
     match Bytes::from_slice(alloc, descriptor) {
         Ok(descriptor) => Ok(Change::SetSecurity { handle, descriptor }),
@@ -120,6 +128,7 @@ pub(crate) fn set_security(
     }
 }
 
+#[tactic(auto, unfolding(crate::specs::Calls::QueryTakesMemory))]
 pub(crate) fn query_value(
     alloc: Global,
     handle: u64,
@@ -127,7 +136,7 @@ pub(crate) fn query_value(
     room: Option<u32>,
 ) -> Result<Query, AllocError>
     ensures made { IfOk result (λ query. query ≡ QueryValue handle name.now room) }
-    ensures lack { OnErr result (name.now ≢ []) }
+    ensures lack { OnErr result (QueryTakesMemory (QueryValue handle name.now room)) }
 {
     match Bytes::from_slice(alloc, name) {
         Ok(name) => Ok(Query::QueryValue { handle, name, room }),

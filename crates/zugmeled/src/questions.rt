@@ -24,7 +24,7 @@ pub extern "C" fn zug_query_value(
     size: &mut u32,
 ) -> u32
     ensures same { hive.new.held.value ≡ hive.old.held.value }
-    ensures told { Answers name.now hive.old.held.value session (QueryValue handle name.now (asked_of room.old))
+    ensures told { Answers hive.old.held.value session (QueryValue handle name.now (asked_of room.old))
         (λ body. TellsValue body result kind.new size.new room.old room.new) }
 {
     let made = makers::query_value(alloc, handle, name, told::asked(room));
@@ -47,7 +47,7 @@ pub extern "C" fn zug_enum_key(
     time: &mut u64,
 ) -> u32
     ensures same { hive.new.held.value ≡ hive.old.held.value }
-    ensures told { Answers [] hive.old.held.value session (EnumKey handle index (size_of name_room.old))
+    ensures told { Answers hive.old.held.value session (EnumKey handle index (size_of name_room.old))
         (λ body. TellsKey body result name_size.new time.new name_room.old name_room.new) }
 {
     let query = Query::EnumKey {
@@ -76,7 +76,7 @@ pub extern "C" fn zug_enum_value(
     size: &mut u32,
 ) -> u32
     ensures same { hive.new.held.value ≡ hive.old.held.value }
-    ensures told { Answers [] hive.old.held.value session (EnumValue handle index (size_of name_room.old) (asked_of room.old))
+    ensures told { Answers hive.old.held.value session (EnumValue handle index (size_of name_room.old) (asked_of room.old))
         (λ body. TellsMember body result name_size.new kind.new size.new name_room.old name_room.new room.old room.new) }
 {
     let query = Query::EnumValue {
@@ -102,7 +102,7 @@ pub extern "C" fn zug_query_info(
     info: &mut ZugInfo,
 ) -> u32
     ensures same { hive.new.held.value ≡ hive.old.held.value }
-    ensures told { Answers [] hive.old.held.value session (QueryInfo handle) (λ body. TellsInfo body result info.new) }
+    ensures told { Answers hive.old.held.value session (QueryInfo handle) (λ body. TellsInfo body result info.new) }
 {
     let told = told::tell_info(ask(alloc, hive, session, &Query::QueryInfo { handle }));
     *info = told.info;
@@ -120,7 +120,7 @@ pub extern "C" fn zug_get_security(
     size: &mut u32,
 ) -> u32
     ensures same { hive.new.held.value ≡ hive.old.held.value }
-    ensures told { Answers [] hive.old.held.value session (GetSecurity handle (size_of room.old))
+    ensures told { Answers hive.old.held.value session (GetSecurity handle (size_of room.old))
         (λ body. TellsSecurity body result size.new room.old room.new) }
 {
     let query = Query::GetSecurity {
