@@ -1,16 +1,18 @@
 -- How much of a line is left where it stops.
 use Rattle.std.proofs.Common.{◌≡◌, ℕ, suc, ◌+◌, ◌-◌, ◌<◌, ◌≤◌, ◌==◌, ◌||◌, not, Bool, true, false, cond, List, [], ◌∷◌, length, get_or, take, drop}
 use Rattle.std.proofs.Common.{zero, Some, None, refl, sym, ap, ◌∙◌, arith, length-take, length-drop}
-use Rattle.std.specs.Prelude.{Option, is_some, option_map}
+use Rattle.std.specs.Prelude.{Option, option_map}
 use Rattle.std.specs.Option.{unwrap_or}
 use Rattle.std.specs.List.{slice_split, onto_first, position, position_or_len, suffix_len, before_first}
 use Rattle.std.proofs.lemmas.Bool.Decides.{nat_tests}
 use Rattle.std.proofs.lemmas.List.Sums.{prefix_len-le-length, suffix_len_is}
 use Rattle.reg_text.proofs.AppendedBytes.{rest_is}
-use Rattle.reg_dotreg_reader.specs.EntryWords.{behind_blanks, byte_of, is_comma}
+use Rattle.reg_dotreg_reader.specs.EntryWords.{behind_blanks, is_comma}
 use Rattle.reg_dotreg_reader.specs.LineStops.{Stop, left_from, behind_after, unclosed, is_no_digit, few_digits, counted_stop, number_stop}
-use Rattle.reg_dotreg_reader.specs.LineStops.{pieces_length, pieces_stop, list_stop, is_no_bracket, behind_bracket}
+use Rattle.reg_dotreg_reader.specs.LineStops.{pieces_length, is_byte_to, left_from_bad, name_wanted, names_stop, is_no_bracket, behind_bracket}
+use Rattle.reg_dotreg_reader.specs.declared.expected.Expected.{Expected}
 use Rattle.reg_dotreg_reader.specs.declared.expected.Expected.TheVariants as wanted
+use Rattle.reg_names.specs.Names.{is_backslash}
 use Rattle.reg_dotreg_reader.proofs.DigitLists.{index_is, no_index, split_first, split_last, split_some}
 
 -- ---- from a place on
@@ -77,44 +79,40 @@ length_split p (u ∷ us) = by (p u) (slice_split p us) (length_split p us)
     by true pieces e = omega (arith, e)
     by false pieces e = onto pieces (length us) e
 
-pieces_step : (other : Stop) (piece : List ℕ) (pieces : List (List ℕ)) → (pieces ≡ [] → ⊥) →
-    pieces_stop other (piece ∷ pieces) ≡
-    cond (is_some (byte_of piece)) (pieces_stop other pieces) (wanted.Byte, length (behind_blanks piece) + pieces_length pieces)
-unfolding pieces_stop
-pieces_step other piece [] some = absurd (some refl)
-pieces_step other piece (next ∷ pieces) some = refl
+pieces_step : (most : ℕ) (piece : List ℕ) (pieces : List (List ℕ)) → (pieces ≡ [] → ⊥) →
+    left_from_bad most (piece ∷ pieces) ≡
+    cond (is_byte_to most piece) (left_from_bad most pieces) (Some (length (behind_blanks piece) + pieces_length pieces))
+unfolding left_from_bad
+pieces_step most piece [] some = absurd (some refl)
+pieces_step most piece (next ∷ pieces) some = refl
 
-split_stop : (other : Stop) (rest : List ℕ) (comma : ℕ) → position is_comma rest ≡ Some comma →
-    pieces_stop other (slice_split is_comma rest) ≡
-    cond (is_some (byte_of (take comma rest))) (pieces_stop other (slice_split is_comma (drop (comma + 1) rest)))
-    (wanted.Byte, length (behind_blanks (take comma rest)) + pieces_length (slice_split is_comma (drop (comma + 1) rest)))
-split_stop other rest comma at =
-    ap (pieces_stop other) (split_first is_comma rest comma at)
-    ∙ pieces_step other (take comma rest) (slice_split is_comma (drop (comma + 1) rest)) (split_some is_comma (drop (comma + 1) rest))
+split_stop : (most : ℕ) (rest : List ℕ) (comma : ℕ) → position is_comma rest ≡ Some comma →
+    left_from_bad most (slice_split is_comma rest) ≡
+    cond (is_byte_to most (take comma rest)) (left_from_bad most (slice_split is_comma (drop (comma + 1) rest)))
+    (Some (length (behind_blanks (take comma rest)) + pieces_length (slice_split is_comma (drop (comma + 1) rest))))
+split_stop most rest comma at =
+    ap (left_from_bad most) (split_first is_comma rest comma at)
+    ∙ pieces_step most (take comma rest) (slice_split is_comma (drop (comma + 1) rest)) (split_some is_comma (drop (comma + 1) rest))
 
-pub stop_start : (list : List ℕ) → list_stop list ≡ pieces_stop (wanted.PlainBytes, length list) (slice_split is_comma list)
-unfolding list_stop
-stop_start list = refl
+pub stop_next : (whole : Option ℕ) (most : ℕ) (rest others : List ℕ) (comma : ℕ) (is_byte : Bool) →
+    whole ≡ left_from_bad most (slice_split is_comma rest) → position is_comma rest ≡ Some comma →
+    is_byte ≡ is_byte_to most (take comma rest) → is_byte ≡ true → others ≡ take (length rest - (comma + 1)) (drop (comma + 1) rest) →
+    whole ≡ left_from_bad most (slice_split is_comma others)
+stop_next whole most rest others comma is_byte so_far at test fine left =
+    so_far ∙ (split_stop most rest comma at
+    ∙ (ap (λ (b : Bool). cond b (left_from_bad most (slice_split is_comma (drop (comma + 1) rest)))
+    (Some (length (behind_blanks (take comma rest)) + pieces_length (slice_split is_comma (drop (comma + 1) rest))))) (sym test ∙ fine)
+    ∙ ap (λ (w : List ℕ). left_from_bad most (slice_split is_comma w)) (sym (left ∙ rest_is (comma + 1) rest))))
 
-pub stop_next : (whole other : Stop) (rest others : List ℕ) (comma : ℕ) (is_byte : Bool) →
-    whole ≡ pieces_stop other (slice_split is_comma rest) → position is_comma rest ≡ Some comma →
-    is_byte ≡ is_some (byte_of (take comma rest)) → is_byte ≡ true → others ≡ take (length rest - (comma + 1)) (drop (comma + 1) rest) →
-    whole ≡ pieces_stop other (slice_split is_comma others)
-stop_next whole other rest others comma is_byte so_far at test fine left =
-    so_far ∙ (split_stop other rest comma at
-    ∙ (ap (λ (b : Bool). cond b (pieces_stop other (slice_split is_comma (drop (comma + 1) rest)))
-    (wanted.Byte, length (behind_blanks (take comma rest)) + pieces_length (slice_split is_comma (drop (comma + 1) rest)))) (sym test ∙ fine)
-    ∙ ap (λ (w : List ℕ). pieces_stop other (slice_split is_comma w)) (sym (left ∙ rest_is (comma + 1) rest))))
-
-pub stop_here : (whole other : Stop) (rest : List ℕ) (comma blanks left : ℕ) (is_byte : Bool) →
-    whole ≡ pieces_stop other (slice_split is_comma rest) → position is_comma rest ≡ Some comma →
-    is_byte ≡ is_some (byte_of (take comma rest)) → is_byte ≡ false → blanks ≡ length (behind_blanks (take comma rest)) →
-    left ≡ blanks + (length rest - comma) → (wanted.Byte, left) ≡ whole
-stop_here whole other rest comma blanks left is_byte so_far at test not_byte counted sum =
-    sym (so_far ∙ (split_stop other rest comma at
-    ∙ (ap (λ (b : Bool). cond b (pieces_stop other (slice_split is_comma (drop (comma + 1) rest)))
-    (wanted.Byte, length (behind_blanks (take comma rest)) + pieces_length (slice_split is_comma (drop (comma + 1) rest)))) (sym test ∙ not_byte)
-    ∙ ap (λ (k : ℕ). (wanted.Byte, k)) same)))
+pub stop_here : (whole : Option ℕ) (most : ℕ) (rest : List ℕ) (comma blanks left : ℕ) (is_byte : Bool) →
+    whole ≡ left_from_bad most (slice_split is_comma rest) → position is_comma rest ≡ Some comma →
+    is_byte ≡ is_byte_to most (take comma rest) → is_byte ≡ false → blanks ≡ length (behind_blanks (take comma rest)) →
+    left ≡ blanks + (length rest - comma) → Some left ≡ whole
+stop_here whole most rest comma blanks left is_byte so_far at test not_byte counted sum =
+    sym (so_far ∙ (split_stop most rest comma at
+    ∙ (ap (λ (b : Bool). cond b (left_from_bad most (slice_split is_comma (drop (comma + 1) rest)))
+    (Some (length (behind_blanks (take comma rest)) + pieces_length (slice_split is_comma (drop (comma + 1) rest))))) (sym test ∙ not_byte)
+    ∙ ap (λ (k : ℕ). Some k) same)))
   where
     same : length (behind_blanks (take comma rest)) + pieces_length (slice_split is_comma (drop (comma + 1) rest)) ≡ left
     same =
@@ -124,44 +122,101 @@ stop_here whole other rest comma blanks left is_byte so_far at test not_byte cou
         let gone = length-drop (comma + 1) rest in
         omega (arith, f, w, long, gone, counted, sum)
 
-last_stop : (whole other : Stop) (rest : List ℕ) → whole ≡ pieces_stop other (slice_split is_comma rest) → position is_comma rest ≡ None →
-    whole ≡ cond (length (behind_blanks rest) == 0 || is_some (byte_of rest)) other (wanted.Byte, length (behind_blanks rest))
-unfolding pieces_stop
-last_stop whole other rest so_far none = so_far ∙ ap (pieces_stop other) (split_last is_comma rest none)
+last_stop : (whole : Option ℕ) (most : ℕ) (rest : List ℕ) → whole ≡ left_from_bad most (slice_split is_comma rest) → position is_comma rest ≡ None →
+    whole ≡ cond (length (behind_blanks rest) == 0 || is_byte_to most rest) None (Some (length (behind_blanks rest)))
+unfolding left_from_bad
+last_stop whole most rest so_far none = so_far ∙ ap (left_from_bad most) (split_last is_comma rest none)
 
-pub stop_blank : (whole other : Stop) (rest : List ℕ) (last : ℕ) → whole ≡ pieces_stop other (slice_split is_comma rest) →
-    position is_comma rest ≡ None → last ≡ length (behind_blanks rest) → last ≡ 0 → other ≡ whole
-stop_blank whole other rest last so_far none is nothing =
-    sym (last_stop whole other rest so_far none ∙
-    ap (λ (n : ℕ). cond (n == 0 || is_some (byte_of rest)) other (wanted.Byte, length (behind_blanks rest))) (sym is ∙ nothing))
+pub stop_blank : (whole : Option ℕ) (most : ℕ) (rest : List ℕ) (last : ℕ) → whole ≡ left_from_bad most (slice_split is_comma rest) →
+    position is_comma rest ≡ None → last ≡ length (behind_blanks rest) → last ≡ 0 → None ≡ whole
+stop_blank whole most rest last so_far none is nothing =
+    sym (last_stop whole most rest so_far none ∙
+    ap (λ (n : ℕ). cond (n == 0 || is_byte_to most rest) None (Some (length (behind_blanks rest)))) (sym is ∙ nothing))
 
-pub stop_byte : (whole other : Stop) (rest : List ℕ) (is_byte : Bool) → whole ≡ pieces_stop other (slice_split is_comma rest) →
-    position is_comma rest ≡ None → is_byte ≡ is_some (byte_of rest) → is_byte ≡ true → other ≡ whole
-stop_byte whole other rest is_byte so_far none test fine =
-    sym (last_stop whole other rest so_far none ∙ by (length (behind_blanks rest) == 0) (is_some (byte_of rest)) (sym test ∙ fine))
+pub stop_byte : (whole : Option ℕ) (most : ℕ) (rest : List ℕ) (is_byte : Bool) → whole ≡ left_from_bad most (slice_split is_comma rest) →
+    position is_comma rest ≡ None → is_byte ≡ is_byte_to most rest → is_byte ≡ true → None ≡ whole
+stop_byte whole most rest is_byte so_far none test fine =
+    sym (last_stop whole most rest so_far none ∙ by (length (behind_blanks rest) == 0) (is_byte_to most rest) (sym test ∙ fine))
   where
-    by : (a b : Bool) → b ≡ true → cond (a || b) other (wanted.Byte, length (behind_blanks rest)) ≡ other
+    by : (a b : Bool) → b ≡ true → cond (a || b) None (Some (length (behind_blanks rest))) ≡ None
     by true b e = refl
     by false true e = refl
     by false false e = absurd cc
 
-pub stop_last : (whole other : Stop) (rest : List ℕ) (last : ℕ) (is_byte : Bool) → whole ≡ pieces_stop other (slice_split is_comma rest) →
-    position is_comma rest ≡ None → last ≡ length (behind_blanks rest) → (last ≡ 0 → ⊥) → is_byte ≡ is_some (byte_of rest) → is_byte ≡ false →
-    (wanted.Byte, last) ≡ whole
-stop_last whole other rest last is_byte so_far none is some test not_byte =
-    sym (last_stop whole other rest so_far none
-    ∙ (by (length (behind_blanks rest) == 0) (is_some (byte_of rest)) not_none (sym test ∙ not_byte) ∙ ap (λ (k : ℕ). (wanted.Byte, k)) (sym is)))
+pub stop_last : (whole : Option ℕ) (most : ℕ) (rest : List ℕ) (last : ℕ) (is_byte : Bool) → whole ≡ left_from_bad most (slice_split is_comma rest) →
+    position is_comma rest ≡ None → last ≡ length (behind_blanks rest) → (last ≡ 0 → ⊥) → is_byte ≡ is_byte_to most rest → is_byte ≡ false →
+    Some last ≡ whole
+stop_last whole most rest last is_byte so_far none is some test not_byte =
+    sym (last_stop whole most rest so_far none
+    ∙ (by (length (behind_blanks rest) == 0) (is_byte_to most rest) not_none (sym test ∙ not_byte) ∙ ap (λ (k : ℕ). Some k) (sym is)))
   where
     not_none : (length (behind_blanks rest) == 0) ≡ false
     not_none = grind (arith, nat_tests, is, some)
 
-    by : (a b : Bool) → a ≡ false → b ≡ false → cond (a || b) other (wanted.Byte, length (behind_blanks rest)) ≡
-        (wanted.Byte, length (behind_blanks rest))
+    by : (a b : Bool) → a ≡ false → b ≡ false → cond (a || b) None (Some (length (behind_blanks rest))) ≡
+        (Some (length (behind_blanks rest)))
     by true b e f = absurd cc
     by false true e f = absurd cc
     by false false e f = refl
 
 -- ---- keys
+
+-- what is told of a name of some length, with so many units left, by what is told of the names behind it
+abbrev name_or : (room long left : ℕ) → (behind : Stop) → Stop
+name_or room long left behind = unwrap_or (option_map (λ (expected : Expected). (expected, left)) (name_wanted room long)) behind
+
+names_first : (room : ℕ) (rest : List ℕ) (end : ℕ) → position is_backslash rest ≡ Some end →
+    names_stop room (slice_split is_backslash rest) ≡
+    name_or room end (length rest) (names_stop (room - 1) (slice_split is_backslash (drop (end + 1) rest)))
+unfolding names_stop
+names_first room rest end at =
+    let found = index_is (position_or_len is_backslash rest) (length rest) end at in
+    let f = found.0 in let w = found.1 in
+    let long = length_split is_backslash (drop (end + 1) rest) in
+    let gone = length-drop (end + 1) rest in
+    let front = length-take end rest in
+    let name : length (take end rest) ≡ end = omega (arith, f, w, front) in
+    let left : length (take end rest) + pieces_length (slice_split is_backslash (drop (end + 1) rest)) ≡ length rest = omega (arith, f, w, long, gone, front) in
+    let behind = names_stop (room - 1) (slice_split is_backslash (drop (end + 1) rest)) in
+    ap (names_stop room) (split_first is_backslash rest end at)
+    ∙ (ap (λ (n : ℕ). name_or room (length (take end rest)) n behind) left ∙ ap (λ (n : ℕ). name_or room n (length rest) behind) name)
+
+pub names_next : (whole : Stop) (room less : ℕ) (rest others : List ℕ) (end : ℕ) → whole ≡ names_stop room (slice_split is_backslash rest) →
+    position is_backslash rest ≡ Some end → name_wanted room end ≡ None →
+    less ≡ room - 1 → others ≡ take (length rest - (end + 1)) (drop (end + 1) rest) → whole ≡ names_stop less (slice_split is_backslash others)
+names_next whole room less rest others end so_far at fine fewer left =
+    so_far ∙ (names_first room rest end at
+    ∙ (ap (λ (o : Option Expected). unwrap_or (option_map (λ (expected : Expected). (expected, length rest)) o)
+    (names_stop (room - 1) (slice_split is_backslash (drop (end + 1) rest)))) fine
+    ∙ (ap (λ (w : List ℕ). names_stop (room - 1) (slice_split is_backslash w)) (sym (left ∙ rest_is (end + 1) rest))
+    ∙ ap (λ (n : ℕ). names_stop n (slice_split is_backslash others)) (sym fewer))))
+
+pub names_here : (whole : Stop) (room : ℕ) (rest : List ℕ) (end : ℕ) (expected : Expected) →
+    whole ≡ names_stop room (slice_split is_backslash rest) → position is_backslash rest ≡ Some end → name_wanted room end ≡ Some expected →
+    (expected, length rest) ≡ whole
+names_here whole room rest end expected so_far at told =
+    sym (so_far ∙ (names_first room rest end at
+    ∙ ap (λ (o : Option Expected). unwrap_or (option_map (λ (expected : Expected). (expected, length rest)) o)
+    (names_stop (room - 1) (slice_split is_backslash (drop (end + 1) rest)))) told))
+
+names_last : (whole : Stop) (room : ℕ) (rest : List ℕ) → whole ≡ names_stop room (slice_split is_backslash rest) →
+    position is_backslash rest ≡ None → whole ≡ name_or room (length rest) (length rest) (wanted.Path, 0)
+unfolding names_stop pieces_length
+names_last whole room rest so_far none =
+    let left : length rest + 0 ≡ length rest = omega arith in
+    so_far ∙ (ap (names_stop room) (split_last is_backslash rest none) ∙ ap (λ (n : ℕ). name_or room (length rest) n (wanted.Path, 0)) left)
+
+pub names_end : (whole : Stop) (room : ℕ) (rest : List ℕ) (expected : Expected) → whole ≡ names_stop room (slice_split is_backslash rest) →
+    position is_backslash rest ≡ None → name_wanted room (length rest) ≡ Some expected → (expected, length rest) ≡ whole
+names_end whole room rest expected so_far none told =
+    sym (names_last whole room rest so_far none
+    ∙ ap (λ (o : Option Expected). unwrap_or (option_map (λ (expected : Expected). (expected, length rest)) o) (wanted.Path, 0)) told)
+
+pub names_fine : (whole : Stop) (room : ℕ) (rest : List ℕ) → whole ≡ names_stop room (slice_split is_backslash rest) →
+    position is_backslash rest ≡ None → name_wanted room (length rest) ≡ None → (wanted.Path, 0) ≡ whole
+names_fine whole room rest so_far none fine =
+    sym (names_last whole room rest so_far none
+    ∙ ap (λ (o : Option Expected). unwrap_or (option_map (λ (expected : Expected). (expected, length rest)) o) (wanted.Path, 0)) fine)
 
 -- the last bracket
 pub bracket_is : (line : List ℕ) (n : ℕ) → n ≤ length line → ((k : ℕ) → n ≤ k → k < length line → is_no_bracket (get_or line k 0) ≡ true) →
@@ -210,4 +265,6 @@ pub ruleset digit_places = (place_some, place_none)
 
 pub ruleset few_at_start = (digits_few, digits_within)
 
-pub ruleset list_stops = (stop_start, stop_next, stop_here, stop_blank, stop_byte, stop_last)
+pub ruleset pieces_left = (stop_next, stop_here, stop_blank, stop_byte, stop_last)
+
+pub ruleset names_left = (names_next, names_here, names_end, names_fine)

@@ -11,7 +11,7 @@ use Rattle.reg_dotreg_reader.specs.EntryLines.{is_feed, lines_of, is_value_line}
 use Rattle.reg_dotreg_reader.specs.EntryWords.{behind_blanks, before_mark, behind_word, number_of, quoted}
 use Rattle.reg_dotreg_reader.specs.EntryMeanings.{lengthened, name_read, is_close}
 use Rattle.reg_dotreg_reader.specs.LineStops.{Stop, behind_stop, has_quote, lacks_quote, unclosed, first_stop, several_stop, is_open}
-use Rattle.reg_dotreg_reader.specs.LineStops.{text_stop, bad_name, name_stop, few_digits, number_stop, list_stop, kind_stop, bytes_stop}
+use Rattle.reg_dotreg_reader.specs.LineStops.{text_stop, bad_name, name_stop, few_digits, number_stop, list_stop, behind_kind, kind_stop, bytes_stop}
 use Rattle.reg_dotreg_reader.specs.LineStops.{data_stop, behind_name_stop, unnamed_stop, value_stop}
 use Rattle.reg_dotreg_reader.specs.LineStops.{long_stop, below_stop, between_stop, open_stop, behind_bracket, before_bracket, key_stop, line_stop}
 
@@ -81,7 +81,7 @@ name_closed text first units behind is e = ap (name_by text) (ap quoted (sym is)
 
 abbrev kind_by : (is_number : Bool) → (text : List ℕ) → Option (List ℕ) → Stop
 kind_by is_number text list =
-    cond is_number (unwrap_or (option_map list_stop list) (wanted.Colon, length (after_first is_close text)))
+    cond is_number (unwrap_or (option_map list_stop list) (behind_kind text, length (after_first is_close text)))
     (wanted.Kind, length text - few_digits text)
 
 kind_parts : (text : List ℕ) → kind_stop text ≡
@@ -107,10 +107,10 @@ kind_list text digits behind list kind is left e f =
     kind_good text digits behind kind is left e ∙ ap (λ (o : Option (List ℕ)). kind_by true text o) f
 
 pub kind_colon : (text digits behind : List ℕ) (kind : ℕ) → digits ≡ before_first is_close text → behind ≡ after_first is_close text →
-    number_of 8 digits ≡ Some kind → behind_word (codes ":") behind ≡ None → kind_stop text ≡ (wanted.Colon, length behind)
+    number_of 8 digits ≡ Some kind → behind_word (codes ":") behind ≡ None → kind_stop text ≡ (behind_kind text, length behind)
 kind_colon text digits behind kind is left e f =
     kind_good text digits behind kind is left e ∙ (ap (λ (o : Option (List ℕ)). kind_by true text o) f
-    ∙ ap (λ (w : List ℕ). (wanted.Colon, length w)) (sym left))
+    ∙ ap (λ (w : List ℕ). (behind_kind text, length w)) (sym left))
 
 pub bytes_list : (rest list : List ℕ) → behind_word (codes ":") rest ≡ Some list → bytes_stop rest ≡ list_stop list
 unfolding bytes_stop

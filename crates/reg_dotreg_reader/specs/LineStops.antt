@@ -1,12 +1,13 @@
 -- Where a line of a .reg text that isn't understood stops, and what was expected there (this project's own). A stop has how much of the
 -- line is left behind its place.
-use Rattle.std.specs.Prelude.{ℕ, suc, ◌+◌, ◌-◌, ◌==◌, ◌&&◌, ◌||◌, not, nat_lt, Bool, true, false, if◌then◌else◌, List}
+use Rattle.std.specs.Prelude.{ℕ, suc, ◌+◌, ◌-◌, ◌==◌, ◌&&◌, ◌||◌, not, nat_lt, nat_le, Bool, true, false, if◌then◌else◌, List}
 use Rattle.std.specs.Prelude.{[], ◌∷◌, codes, length, take, drop}
 use Rattle.std.specs.Prelude.{Option, Some, None, option_map, is_some}
 use Rattle.std.specs.Option.{unwrap_or}
 use Rattle.std.specs.List.{list_all, list_any, position_or_len, suffix_len, slice_split, before_first, after_first}
 use Rattle.hex.specs.Hex.{hex_digit_value}
-use Rattle.reg_names.specs.Names.{is_value_name_byte}
+use Rattle.reg_names.specs.Names.{is_value_name_byte, is_backslash}
+use Rattle.reg_names.specs.declared.TheConstants.{KEY_NAME_LIMIT, PATH_LIMIT}
 use Rattle.reg_dotreg_reader.specs.declared.expected.Expected.{Expected}
 use Rattle.reg_dotreg_reader.specs.declared.expected.Expected.TheVariants as wanted
 use Rattle.reg_dotreg_reader.specs.EntryWords.{is_blank, behind_blanks, before_mark, behind_or, number_of, byte_of, is_comma, is_escaped, quoted}
@@ -97,29 +98,44 @@ counted_stop count rest = if is_whole count rest then behind_stop rest else (wan
 unfoldable pub number_stop : List ℕ → Stop
 number_stop digits = counted_stop (few_digits digits) (drop (few_digits digits) digits)
 
--- how long some pieces are, with the commas before them
+-- how long some pieces are, with the unit before each that parts them
 unfoldable pub pieces_length : List (List ℕ) → ℕ
 pieces_length [] = 0
 pieces_length (piece ∷ pieces) = suc (length piece) + pieces_length pieces
 
--- the first piece that is no byte; where each is one, as the last may be blanks alone, another stop
-unfoldable pub pieces_stop : Stop → List (List ℕ) → Stop
-pieces_stop other [] = other
-pieces_stop other (piece ∷ []) =
-    if length (behind_blanks piece) == 0 || is_some (byte_of piece) then other else (wanted.Byte, length (behind_blanks piece))
-pieces_stop other (piece ∷ next ∷ pieces) =
-    if is_some (byte_of piece) then pieces_stop other (next ∷ pieces)
-    else (wanted.Byte, length (behind_blanks piece) + pieces_length (next ∷ pieces))
+-- whether a piece is a byte of at most so much
+abbrev pub is_byte_to : (most : ℕ) → List ℕ → Bool
+is_byte_to most piece = unwrap_or (option_map (λ byte. nat_le byte most) (byte_of piece)) false
 
--- a list of bytes: one of them is none, or else they are no characters of one byte each
+-- how many units are left from the first piece on that is none, without the blanks before it; `None` where each is one, as the last may be
+-- blanks alone
+unfoldable pub left_from_bad : (most : ℕ) → List (List ℕ) → Option ℕ
+left_from_bad most [] = None
+left_from_bad most (piece ∷ []) =
+    if length (behind_blanks piece) == 0 || is_byte_to most piece then None else Some (length (behind_blanks piece))
+left_from_bad most (piece ∷ next ∷ pieces) =
+    if is_byte_to most piece then left_from_bad most (next ∷ pieces)
+    else Some (length (behind_blanks piece) + pieces_length (next ∷ pieces))
+
+-- pieces of a list of bytes: the first that is no byte, or else the first that is no character of one byte
+abbrev pub pieces_stop : List (List ℕ) → Stop
+pieces_stop pieces =
+    unwrap_or (option_map (λ left. (wanted.Byte, left)) (left_from_bad 255 pieces))
+    (wanted.PlainBytes, unwrap_or (left_from_bad 127 pieces) 0)
+
+-- a list of bytes
 unfoldable pub list_stop : List ℕ → Stop
-list_stop list = pieces_stop (wanted.PlainBytes, length list) (slice_split is_comma list)
+list_stop list = pieces_stop (slice_split is_comma list)
+
+-- what was expected behind a type: a colon, and `)` before it where none stands
+abbrev pub behind_kind : List ℕ → Expected
+behind_kind text = if list_any is_close text then wanted.Colon else wanted.Close
 
 -- a type and bytes, behind `hex(`
 unfoldable pub kind_stop : List ℕ → Stop
 kind_stop text =
     if is_some (number_of 8 (before_first is_close text)) then
-    behind_or (codes ":") list_stop (wanted.Colon, length (after_first is_close text)) (after_first is_close text)
+    behind_or (codes ":") list_stop (behind_kind text, length (after_first is_close text)) (after_first is_close text)
     else (wanted.Kind, length text - few_digits text)
 
 -- what stands behind `hex`
@@ -149,10 +165,24 @@ value_stop line = unwrap_or (option_map (λ read. behind_name_stop (behind_blank
 
 -- ---- keys
 
--- names of a path
-abbrev pub path_stop : List ℕ → Stop
+-- what was expected in the place of a name of some length, where so many names may stand; `None` where it may stand itself
+abbrev pub name_wanted : (room long : ℕ) → Option Expected
+name_wanted room long =
+    if long == 0 then Some wanted.KeyName
+    else if nat_lt KEY_NAME_LIMIT long then Some wanted.ShortKeyName else if room == 0 then Some wanted.Path else None
+
+-- names of a path, where so many may stand: the first one that is empty, too long or too many
+unfoldable pub names_stop : (room : ℕ) → List (List ℕ) → Stop
+names_stop room [] = (wanted.Path, 0)
+names_stop room (name ∷ names) =
+    unwrap_or (option_map (λ expected. (expected, length name + pieces_length names)) (name_wanted room (length name)))
+    (names_stop (room - 1) names)
+
+-- a path: a character that no name may have, or else one of its names
+unfoldable pub path_stop : List ℕ → Stop
 path_stop path =
-    if list_all is_value_name_byte path then (wanted.Path, length path) else (wanted.KeyCharacter, left_from (λ u. not (is_value_name_byte u)) path)
+    if list_all is_value_name_byte path then names_stop PATH_LIMIT (slice_split is_backslash path)
+    else (wanted.KeyCharacter, left_from (λ u. not (is_value_name_byte u)) path)
 
 -- what stands behind the root's name, of a key of so many units: another name than the root's, or else names of a path
 abbrev pub way_stop : (whole : ℕ) → List ℕ → Stop

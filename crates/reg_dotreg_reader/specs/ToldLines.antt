@@ -2,7 +2,7 @@
 use Rattle.std.specs.Prelude.{ℕ, ◌+◌, ◌==◌, ◌&&◌, ◌||◌, nat_lt, nat_le, not, Bool, false, if◌then◌else◌, List, [], ◌∷◌, ◌++◌, codes, length, get_or, take, drop, map}
 use Rattle.std.specs.List.{list_all, position_or_len}
 use Rattle.std.specs.Str.{bytes_eq, encode_utf8_all}
-use Rattle.std.specs.Char.Utf16.{utf16_lossy_chars}
+use Rattle.std.specs.Char.Utf16.{utf16_lossy_chars, has_unpaired_surrogate}
 use Rattle.std.specs.Fmt.{decimal}
 use Rattle.reg_names.specs.Names.{folded, is_backslash}
 use Rattle.reg_dotreg_reader.specs.declared.expected.BadLine.{BadLine}
@@ -17,7 +17,9 @@ words_of wanted.Line = codes "a key in brackets, a value's name in quotes or @, 
 words_of wanted.Key = codes "a key that is made, in brackets, above its values"
 words_of wanted.Root = codes "the name of the hive's root"
 words_of wanted.KeyCharacter = codes "a character of ASCII other than NUL"
-words_of wanted.Path = codes "at most 512 names of 1 to 255 characters, a backslash between two"
+words_of wanted.KeyName = codes "a key's name"
+words_of wanted.ShortKeyName = codes "a key's name of at most 255 characters"
+words_of wanted.Path = codes "at most 512 names in a path"
 words_of wanted.Bracket = codes "] at the line's end"
 words_of wanted.Quote = codes "a closing quote"
 words_of wanted.Escaped = codes "a quote or a backslash behind a backslash"
@@ -28,7 +30,8 @@ words_of wanted.Value = codes "a text in quotes, dword:, hex:, hex(TYPE): or -"
 words_of wanted.Number = codes "one to eight hexadecimal digits"
 words_of wanted.Bytes = codes ": or (TYPE): behind hex"
 words_of wanted.Kind = codes "a type of one to eight hexadecimal digits and )"
-words_of wanted.Colon = codes "): behind the type"
+words_of wanted.Close = codes "): behind the type"
+words_of wanted.Colon = codes ": behind the type"
 words_of wanted.Byte = codes "a byte of one or two hexadecimal digits"
 words_of wanted.PlainBytes = codes "bytes up to 7f, as the text is one of REGEDIT4"
 words_of wanted.Comment = codes "a comment behind ; or the line's end"
@@ -66,9 +69,9 @@ unfoldable pub hive_front : List ℕ → List ℕ
 hive_front key =
     if nat_lt (first_end key) (length key) && has_hives (take (first_end key) key) then take (second_end key) key else take (first_end key) key
 
--- a character of ASCII that stands between single quotes on a command line as it is
+-- a unit that stands between single quotes on a command line as it is: no control character, and no such quote
 abbrev pub is_typed : ℕ → Bool
-is_typed unit = nat_le 32 unit && (nat_le unit 126 && not (unit == 39))
+is_typed unit = not (is_control unit) && not (unit == 39)
 
 -- some text that doesn't begin as an option does
 abbrev pub begins_name : List ℕ → Bool
@@ -80,13 +83,17 @@ abbrev pub ends_name : List ℕ → Bool
 ends_name [] = false
 ends_name (unit ∷ front) = not (get_or (unit ∷ front) (length front) 0 == 92)
 
--- a front that may be typed
+-- a front of units that may be typed
 abbrev pub may_be_typed : List ℕ → Bool
 may_be_typed front = begins_name front && (ends_name front && (nat_le (length front) 200 && list_all is_typed front))
 
+-- one whose units are all of characters, so that it is read as it was typed: no surrogate has no partner
+abbrev pub is_hinted : List ℕ → Bool
+is_hinted front = may_be_typed front && not (has_unpaired_surrogate front)
+
 -- the option by which a front would stand for the root
 unfoldable pub hint : List ℕ → List ℕ
-hint front = if may_be_typed front then codes "; --prefix '" ++ (shown front ++ codes "' has that stand for it") else []
+hint front = if is_hinted front then codes "; --prefix '" ++ (shown front ++ codes "' has that stand for it") else []
 
 -- ---- what is told
 

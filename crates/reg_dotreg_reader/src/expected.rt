@@ -17,7 +17,11 @@ pub enum Expected {
     Root,
     /// A character that names of keys may have.
     KeyCharacter,
-    /// Names of keys.
+    /// A name of a key, where none stands.
+    KeyName,
+    /// A name of a key that isn't too long.
+    ShortKeyName,
+    /// A path that hasn't too many names.
     Path,
     /// The bracket that closes a key.
     Bracket,
@@ -39,11 +43,13 @@ pub enum Expected {
     Bytes,
     /// A type, in parentheses.
     Kind,
-    /// `:`, behind a type.
+    /// `)` and `:`, behind a type.
+    Close,
+    /// `:`, behind a type and its `)`.
     Colon,
     /// A byte.
     Byte,
-    /// Characters of one byte, in a text of REGEDIT4.
+    /// A character of one byte, in a text of REGEDIT4.
     PlainBytes,
     /// A comment, or the line's end, behind a value.
     Comment,
@@ -83,7 +89,9 @@ impl Expected {
             Expected::Key => "a key that is made, in brackets, above its values",
             Expected::Root => "the name of the hive's root",
             Expected::KeyCharacter => "a character of ASCII other than NUL",
-            Expected::Path => "at most 512 names of 1 to 255 characters, a backslash between two",
+            Expected::KeyName => "a key's name",
+            Expected::ShortKeyName => "a key's name of at most 255 characters",
+            Expected::Path => "at most 512 names in a path",
             Expected::Bracket => "] at the line's end",
             Expected::Quote => "a closing quote",
             Expected::Escaped => "a quote or a backslash behind a backslash",
@@ -94,7 +102,8 @@ impl Expected {
             Expected::Number => "one to eight hexadecimal digits",
             Expected::Bytes => ": or (TYPE): behind hex",
             Expected::Kind => "a type of one to eight hexadecimal digits and )",
-            Expected::Colon => "): behind the type",
+            Expected::Close => "): behind the type",
+            Expected::Colon => ": behind the type",
             Expected::Byte => "a byte of one or two hexadecimal digits",
             Expected::PlainBytes => "bytes up to 7f, as the text is one of REGEDIT4",
             Expected::Comment => "a comment behind ; or the line's end",

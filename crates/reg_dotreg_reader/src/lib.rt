@@ -12,7 +12,8 @@
 //!
 //! `encoding` makes units of bytes, `lines` cuts them, `rows` joins those of a value, `reading` goes over the lines once, and `keys`,
 //! `roots`, `values`, `quotes`, `numbers` and `words` read what one says. `checking` goes over the lines once more: `line_stops`,
-//! `quote_stops` and `number_stops` find where one stops, `places` which character of which line that is, and `telling` tells it.
+//! `path_stops`, `quote_stops` and `number_stops` find where one stops, `places` which character of which line that is, and `telling`
+//! tells it.
 //!
 //! The forms are those of regedit, version 5.00 and REGEDIT4; names of characters 0x01 to 0x7F alone are this project's own.
 #![tactic(auto)]
@@ -27,6 +28,7 @@ mod line_stops;
 mod lines;
 mod number_stops;
 mod numbers;
+mod path_stops;
 mod places;
 mod quote_stops;
 mod quotes;

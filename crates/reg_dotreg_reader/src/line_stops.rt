@@ -1,12 +1,13 @@
 //! Where lines that aren't understood stop.
 ghost use Rattle.std.specs.Prelude.{◌≡◌, IfOk};
-ghost use Rattle.reg_dotreg_reader.specs.LineStops.{data_stop, behind_name_stop, unnamed_stop, value_stop, path_stop, way_stop, long_stop};
+ghost use Rattle.reg_dotreg_reader.specs.LineStops.{data_stop, behind_name_stop, unnamed_stop, value_stop, way_stop, long_stop};
 ghost use Rattle.reg_dotreg_reader.specs.LineStops.{below_stop, between_stop, behind_bracket, open_stop, key_stop, line_stop};
 
 use crate::expected::Expected;
 use crate::fault::LineFault;
 use crate::number_stops::{behind_stop, bytes_stop, number_stop};
-use crate::quote_stops::{are_name_units, left_from_other, name_stop, text_stop};
+use crate::path_stops::path_stop;
+use crate::quote_stops::{name_stop, text_stop};
 use crate::roots::{behind_root, lengthened};
 use crate::values::name_read;
 use crate::words::{before_mark, behind_blanks, behind_word};
@@ -62,17 +63,6 @@ fn value_stop(alloc: Global, line: &[u16]) -> Result<(Expected, usize), AllocErr
         Ok((_name, rest)) => behind_name_stop(alloc, behind_blanks(rest)),
         Err(LineFault::Form) => unnamed_stop(alloc, line),
         Err(LineFault::Memory) => Err(AllocError),
-    }
-}
-
-/// Where the names of a path stop.
-fn path_stop(path: &[u16]) -> (Expected, usize)
-    ensures { result ≡ path_stop path.now }
-{
-    if are_name_units(path) {
-        (Expected::Path, path.len())
-    } else {
-        (Expected::KeyCharacter, left_from_other(path))
     }
 }
 

@@ -1,13 +1,13 @@
 //! Where numbers and bytes that aren't understood stop.
 ghost use Rattle.std.specs.Prelude.{◌≡◌, ◌≤◌, length};
-ghost use Rattle.std.specs.List.{position, position_or_len, before_first, after_first};
+ghost use Rattle.std.specs.List.{list_any, slice_split, position, position_or_len, before_first, after_first};
 ghost use Rattle.reg_dotreg_reader.specs.EntryMeanings.{is_close};
-ghost use Rattle.reg_dotreg_reader.specs.EntryWords.{behind_blanks as behind_blanks_of};
+ghost use Rattle.reg_dotreg_reader.specs.EntryWords.{behind_blanks as behind_blanks_of, is_comma};
 ghost use Rattle.reg_dotreg_reader.specs.LineStops.{is_no_digit, few_digits, behind_stop, begins_blank, is_whole, counted_stop, number_stop};
-ghost use Rattle.reg_dotreg_reader.specs.LineStops.{list_stop, kind_stop, bytes_stop};
+ghost use Rattle.reg_dotreg_reader.specs.LineStops.{left_from_bad, list_stop, behind_kind, kind_stop, bytes_stop};
 
 use crate::expected::Expected;
-use crate::numbers::{digit, first_comma, is_byte, number};
+use crate::numbers::{digit, first_comma, is_byte_to, number};
 use crate::values::first_close;
 use crate::words::{behind_blanks, behind_word, is_blank};
 
@@ -94,28 +94,41 @@ fn left_behind_blanks(units: &[u16]) -> usize
     behind_blanks(units).len()
 }
 
-/// Where a list of bytes stops.
-#[tactic(auto, using(crate::proofs::StopPlaces::list_stops))]
-pub fn list_stop(list: &[u16]) -> (Expected, usize)
-    ensures { result ≡ list_stop list.now }
+/// How many units are left from the first piece of a list on that is no byte of at most so much, without the blanks before it.
+#[tactic(auto, using(crate::proofs::StopPlaces::pieces_left))]
+fn left_from_bad(most: u32, list: &[u16]) -> Option<usize>
+    ensures { result ≡ left_from_bad most (slice_split is_comma list.now) }
 {
     let mut rest = list;
     while let Some(comma) = first_comma(rest) {
         let piece = &rest[..comma];
-        if !is_byte(piece) {
-            let left = left_behind_blanks(piece) + (rest.len() - comma);
-            return (Expected::Byte, left);
+        if !is_byte_to(most, piece) {
+            return Some(left_behind_blanks(piece) + (rest.len() - comma));
         }
         rest = &rest[comma + 1..];
     }
     let last = left_behind_blanks(rest);
     if last == 0 {
-        return (Expected::PlainBytes, list.len());
+        return None;
     }
-    if is_byte(rest) {
-        return (Expected::PlainBytes, list.len());
+    if is_byte_to(most, rest) {
+        return None;
     }
-    (Expected::Byte, last)
+    Some(last)
+}
+
+/// Where a list of bytes stops: at the first that is none, or else at the first that is above 0x7F.
+#[tactic(auto, unfolding(crate::specs::LineStops::list_stop))]
+pub fn list_stop(list: &[u16]) -> (Expected, usize)
+    ensures { result ≡ list_stop list.now }
+{
+    if let Some(left) = left_from_bad(0xFF, list) {
+        return (Expected::Byte, left);
+    }
+    match left_from_bad(0x7F, list) {
+        Some(left) => (Expected::PlainBytes, left),
+        None => (Expected::PlainBytes, 0),
+    }
 }
 
 /// What stands before the first `)`, or all, and what behind it, or nothing.
@@ -126,6 +139,24 @@ fn around_close(text: &[u16]) -> (&[u16], &[u16])
     match first_close(text) {
         Some(close) => (&text[..close], &text[close + 1..]),
         None => (text, &text[text.len()..]),
+    }
+}
+
+/// Whether a `)` stands in a text.
+fn has_close(text: &[u16]) -> bool
+    ensures { result ≡ list_any is_close text.now }
+{
+    text.iter().any(|unit| *unit == 41)
+}
+
+/// What was expected behind a type: a colon, and `)` before it where none stands.
+fn behind_kind(text: &[u16]) -> Expected
+    ensures { result ≡ behind_kind text.now }
+{
+    if has_close(text) {
+        Expected::Colon
+    } else {
+        Expected::Close
     }
 }
 
@@ -140,7 +171,7 @@ fn kind_stop(text: &[u16]) -> (Expected, usize)
     };
     match behind_word(b":", behind) {
         Some(list) => list_stop(list),
-        None => (Expected::Colon, behind.len()),
+        None => (behind_kind(text), behind.len()),
     }
 }
 

@@ -1,7 +1,8 @@
 //! Numbers and bytes in hexadecimal digits.
-ghost use Rattle.std.specs.Prelude.{◌≡◌, ◌<◌, ◌≤◌, ◌^◌, length, position, Some, is_some, IfSome, IfOk, IfErr};
+ghost use Rattle.std.specs.Prelude.{◌≡◌, ◌<◌, ◌≤◌, ◌^◌, length, position, Some, IfSome, IfOk, IfErr};
 ghost use Rattle.hex.specs.Hex.{hex_digit_value};
 ghost use Rattle.reg_dotreg_reader.specs.EntryWords.{number_of, byte_of, is_comma, list_bytes};
+ghost use Rattle.reg_dotreg_reader.specs.LineStops.{is_byte_to};
 ghost use Rattle.reg_dotreg_reader.specs.declared.fault.LineFault.TheVariants.{Form};
 ghost use Rattle.reg_dotreg_reader.specs.Internal.ReadSoFar.{Reads};
 
@@ -64,11 +65,14 @@ fn byte(piece: &[u16]) -> Result<u8, LineFault>
     Ok(number(2, trimmed(piece))? as u8)
 }
 
-/// Whether a piece is a byte.
-pub fn is_byte(piece: &[u16]) -> bool
-    ensures { result ≡ is_some (byte_of piece.now) }
+/// Whether a piece is a byte of at most so much.
+pub fn is_byte_to(most: u32, piece: &[u16]) -> bool
+    ensures { result ≡ is_byte_to most piece.now }
 {
-    number(2, trimmed(piece)).is_ok()
+    match number(2, trimmed(piece)) {
+        Ok(byte) => byte <= most,
+        Err(_) => false,
+    }
 }
 
 pub fn first_comma(list: &[u16]) -> Option<usize>

@@ -83,7 +83,7 @@ fn long_name(name: &[u16]) -> Option<&'static [u8]>
     None
 }
 
-fn first_backslash(text: &[u16]) -> Option<usize>
+pub fn first_backslash(text: &[u16]) -> Option<usize>
     ensures { result ≡ position is_backslash text.now }
 {
     text.iter().position(|unit| *unit == 92)

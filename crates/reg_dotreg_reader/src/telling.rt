@@ -1,7 +1,9 @@
 //! What is told of a line that isn't understood.
 ghost use Rattle.std.specs.Prelude.{◌≡◌, map, take, string_bytes, IfOk};
 ghost use Rattle.std.specs.List.{list_all};
-ghost use Rattle.reg_dotreg_reader.specs.ToldLines.{is_control, plain_unit, shown, has_hives, hive_front, is_typed, begins_name, ends_name, may_be_typed, hint};
+ghost use Rattle.std.specs.Char.Utf16.{has_unpaired_surrogate};
+ghost use Rattle.reg_dotreg_reader.specs.ToldLines.{is_control, plain_unit, shown, has_hives, hive_front};
+ghost use Rattle.reg_dotreg_reader.specs.ToldLines.{is_typed, begins_name, ends_name, may_be_typed, hint};
 ghost use Rattle.reg_dotreg_reader.specs.ToldLines.{found_told, whose, root_told, expected_told, told_line};
 
 use crate::expected::{BadLine, Expected};
@@ -72,11 +74,11 @@ fn hive_front(key: &[u16]) -> &[u16]
     &key[..end + 1 + second]
 }
 
-/// Whether a unit is a character of ASCII that stands between single quotes on a command line as it is.
+/// Whether a unit stands between single quotes on a command line as it is.
 fn is_typed(unit: u16) -> bool
     ensures { result ≡ is_typed unit }
 {
-    unit >= 32 && unit <= 126 && unit != 39
+    !is_control(unit) && unit != 39
 }
 
 fn are_typed(units: &[u16]) -> bool
@@ -105,11 +107,19 @@ fn ends_name(front: &[u16]) -> bool
     *last != 92
 }
 
-/// Whether a front may be typed.
+/// Whether the units of a front may be typed.
 fn may_be_typed(front: &[u16]) -> bool
     ensures { result ≡ may_be_typed front.now }
 {
     begins_name(front) && (ends_name(front) && (front.len() <= FOUND_LIMIT && are_typed(front)))
+}
+
+/// Whether a surrogate has no partner.
+fn has_unpaired(alloc: Global, units: &[u16]) -> Result<bool, AllocError>
+    ensures { IfOk result (λ b. b ≡ has_unpaired_surrogate units.now) }
+{
+    let text = String::from_utf16(alloc, units)?;
+    Ok(text.is_err())
 }
 
 /// The option by which a front would stand for the root; nothing of one that can't be typed.
@@ -117,7 +127,7 @@ fn may_be_typed(front: &[u16]) -> bool
 fn hint(alloc: Global, front: &[u16]) -> Result<String, AllocError>
     ensures { IfOk result (λ text. string_bytes text ≡ hint front.now) }
 {
-    if !may_be_typed(front) {
+    if !may_be_typed(front) || has_unpaired(alloc, front)? {
         return Ok(String::new(alloc));
     }
     let shown = shown(alloc, front)?;

@@ -155,10 +155,10 @@ fn unwritable_at(
 /// mark. The empty path is the root's. A front that is given, as `HKEY_LOCAL_MACHINE\SOFTWARE`, stands in the lines of keys for the
 /// root's name. The text goes to the writer while the keys are gone over, some 64 KB at a time, and at the end the writer is flushed.
 ///
-/// `Front` where the front has no character, a line break, or a character beyond 0x01 to 0x7F; else `NoKey` where the text is no path or
-/// no key is there; else `Name` where a name that is to be written has a line break: that of the key, of one on the way to it or below
-/// it, or of one of their values; and then nothing was written. Else `Stopped` where a write or memory failed, after a front of the file;
-/// and nothing was written either where memory failed while the names were looked at.
+/// `Front` where the front has no character, a line break, a character beyond 0x01 to 0x7F, `-` as its first or a backslash as its last;
+/// else `NoKey` where the text is no path or no key is there; else `Name` where a name that is to be written has a line break: that of the
+/// key, of one on the way to it or below it, or of one of their values; and then nothing was written. Else `Stopped` where a write or
+/// memory failed, after a front of the file; and nothing was written either where memory failed while the names were looked at.
 #[tactic(auto, using(crate::proofs::FileSteps::stays_at))]
 pub fn export<S: Sink>(
     alloc: Global,

@@ -1,10 +1,12 @@
 -- What one change makes of a file's hive (this project's own).
-use Rattle.std.specs.Prelude.{◌≡◌, ℕ, ◌==◌, ◌&&◌, ◌||◌, not, nat_lt, Bool, if◌then◌else◌, List, [], ◌∷◌, length, is_some}
+use Rattle.std.specs.Prelude.{◌≡◌, ℕ, ◌==◌, ◌&&◌, ◌||◌, not, nat_lt, nat_le, Bool, if◌then◌else◌, List, [], ◌∷◌, length, is_some}
 use Rattle.std.specs.Prelude.{Option, Some, None}
 use Rattle.std.specs.List.{list_any}
+use Rattle.std.specs.Option.{option_or}
 use Rattle.std.specs.FinMap.{get}
 use Rattle.reg_text.specs.Failures.{Stays}
-use Rattle.reg_names.specs.Names.{is_path}
+use Rattle.reg_names.specs.Names.{is_path, is_value_name}
+use Rattle.reg_heap.specs.declared.limits.TheConstants.{DATA_LIMIT}
 use Rattle.reg_heap.specs.Paths.{Tree, children_of}
 use Rattle.reg_heap.specs.Members.{value_named}
 use Rattle.reg_heap.specs.Edits.{folded_path, values_at}
@@ -24,7 +26,7 @@ use Rattle.reg_dotreg_import.specs.declared.fault.ImportFault.{ImportFault}
 use Rattle.reg_edits.specs.Edits.{next_sequence, Opens, IsChanged}
 use Rattle.reg_edits.specs.declared.edits.Edited.{Edited}
 use Rattle.reg_edits.specs.declared.hindrances.Hindrance.{Hindrance}
-use Rattle.reg_edits.specs.declared.hindrances.Hindrance.TheVariants.{NoKey, NoParent, NoValue, HasSubkeys, IsRoot}
+use Rattle.reg_edits.specs.declared.hindrances.Hindrance.TheVariants.{NoPath, NoName, TooLong, NoKey, NoParent, NoValue, HasSubkeys, IsRoot}
 use Rattle.reg_edits.specs.declared.changing.ChangeEnd.{ChangeEnd}
 use Rattle.reg_edits.specs.declared.changing.ChangeEnd.TheVariants.{Load, Hindered, Call, Memory}
 
@@ -54,6 +56,26 @@ parent_of (b ∷ bs) = if list_any is_backslash bs then b ∷ parent_of bs else 
 abbrev pub unless : Bool → Hindrance → Option Hindrance
 unless test why = if test then None else Some why
 
+-- a path is none
+abbrev pub hinders_path : (path : List ℕ) → Option Hindrance
+hinders_path path = unless (is_path path) NoPath
+
+-- a value's name is none
+abbrev pub hinders_name : (name : List ℕ) → Option Hindrance
+hinders_name name = unless (is_value_name name) NoName
+
+-- data are more than a value may have
+abbrev pub hinders_data : (bytes : List ℕ) → Option Hindrance
+hinders_data bytes = unless (nat_le (length bytes) DATA_LIMIT) TooLong
+
+-- what hinders a change whatever the tree has: its path is none, or else its value's name, or else its data are too long
+abbrev pub hinders_by_itself : KeyChange → Option Hindrance
+hinders_by_itself (change.CreateKey path makes_parents) = hinders_path path.items
+hinders_by_itself (change.SetValue path makes_parents name contents) =
+    option_or (option_or (hinders_path path.items) (hinders_name name.items)) (hinders_data contents.bytes.items)
+hinders_by_itself (change.DeleteValue path name) = option_or (hinders_path path.items) (hinders_name name.items)
+hinders_by_itself (change.DeleteKey path is_tree) = hinders_path path.items
+
 -- a key is to be made: the key above it isn't there, and isn't to be made
 abbrev pub hinders_key : Tree → (path : List ℕ) → (makes_parents : Bool) → Option Hindrance
 hinders_key tree path makes_parents = unless (makes_parents || has_key tree (parent_of path)) NoParent
@@ -73,12 +95,16 @@ hinders_going_key tree path is_tree =
     else if has_key tree path then unless (is_tree || not (has_subkeys tree path)) HasSubkeys
     else Some NoKey
 
--- what hinders a change of a tree, if anything does
+-- what hinders a change by what the tree has
+abbrev pub hinders_in : Tree → KeyChange → Option Hindrance
+hinders_in tree (change.CreateKey path makes_parents) = hinders_key tree path.items makes_parents
+hinders_in tree (change.SetValue path makes_parents name contents) = hinders_value tree path.items makes_parents
+hinders_in tree (change.DeleteValue path name) = hinders_going_value tree path.items name.items
+hinders_in tree (change.DeleteKey path is_tree) = hinders_going_key tree path.items is_tree
+
+-- what hinders a change of a tree, if anything does: first what does so whatever the tree has
 abbrev pub hindrance_of : Tree → KeyChange → Option Hindrance
-hindrance_of tree (change.CreateKey path makes_parents) = hinders_key tree path.items makes_parents
-hindrance_of tree (change.SetValue path makes_parents name contents) = hinders_value tree path.items makes_parents
-hindrance_of tree (change.DeleteValue path name) = hinders_going_value tree path.items name.items
-hindrance_of tree (change.DeleteKey path is_tree) = hinders_going_key tree path.items is_tree
+hindrance_of tree asked = option_or (hinders_by_itself asked) (hinders_in tree asked)
 
 -- ---- what makes it
 

@@ -147,9 +147,10 @@ fn apply_change<C: Callback>(
 /// Loads a hive from the image at the front of a file, makes one change in it at a moment, and answers the hive that it left, with that
 /// moment and the next sequence number.
 ///
-/// The change is made by the calls of an import of a .reg text that says it. It is hindered, and nothing is made: where the key isn't there
-/// of which a value is set or goes, or the key above the one that is made, unless missing keys are made; where a value that goes isn't
-/// there; and where the key that goes isn't there, is the root, or has keys below it that aren't to go.
+/// The change is made by the calls of an import of a .reg text that says it. It is hindered, and nothing is made: where the path is none,
+/// or the value's name, or the data are too long; where the key isn't there of which a value is set or goes, or the key above the one that
+/// is made, unless missing keys are made; where a value that goes isn't there; and where the key that goes isn't there, is the root, or has
+/// keys below it that aren't to go.
 pub fn change<F: Source>(
     alloc: Global,
     file: &mut F,

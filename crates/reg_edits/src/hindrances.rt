@@ -2,15 +2,23 @@
 
 ghost use Rattle.std.specs.Prelude.{◌≡◌, ◌<◌, is_some};
 ghost use Rattle.reg_edits.specs.KeyChanges.{has_key as has_key_at, has_subkeys as has_subkeys_at, has_value as has_value_at, parent_of};
-ghost use Rattle.reg_edits.specs.KeyChanges.{hinders_key, hinders_value, hinders_going_value, hinders_going_key, hindrance_of};
+ghost use Rattle.reg_edits.specs.KeyChanges.{hinders_path, hinders_name, hinders_data, hinders_by_itself};
+ghost use Rattle.reg_edits.specs.KeyChanges.{hinders_key, hinders_value, hinders_going_value, hinders_going_key, hinders_in, hindrance_of};
 
-use reg_names::check_path;
+use reg_heap::limits::DATA_LIMIT;
+use reg_names::{check_path, check_value_name};
 use reg_tree::Tree;
 use reg_words::KeyChange;
 
-/// Why a change isn't made, though the rules might allow its calls.
+/// Why none of the calls of a change is made.
 #[derive(Clone, Copy, Debug, PartialEq, Eq)]
 pub enum Hindrance {
+    /// The path is none.
+    NoPath,
+    /// The value's name is none.
+    NoName,
+    /// The data has more bytes than a value may have.
+    TooLong,
     /// There is no such key, and none is to be made.
     NoKey,
     /// The key above the one that is to be made isn't there, and isn't to be made.
@@ -74,6 +82,58 @@ fn parent(path: &[u8]) -> &[u8]
     rest
 }
 
+/// A path that is none.
+fn at_path(path: &[u8]) -> Option<Hindrance>
+    ensures { result ≡ hinders_path path.now }
+{
+    if check_path(path).is_err() {
+        return Some(Hindrance::NoPath);
+    }
+    None
+}
+
+/// A value's name that is none.
+fn at_name(name: &[u8]) -> Option<Hindrance>
+    ensures { result ≡ hinders_name name.now }
+{
+    if check_value_name(name).is_err() {
+        return Some(Hindrance::NoName);
+    }
+    None
+}
+
+/// Data that no value may have.
+fn at_data(bytes: &[u8]) -> Option<Hindrance>
+    ensures { result ≡ hinders_data bytes.now }
+{
+    if bytes.len() > DATA_LIMIT {
+        return Some(Hindrance::TooLong);
+    }
+    None
+}
+
+/// What hinders a change whatever the tree has.
+fn by_itself(change: &KeyChange) -> Option<Hindrance>
+    ensures { result ≡ hinders_by_itself change.now }
+{
+    match change {
+        KeyChange::CreateKey { path, .. } | KeyChange::DeleteKey { path, .. } => {
+            at_path(path.as_slice())
+        }
+        KeyChange::SetValue {
+            path,
+            name,
+            contents,
+            ..
+        } => at_path(path.as_slice())
+            .or(at_name(name.as_slice()))
+            .or(at_data(contents.bytes.as_slice())),
+        KeyChange::DeleteValue { path, name } => {
+            at_path(path.as_slice()).or(at_name(name.as_slice()))
+        }
+    }
+}
+
 /// What hinders a key to be made.
 fn at_new_key(tree: &Tree, path: &[u8], makes_parents: bool) -> Option<Hindrance>
     ensures { result ≡ hinders_key tree.now.tree path.now makes_parents }
@@ -123,9 +183,9 @@ fn at_going_key(tree: &Tree, path: &[u8], is_tree: bool) -> Option<Hindrance>
     Some(Hindrance::HasSubkeys)
 }
 
-/// What hinders a change of a tree, if anything does.
-pub fn what_hinders(tree: &Tree, change: &KeyChange) -> Option<Hindrance>
-    ensures { result ≡ hindrance_of tree.now.tree change.now }
+/// What hinders a change by what the tree has.
+fn in_tree(tree: &Tree, change: &KeyChange) -> Option<Hindrance>
+    ensures { result ≡ hinders_in tree.now.tree change.now }
 {
     match change {
         KeyChange::CreateKey {
@@ -141,5 +201,15 @@ pub fn what_hinders(tree: &Tree, change: &KeyChange) -> Option<Hindrance>
             at_going_value(tree, path.as_slice(), name.as_slice())
         }
         KeyChange::DeleteKey { path, is_tree } => at_going_key(tree, path.as_slice(), *is_tree),
+    }
+}
+
+/// What hinders a change of a tree, if anything does.
+pub fn what_hinders(tree: &Tree, change: &KeyChange) -> Option<Hindrance>
+    ensures { result ≡ hindrance_of tree.now.tree change.now }
+{
+    match by_itself(change) {
+        Some(why) => Some(why),
+        None => in_tree(tree, change),
     }
 }

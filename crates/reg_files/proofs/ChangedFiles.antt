@@ -6,9 +6,16 @@ use Rattle.reg_words.specs.ChangeLines.{told as line_of}
 use Rattle.reg_words.specs.declared.typed.change.KeyChange.{KeyChange}
 use Rattle.reg_edits.specs.KeyChanges.{Changes}
 use Rattle.reg_edits.specs.declared.edits.Edited.{Edited}
+use Rattle.reg_edits.specs.declared.changing.ChangeEnd.{ChangeEnd}
+use Rattle.reg_edits.specs.declared.changing.ChangeEnd.TheVariants.{Load, Hindered, Call, Memory}
+use Rattle.reg_edits.specs.declared.hindrances.Hindrance.{Hindrance}
+use Rattle.reg_edits.specs.declared.hindrances.Hindrance.TheVariants.{NoPath, NoName, TooLong, NoKey, NoParent, NoValue, HasSubkeys, IsRoot}
+use Rattle.reg_dotreg_import.specs.declared.fault.ImportFault.{ImportFault}
+use Rattle.reg_dotreg_import.specs.declared.fault.ImportFault.TheVariants as call
 use Rattle.reg_files.specs.Looking.{IsCutShort}
 use Rattle.reg_files.specs.Editing.{IsGiven, Tells, ChangesFile, StopsChanging}
-use Rattle.reg_files.specs.Internal.Cuts.{is_save_end_cut}
+use Rattle.reg_files.specs.Internal.Cuts.{is_cut, is_save_end_cut}
+use Rattle.reg_files.specs.Internal.Faults.{hindered, call_ended, change_ended}
 use Rattle.reg_files.specs.declared.fault.SaveEnd.{SaveEnd}
 
 -- it was made, and told if it was to be
@@ -40,3 +47,24 @@ cut_short change line before after same (Err end) h = inr (h.0, subst (λ (l : L
 pub ended : (change : KeyChange) (end : SaveEnd) (before : Option (List ℕ)) → is_save_end_cut end ≡ false →
     StopsChanging change (is_save_end_cut end) before before
 ended change end before none = inl (none, refl)
+
+-- no fault of a change is a failed write
+hindered-uncut : (why : Hindrance) → is_cut (hindered why) ≡ false
+hindered-uncut NoPath = refl
+hindered-uncut NoName = refl
+hindered-uncut TooLong = refl
+hindered-uncut NoKey = refl
+hindered-uncut NoParent = refl
+hindered-uncut NoValue = refl
+hindered-uncut HasSubkeys = refl
+hindered-uncut IsRoot = refl
+
+call-uncut : (ended : ImportFault) → is_cut (call_ended ended) ≡ false
+call-uncut (call.Refused line status) = refl
+call-uncut call.Memory = refl
+
+pub change-uncut : (end : ChangeEnd) → is_cut (change_ended end) ≡ false
+change-uncut (Load fault) = refl
+change-uncut (Hindered why) = hindered-uncut why
+change-uncut (Call ended) = call-uncut ended
+change-uncut Memory = refl

@@ -7,6 +7,7 @@ ghost use Rattle.reg_files.specs.Saves.{is_of_saving};
 ghost use Rattle.reg_files.specs.Cuts.{is_dump_cut, is_path_cut, is_query_cut, is_find_cut, is_diff_cut, is_export_cut, is_end_cut};
 ghost use Rattle.reg_files.specs.Cuts.{is_changes_cut, is_edit_cut};
 ghost use Rattle.reg_files.specs.Internal.Cuts.{is_cut, is_diff_end_cut, IsOfStep};
+ghost use Rattle.reg_files.specs.Internal.Faults.{hindered, change_ended, fresh_ended};
 
 use crate::device::Device;
 use crate::images::Image;
@@ -112,6 +113,15 @@ pub enum Fault {
     /// A hive that is to be saved can't be built anew: memory runs out, or the new bins have no room.
     #[error("the hive can't be built anew: {0}")]
     Rebuild(LoadFault),
+    /// The path of a change is none.
+    #[error("the path is none: it may have up to 512 names of 1 to 255 characters 0x01 to 0x7F, with a backslash between each two")]
+    NoPath,
+    /// The name of a value in a change is none.
+    #[error("the value's name is none: it may have up to 16,383 characters 0x01 to 0x7F")]
+    NoName,
+    /// The data of a change are more than a value may have.
+    #[error("the data has more than 1,048,576 bytes")]
+    TooLong,
     /// There is no such key.
     #[error("there is no such key")]
     NoKey,
@@ -261,10 +271,13 @@ pub fn import_fault(end: ImportEnd, is_front: bool) -> Fault {
 }
 
 impl From<Hindrance> for Fault {
-    ghost from_gives = { λ _ made. is_cut made ≡ false };
+    ghost from_gives = { λ why made. made ≡ hindered why };
 
     fn from(why: Hindrance) -> Fault {
         match why {
+            Hindrance::NoPath => Fault::NoPath,
+            Hindrance::NoName => Fault::NoName,
+            Hindrance::TooLong => Fault::TooLong,
             Hindrance::NoKey => Fault::NoKey,
             Hindrance::NoParent => Fault::NoParent,
             Hindrance::NoValue => Fault::NoValue,
@@ -275,7 +288,7 @@ impl From<Hindrance> for Fault {
 }
 
 impl From<ChangeEnd> for Fault {
-    ghost from_gives = { λ _ made. is_cut made ≡ false };
+    ghost from_gives = { λ end made. made ≡ change_ended end };
 
     fn from(fault: ChangeEnd) -> Fault {
         match fault {
@@ -375,6 +388,8 @@ impl From<AllocError> for CopyStop {
 }
 
 impl From<FreshFault> for Fault {
+    ghost from_gives = { λ end made. made ≡ fresh_ended end };
+
     fn from(fault: FreshFault) -> Fault {
         match fault {
             FreshFault::Name => Fault::Name,

@@ -110,7 +110,7 @@ fn fault_text(alloc: Global, file: &str, input: &str, fault: &Fault) -> Result<S
         Fault::Load(LoadFault::Memory) | Fault::Memory => format!(in alloc; "8"),
         Fault::Busy => format!(in alloc; "busy {file}"),
         Fault::NoFile => format!(in alloc; "file {file}: {fault}"),
-        Fault::Name => format!(in alloc; "name {file}: {fault}"),
+        Fault::Name | Fault::NoPath | Fault::NoName => format!(in alloc; "name {file}: {fault}"),
         Fault::Step { step, error } => format!(in alloc; "{step} {file}: {error}"),
         Fault::Load(fault) => {
             let number = fault.number();
@@ -126,7 +126,7 @@ fn fault_text(alloc: Global, file: &str, input: &str, fault: &Fault) -> Result<S
         Fault::NoKey | Fault::NoValue | Fault::NoParent | Fault::NoCopy(CopyFault::NoPlace) => {
             format!(in alloc; "missing {file}: {fault}")
         }
-        Fault::HasSubkeys | Fault::IsRoot | Fault::NoCopy(_) => {
+        Fault::TooLong | Fault::HasSubkeys | Fault::IsRoot | Fault::NoCopy(_) => {
             format!(in alloc; "change {file}: {fault}")
         }
         Fault::NoChange { status } => {

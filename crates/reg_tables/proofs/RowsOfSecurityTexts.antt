@@ -36,11 +36,11 @@ whole-group : sid_of (drop 88 whole) ≡ Some (codes "SY")
 unfolding sid_of short_at long_at short_name authority_text digits hex_on_literals
 whole-group = refl
 
-whole-dacl : acl_of (drop 20 whole) ≡ Some (codes "(A;CIOI;KA;;;BA)(A;CIID;KR;;;SY)")
+whole-dacl : acl_of (drop 20 whole) ≡ Some (codes "(A;OICI;KA;;;BA)(A;CIID;KR;;;SY)")
 unfolding acl_of ace_of ace_text rights_text right_name mask_text sid_of short_at long_at short_name authority_text digits hex_on_literals
 whole-dacl = refl
 
-descriptor-whole : sddl_of whole ≡ Some (codes "O:BAG:SYD:PAI(A;CIOI;KA;;;BA)(A;CIID;KR;;;SY)")
+descriptor-whole : sddl_of whole ≡ Some (codes "O:BAG:SYD:PAI(A;OICI;KA;;;BA)(A;CIID;KR;;;SY)")
 unfolding sddl_of short_at long_at
 descriptor-whole = rw (whole-owner, whole-group, whole-dacl) refl
 
@@ -152,7 +152,7 @@ ace-beyond : ace_of (0 ∷ 0 ∷ 24 ∷ 0 ∷ 63 ∷ 0 ∷ 15 ∷ 0 ∷ system) 
 unfolding ace_of ace_text rights_text right_name mask_text sid_of short_at long_at short_name authority_text digits hex_on_literals
 ace-beyond = refl
 
-flags-all : ace_flags 0xDF ≡ codes "CIOINPIOIDSAFA"
+flags-all : ace_flags 0xDF ≡ codes "OICINPIOIDSAFA"
 flags-all = refl
 
 flags-each : map ace_flags (1 ∷ 2 ∷ 4 ∷ 8 ∷ 16 ∷ 64 ∷ 128 ∷ []) ≡

@@ -81,9 +81,10 @@ is_ace bytes =
 abbrev pub kind_text : (kind : ℕ) → List ℕ
 kind_text kind = if kind == 0 then codes "A" else if kind == 1 then codes "D" else if kind == 2 then codes "AU" else codes "ML"
 
+-- the letters of flags, in the order in which Windows writes them
 abbrev pub ace_flags : (flags : ℕ) → List ℕ
 ace_flags flags =
-    flag_text flags 0x2 (codes "CI") ++ (flag_text flags 0x1 (codes "OI") ++ (flag_text flags 0x4 (codes "NP") ++ (flag_text flags 0x8 (codes "IO")
+    flag_text flags 0x1 (codes "OI") ++ (flag_text flags 0x2 (codes "CI") ++ (flag_text flags 0x4 (codes "NP") ++ (flag_text flags 0x8 (codes "IO")
     ++ (flag_text flags 0x10 (codes "ID") ++ (flag_text flags 0x40 (codes "SA") ++ flag_text flags 0x80 (codes "FA"))))))
 
 -- the letters of just these rights: of a label, and of any other ACE

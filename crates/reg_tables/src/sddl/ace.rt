@@ -47,19 +47,19 @@ fn kind_text(kind: u8) -> &'static str
     "ML"
 }
 
-/// The letters of flags.
+/// The letters of flags, in the order in which Windows writes them.
 fn ace_flags(alloc: Global, flags: u8) -> Result<String, AllocError>
     ensures { IfOk result (λ text. string_bytes text ≡ ace_flags flags) }
 {
     let flags = u16::from(flags);
-    let containers = letters_where(flags, 0x2, "CI");
     let objects = letters_where(flags, 0x1, "OI");
+    let containers = letters_where(flags, 0x2, "CI");
     let once = letters_where(flags, 0x4, "NP");
     let below = letters_where(flags, 0x8, "IO");
     let inherited = letters_where(flags, 0x10, "ID");
     let success = letters_where(flags, 0x40, "SA");
     let failure = letters_where(flags, 0x80, "FA");
-    format!(in alloc; "{containers}{objects}{once}{below}{inherited}{success}{failure}")
+    format!(in alloc; "{objects}{containers}{once}{below}{inherited}{success}{failure}")
 }
 
 /// The letters of a label's rights.

@@ -1,6 +1,6 @@
 use Rattle.std.proofs.Common.{inl, ap, refl, ◌∙◌}
-use Rattle.reg_files.specs.Internal.Cuts.{is_save_end_cut}
-use Rattle.reg_files.proofs.ChangedFiles.{changed, cut_short, ended}
+use Rattle.reg_files.specs.Internal.Cuts.{is_cut, is_save_end_cut}
+use Rattle.reg_files.proofs.ChangedFiles.{changed, cut_short, ended, change-uncut}
 use Rattle.reg_files.proofs.StoppedCommands.{from_err}
 use Rattle.reg_files.proofs.commands.change_file.Goals as goal
 
@@ -17,7 +17,7 @@ returns-in_err-opened-clause-err g c =
     from_err _ _ c.from_residual-in_err-opened.result c.from_residual-in_err-opened.ensures.1 (λ end is. ended _ end _ (ap is_save_end_cut is))
 
 pub returns-in-Err-clause-err : goal.returns-in-Err-clause-err
-returns-in-Err-clause-err g c = inl (c.of_file-fault.ensures.cut ∙ c.from.ensures, refl)
+returns-in-Err-clause-err g c = inl (c.of_file-fault.ensures.cut ∙ (ap is_cut c.from.ensures ∙ change-uncut c.in-Err.fault), refl)
 
 pub returns-in_err-save-clause-err : goal.returns-in_err-save-clause-err
 returns-in_err-save-clause-err g c =
