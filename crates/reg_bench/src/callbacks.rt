@@ -5,7 +5,7 @@ use anyhow::{Result, bail};
 use reg_callbacks::{Callback, NoCallback};
 use reg_calls::{Hive, SeatedHive};
 use reg_fixtures::Registry;
-use reg_model::{Bytes, Call, Change};
+use reg_model::{Bytes, Call, Change, Query};
 use std::alloc::Global;
 use std::rt::Clock;
 use std::time::Instant;
@@ -42,6 +42,11 @@ fn measure<Rt: Clock, C: Callback>(
 /// A hive that asks these callbacks, each at an altitude of its own.
 fn asking<C: Callback>(alloc: Global, callbacks: Vec<C>) -> Result<SeatedHive<C>> {
     let mut hive = Hive::new(alloc, b"ROOT", &[1], 0)?;
+    register_all(&mut hive, callbacks)?;
+    Ok(SeatedHive::new(hive)?)
+}
+
+fn register_all<C: Callback>(hive: &mut Hive<C>, callbacks: Vec<C>) -> Result<()> {
     let mut altitude: u32 = 0;
     for callback in callbacks {
         if hive.register(callback, altitude).is_err() {
@@ -49,7 +54,7 @@ fn asking<C: Callback>(alloc: Global, callbacks: Vec<C>) -> Result<SeatedHive<C>
         }
         altitude = altitude.saturating_add(1);
     }
-    Ok(SeatedHive::new(hive)?)
+    Ok(())
 }
 
 fn by_turns<Rt: Clock, H: Registry>(
@@ -83,6 +88,14 @@ fn prepare<H: Registry>(alloc: Global, hive: &mut H) -> Result<()> {
     Ok(())
 }
 
+/// Whether a question is answered.
+fn asks<H: Registry>(hive: &mut H, query: &Query) -> bool {
+    let answer = hive.read(0, query);
+    let is_told = is_answered(&answer.body);
+    drop(answer);
+    is_told
+}
+
 /// Makes calls, and adds how many were accepted and how long all took.
 pub fn play<H: Registry>(
     rt: &impl Clock,
@@ -95,7 +108,7 @@ pub fn play<H: Registry>(
     for call in calls {
         let is_accepted = match call {
             Call::Change(change) => hive.apply(0, 1, change).status == 0,
-            Call::Query(query) => is_answered(&hive.read(0, &query).body),
+            Call::Query(query) => asks(hive, &query),
         };
         accepted = accepted.saturating_add(u64::from(is_accepted));
     }

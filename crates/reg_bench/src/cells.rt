@@ -1,6 +1,6 @@
 //! Carves and frees of an arena, and the memory of a tree.
 
-use crate::calls::Bench;
+use crate::calls::{Bench, Took};
 use anyhow::{Result, bail};
 use reg_fixtures::LiveCells;
 use reg_names::{check_path, check_value_name};
@@ -22,19 +22,8 @@ fn come_and_go<Rt: Print + Clock>(
     cells: &mut LiveCells,
     count: u32,
 ) -> Result<()> {
-    let (mut carved, mut freed) = (bench.took(), bench.took());
-    let mut long: u32 = 0;
-    for _cell in 0..count {
-        let start = Instant::now(bench.rt)?;
-        cells.carve_some(1)?;
-        let time = start.elapsed(bench.rt)?;
-        carved.add(1, time);
-        long = long.saturating_add(u32::from(time > Duration::from_millis(1)));
-    }
-    cells.choose_some((count / 6) as usize)?;
-    let start = Instant::now(bench.rt)?;
-    let calls = cells.free_chosen() as u64;
-    freed.add(calls, start.elapsed(bench.rt)?);
+    let (carved, long) = carve_all(bench, cells, count)?;
+    let freed = free_some(bench, cells, (count / 6) as usize)?;
     if bench.is_small {
         let (stay, bytes) = (cells.len(), cells.bins_size());
         println!(bench.rt; "arena: {stay} cells stay in {bytes} bytes")?;
@@ -43,6 +32,34 @@ fn come_and_go<Rt: Print + Clock>(
     println!(bench.rt; "carve, {count}: {carved}, {long} above a millisecond")?;
     println!(bench.rt; "free, {count}: {freed}")?;
     Ok(())
+}
+
+/// Carves so many cells. Answers how long that took, and how many of them took above a millisecond.
+fn carve_all<Rt: Clock>(
+    bench: Bench<'_, Rt>,
+    cells: &mut LiveCells,
+    count: u32,
+) -> Result<(Took, u32)> {
+    let mut took = bench.took();
+    let mut long: u32 = 0;
+    for _cell in 0..count {
+        let start = Instant::now(bench.rt)?;
+        cells.carve_some(1)?;
+        let time = start.elapsed(bench.rt)?;
+        took.add(1, time);
+        long = long.saturating_add(u32::from(time > Duration::from_millis(1)));
+    }
+    Ok((took, long))
+}
+
+/// Frees so many cells, and answers how long that took.
+fn free_some<Rt: Clock>(bench: Bench<'_, Rt>, cells: &mut LiveCells, count: usize) -> Result<Took> {
+    let mut took = bench.took();
+    cells.choose_some(count)?;
+    let start = Instant::now(bench.rt)?;
+    let calls = cells.free_chosen() as u64;
+    took.add(calls, start.elapsed(bench.rt)?);
+    Ok(took)
 }
 
 /// Makes a tree of keys with a value each, and prints how many bytes its bins have. The system tells what memory the process then has.

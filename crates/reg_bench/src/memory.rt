@@ -39,6 +39,7 @@ fn fill<Rt: Print + Wait>(host: Host<'_, Rt>, session: &mut Session, changes: u3
     for _change in 0..changes {
         host.change(&OpenGate, session, 0, &set);
     }
+    drop(set);
     let receipts = session.receipts(0).len();
     println!(host.bench.rt; "session of {changes} changes: {receipts} receipts")?;
     if !host.bench.is_small {

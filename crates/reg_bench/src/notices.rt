@@ -98,11 +98,7 @@ impl Exchange {
 
     /// Looks, and then watches and takes the notice, over and over.
     fn take_all<Rt: Clock + Wait>(&self, host: Host<'_, Rt>, session: &mut Session) -> Result<()> {
-        let watch = Change::Notify {
-            handle: host.prepare(session, 0)?,
-            filter: LAST_SET,
-            subtree: false,
-        };
+        let handle = host.prepare(session, 0)?;
         let mut told = self.told.lock(host.bench.rt);
         self.step.store(1, Ordering::SeqCst);
         if !self.wait_for(2) {
@@ -112,7 +108,7 @@ impl Exchange {
         self.step.store(3, Ordering::SeqCst);
         looked?;
         for round in 0..self.notices {
-            host.change(&OpenGate, session, 0, &watch);
+            watch(host, session, handle);
             self.step.store(u64::from(round) + 4, Ordering::SeqCst);
             let mut waited = host.bench.took();
             look(host, session, TURNS, &mut waited)?;
@@ -158,14 +154,29 @@ fn measure<Rt: Print + Clock + Threads + Wait + Sync>(
     };
     exchange.run(host, sessions);
     let told = exchange.told.lock(rt);
-    println!(rt; "TakeNotice that finds none, 1: {free}")?;
-    println!(rt; "TakeNotice while the hive is locked, 1: {}", told.locked)?;
-    print!(rt; "a notice on another thread, {notices}: taken")?;
+    tell(host.bench, notices, &free, &told)
+}
+
+fn tell<Rt: Print>(bench: Bench<'_, Rt>, notices: u32, free: &Took, told: &Told) -> Result<()> {
+    println!(bench.rt; "TakeNotice that finds none, 1: {free}")?;
+    println!(bench.rt; "TakeNotice while the hive is locked, 1: {}", told.locked)?;
+    print!(bench.rt; "a notice on another thread, {notices}: taken")?;
     for time in told.times.iter() {
-        print!(rt; " {}", if is_small { 0 } else { *time })?;
+        print!(bench.rt; " {}", if bench.is_small { 0 } else { *time })?;
     }
-    println!(rt; "")?;
+    println!(bench.rt; "")?;
     Ok(())
+}
+
+/// Asks for a notice of the next change of a value.
+fn watch<Rt: Wait>(host: Host<'_, Rt>, session: &mut Session, handle: u64) {
+    let asked = Change::Notify {
+        handle,
+        filter: LAST_SET,
+        subtree: false,
+    };
+    host.change(&OpenGate, session, 0, &asked);
+    drop(asked);
 }
 
 /// Looks for notices until one is there, so often at most. The calls are the looks that find none.

@@ -58,18 +58,22 @@ impl<'a, Rt: Wait> Host<'a, Rt> {
             return false;
         }
         let answer = session.ask(self.bench.rt, self.registry, &OpenGate, 0, query);
-        is_answered(&answer.body)
+        let is_told = is_answered(&answer.body);
+        drop(answer);
+        is_told
     }
 
     /// Opens the root of a hive in a session, and sets its value. Answers the handle.
     pub fn prepare(self, session: &mut Session, hive: u8) -> Result<u64> {
         let open = Change::OpenRoot { mask: ALL_RIGHTS };
         let opened = self.change(&OpenGate, session, hive, &open);
+        drop(open);
         let Some(handle) = opened.and_then(|reply| reply.handle) else {
             bail!("the root was not opened");
         };
         let set = set_value(self.bench.alloc, handle)?;
         self.change(&OpenGate, session, hive, &set);
+        drop(set);
         Ok(handle)
     }
 }
