@@ -19,8 +19,8 @@
  *
  * Status. Each function but zug_version and zug_hive_close answers a status of Win32: 0 is success. Under each stands which others come.
  * 6 comes where the zug_hive holds no hive, 87 where the session is 64 or above, both before all else. 8 comes where memory was refused:
- * for a copy of what was given, before all else that a call tests, or in place of a success that needed some. No call ends the process
- * while the stack is enough.
+ * for a copy of a path, a name, data or a descriptor of more than 16 bytes, before all else that a call tests, or in place of a success
+ * that needed some. No call ends the process while the stack is enough.
  *
  * What goes out. A call that answers another status than 0 changes nothing of the hive, sets each number that it hands out to 0, and leaves
  * each room, a buffer of yours, as it was. Only 234 and 122 tell a size, and 234 a type, or the first row of several. With 0 a room has the
@@ -45,7 +45,7 @@
  *   - What a call writes to overlaps nothing else that the call is given.
  *   - malloc, realloc and free are one allocator's. No call comes from a signal handler, nor from the child of a process with threads.
  *   - The calling thread has enough stack: where that ends, the system ends the process. No proof says how much a call takes. The tests run
- *     with the 8 MiB that Linux gives a thread; with less nothing was tried.
+ *     with 8 MiB, and those of bindings/rust with 2 MiB; with less nothing was tried.
  *
  * Link libzugmeled.a, which ./build --library puts in dist beside this header: `cc program.c -Idist dist/libzugmeled.a`. By pkg-config it is
  * `cc program.c $(PKG_CONFIG_PATH=dist pkg-config --cflags --libs zugmeled)`.
