@@ -330,6 +330,15 @@ uint32_t zug_subkeys_at(zug_hive *hive, const uint8_t *path, size_t path_length,
 uint32_t zug_values_at(zug_hive *hive, const uint8_t *path, size_t path_length, uint32_t index,
                        zug_value *values, size_t values_length, uint8_t *room, size_t room_length, uint32_t *count);
 
+/* The subkeys from an index on, in the order of names, each with all its values as zug_values_at tells them, as many subkeys as have place:
+ * `count` of them. Of each subkey there is a zug_subkey, and of each of its values a zug_value, behind those of the subkeys before. In the room
+ * are the subkey's name, and then each value's name and data, right behind the subkey before. Go on from the index behind them, until 259.
+ * 234: the first has no place with all its values, and nothing is told; ask by zug_subkeys_at and zug_values_at. 259: no subkey has the
+ * index. */
+uint32_t zug_subkeys_with_values_at(zug_hive *hive, const uint8_t *path, size_t path_length, uint32_t index,
+                                    zug_subkey *subkeys, size_t subkeys_length, zug_value *values, size_t values_length,
+                                    uint8_t *room, size_t room_length, uint32_t *count);
+
 /* ---- Notices ---- */
 
 /* Why a notice came. */

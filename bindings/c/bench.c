@@ -5,11 +5,15 @@
  */
 #include "zugmeled.h"
 
+#include <fcntl.h>
 #include <inttypes.h>
 #include <stdio.h>
 #include <stdlib.h>
 #include <string.h>
+#include <sys/mman.h>
+#include <sys/stat.h>
 #include <time.h>
+#include <unistd.h>
 
 #define PARENTS 204u
 #define KEYS 98u
@@ -43,19 +47,19 @@ static uint64_t nanoseconds(void) {
     return (uint64_t)now.tv_sec * 1000000000u + (uint64_t)now.tv_nsec;
 }
 
+/* The image is mapped, as hivex maps it. */
 static void load(const char *path) {
-    FILE *in = fopen(path, "rb");
+    int in = open(path, O_RDONLY);
+    struct stat file;
     uint8_t fault;
-    if (!in || fseek(in, 0, SEEK_END))
+    if (in < 0 || fstat(in, &file))
         exit(2);
-    size_t length = (size_t)ftell(in);
-    uint8_t *bytes = malloc(length);
-    rewind(in);
-    if (!bytes || fread(bytes, 1, length, in) != length)
+    void *bytes = mmap(NULL, (size_t)file.st_size, PROT_READ, MAP_PRIVATE, in, 0);
+    if (bytes == MAP_FAILED)
         exit(2);
-    fclose(in);
-    must(zug_hive_load(&hive, bytes, length, &fault));
-    free(bytes);
+    must(zug_hive_load(&hive, bytes, (size_t)file.st_size, &fault));
+    munmap(bytes, (size_t)file.st_size);
+    close(in);
 }
 
 /* ---- Calls ---- */
@@ -157,35 +161,66 @@ static void calls(void) {
 /* ---- A walk, by paths ---- */
 
 #define ROWS 256u
+#define ROWS_OF_VALUES 16384u
 
 static uint64_t keys, values;
+static zug_value value_rows[ROWS_OF_VALUES];
+static uint8_t data_room[1048576 + 16383 + ROWS * ZUG_KEY_NAME_LIMIT];
 
+/* The names of the subkeys that a walk has still to go to, at each depth. */
+static uint8_t names_at[ZUG_PATH_LIMIT + 1][ROWS * ZUG_KEY_NAME_LIMIT];
+
+/* The values of a key by themselves. */
 static void go_through_values(const uint8_t *path, size_t length, uint32_t there) {
-    static zug_value rows[ROWS];
-    static uint8_t room[1048576 + 16383];
     uint32_t count;
     for (uint32_t at = 0; at < there; at += count) {
-        must(zug_values_at(&hive, path, length, at, rows, ROWS, room, sizeof room, &count));
+        must(zug_values_at(&hive, path, length, at, value_rows, ROWS_OF_VALUES, data_room, sizeof data_room, &count));
         values += count;
     }
 }
 
-/* A key with all below it. Behind its path there is place for the names of those. */
-static void walk(uint8_t *path, size_t length, uint32_t subkeys, uint32_t its_values) {
-    uint8_t *below = path + length;
+/* A subkey that has no place with all its values. Its name goes behind the path. */
+static void go_through_one(uint8_t *path, size_t length, uint8_t *below, uint32_t index, zug_subkey *row, uint8_t *name) {
+    uint32_t count;
+    must(zug_subkeys_at(&hive, path, length, index, row, 1, name, ZUG_KEY_NAME_LIMIT, &count));
+    memcpy(below, name, row->name_size);
+    go_through_values(path, (size_t)(below - path) + row->name_size, row->values);
+}
+
+/* Keeps the names of subkeys that were told with their values, and counts these. */
+static void keep_names(const zug_subkey *rows, uint32_t count, uint8_t *names) {
+    const uint8_t *told = data_room;
+    const zug_value *value = value_rows;
+    for (uint32_t key = 0; key < count; key++) {
+        memcpy(names, told, rows[key].name_size);
+        names += rows[key].name_size;
+        told += rows[key].name_size;
+        for (uint32_t left = rows[key].values; left; left--, value++, values++)
+            told += value->name_size + value->size;
+    }
+}
+
+/* All below a key. Behind its path there is place for the names of its subkeys. */
+static void walk(uint8_t *path, size_t length, uint32_t subkeys, unsigned depth) {
+    uint8_t *below = path + length, *names = names_at[depth];
     zug_subkey rows[ROWS];
-    uint8_t room[ROWS * 32];
     uint32_t count;
     keys += 1;
-    go_through_values(path, length, its_values);
-    if (length)
+    if (length && subkeys)
         *below++ = '\\';
     for (uint32_t at = 0; at < subkeys; at += count) {
-        const uint8_t *name = room;
-        must(zug_subkeys_at(&hive, path, length, at, rows, ROWS, room, sizeof room, &count));
+        const uint8_t *name = names;
+        uint32_t status = zug_subkeys_with_values_at(&hive, path, length, at, rows, ROWS, value_rows, ROWS_OF_VALUES, data_room, sizeof data_room, &count);
+        if (status == ZUG_MORE_DATA) {
+            go_through_one(path, length, below, at, rows, names);
+            count = 1;
+        } else {
+            must(status);
+            keep_names(rows, count, names);
+        }
         for (uint32_t key = 0; key < count; name += rows[key++].name_size) {
             memcpy(below, name, rows[key].name_size);
-            walk(path, (size_t)(below - path) + rows[key].name_size, rows[key].subkeys, rows[key].values);
+            walk(path, (size_t)(below - path) + rows[key].name_size, rows[key].subkeys, depth + 1);
         }
     }
 }
@@ -195,7 +230,8 @@ static void walk_all(void) {
     zug_subkey root;
     uint8_t name[ZUG_KEY_NAME_LIMIT];
     must(zug_key_at(&hive, path, 0, &root, name, sizeof name));
-    walk(path, 0, root.subkeys, root.values);
+    go_through_values(path, 0, root.values);
+    walk(path, 0, root.subkeys, 0);
     printf("%" PRIu64 " keys %" PRIu64 " values\n", keys, values);
 }
 

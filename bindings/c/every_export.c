@@ -170,6 +170,10 @@ static void no_hive(void) {
     count = 7;
     IS(zug_values_at(&hive, TEXT(""), 0, &value, 1, room, 4, &count), ZUG_INVALID_HANDLE);
     IS(count == 0 && value.kind == 9 && are(room, 4, 9), true);
+    count = 7;
+    key.time = 9;
+    IS(zug_subkeys_with_values_at(&hive, TEXT(""), 0, &key, 1, &value, 1, room, 4, &count), ZUG_INVALID_HANDLE);
+    IS(count == 0 && key.time == 9 && value.kind == 9 && are(room, 4, 9), true);
     zug_hive_close(&hive);
     zug_hive_close(&hive);
 }
@@ -207,6 +211,7 @@ static void nothing_given(void) {
     IS(told.name_size == 4 && told.subkeys == 1, true);
     IS(zug_subkeys_at(&hive, NULL, 0, 0, NULL, 0, NULL, 0, &length), ZUG_MORE_DATA);
     IS(zug_values_at(&hive, NULL, 0, 0, NULL, 0, NULL, 0, &length), ZUG_NO_MORE_ITEMS);
+    IS(zug_subkeys_with_values_at(&hive, NULL, 0, 0, NULL, 0, NULL, 0, NULL, 0, &length), ZUG_MORE_DATA);
     IS(zug_delete_tree(&hive, 0, MOMENT, root, NULL, 0), 0);
     zug_hive_close(&hive);
 }
@@ -341,6 +346,39 @@ static void keys_by_path(zug_hive *hive) {
     IS(count == 0 && keys[0].name_size == 4 && keys[0].subkeys == 1 && keys[1].time == 9 && are(room, 8, 0xEE), true);
     IS(zug_subkeys_at(hive, TEXT(""), 0, keys, 3, room, 8, &count), 0);
     IS(count == 1 && keys[0].time == MOMENT && keys[1].time == 9 && memcmp(room, "Soft\xEE\xEE\xEE\xEE", 8) == 0, true);
+}
+
+/* Subkeys that have place with all their values: Soft\Abc has one, and Soft\Zug behind it two. */
+static void subkeys_with_values(zug_hive *hive, uint64_t root, uint64_t zug) {
+    uint64_t abc = key(hive, root, "Soft\\Abc");
+    zug_subkey keys[2] = {{9, 9, 9, 9, 9}, {9, 9, 9, 9, 9}};
+    zug_value values[3] = {{9, 9, 9}, {9, 9, 9}, {9, 9, 9}};
+    uint32_t count = 7;
+    uint8_t room[24];
+    memset(room, 0xEE, sizeof room);
+    IS(zug_set_value(hive, 0, MOMENT, abc, TEXT("n"), 3, TEXT("no")), 0);
+    IS(zug_set_value(hive, 0, MOMENT, zug, TEXT("w"), 4, TEXT("more")), 0);
+    IS(zug_subkeys_with_values_at(hive, TEXT("none"), 0, keys, 2, values, 3, room, 24, &count), ZUG_FILE_NOT_FOUND);
+    IS(zug_subkeys_with_values_at(hive, TEXT("\\"), 0, keys, 2, values, 3, room, 24, &count), ZUG_INVALID_PARAMETER);
+    IS(zug_subkeys_with_values_at(hive, TEXT("Soft\\Zug"), 0, keys, 2, values, 3, room, 24, &count), ZUG_NO_MORE_ITEMS);
+    IS(zug_subkeys_with_values_at(hive, TEXT("Soft"), 2, keys, 2, values, 3, room, 24, &count), ZUG_NO_MORE_ITEMS);
+    IS(zug_subkeys_with_values_at(hive, TEXT("Soft"), 1, keys, 0, values, 3, room, 24, &count), ZUG_MORE_DATA);
+    IS(zug_subkeys_with_values_at(hive, TEXT("Soft"), 1, keys, 2, values, 1, room, 24, &count), ZUG_MORE_DATA);
+    IS(zug_subkeys_with_values_at(hive, TEXT("Soft"), 1, keys, 2, values, 3, room, 13, &count), ZUG_MORE_DATA);
+    IS(count == 0 && keys[0].time == 9 && values[0].kind == 9 && are(room, 24, 0xEE), true);
+    IS(zug_subkeys_with_values_at(hive, TEXT(""), 0, keys, 2, values, 0, room, 4, &count), 0);
+    IS(count == 1 && keys[0].name_size == 4 && keys[1].time == 9 && values[0].kind == 9 && memcmp(room, "Soft\xEE", 5) == 0, true);
+    IS(zug_subkeys_with_values_at(hive, TEXT("Soft"), 0, keys, 2, values, 2, room, 24, &count), 0);
+    IS(count == 1 && keys[0].values == 1 && keys[1].time == 9 && values[0].size == 2 && values[1].kind == 9 && memcmp(room, "Abcnno\xEE", 7) == 0, true);
+    IS(zug_subkeys_with_values_at(hive, TEXT("Soft"), 1, keys, 2, values, 2, room, 14, &count), 0);
+    IS(count == 1 && keys[0].values == 2 && values[0].kind == 3 && values[1].kind == 4 && values[2].kind == 9, true);
+    IS(memcmp(room, "Zugvbyteswmore\xEE", 15), 0);
+    IS(zug_subkeys_with_values_at(hive, TEXT("Soft"), 0, keys, 2, values, 3, room, 20, &count), 0);
+    IS(count == 2 && keys[1].values == 2 && values[0].size == 2 && values[2].kind == 4, true);
+    IS(memcmp(room, "AbcnnoZugvbyteswmore\xEE", 21), 0);
+    IS(zug_delete_value(hive, 0, MOMENT, zug, TEXT("w")), 0);
+    IS(zug_close(hive, 0, MOMENT, abc), 0);
+    IS(zug_delete_key(hive, 0, MOMENT, root, TEXT("Soft\\Abc")), 0);
 }
 
 static void values_by_path(zug_hive *hive, uint64_t handle) {
@@ -689,12 +727,14 @@ static void without_memory(void) {
     zug_hive hive = {0};
     uint64_t root = 7, watch = 7, size = 7, entries = 7, kept = 7, cut = 7, ended = 7, entry = 7;
     uint32_t count = 7, reason = 7;
-    uint8_t room[64];
+    uint8_t room[96];
     zug_info info;
     zug_subkey row;
     zug_value value;
     make(&hive, &root);
-    IS(zug_close(&hive, 0, MOMENT, key(&hive, root, "Soft, of many letters")), 0);
+    uint64_t soft = key(&hive, root, "Soft, of many letters");
+    IS(set_call(&hive, soft), 0);
+    IS(zug_close(&hive, 0, MOMENT, soft), 0);
     IS(zug_notify(&hive, 0, MOMENT, root, ZUG_FILTER_LAST_SET, false, &watch), 0);
     IS(set_call(&hive, root), 0);
     granted = 0;
@@ -706,6 +746,8 @@ static void without_memory(void) {
     IS(count == 1 && row.name_size == 21, true);
     IS(zug_values_at(&hive, TEXT(""), 0, &value, 1, room, sizeof room, &count), 0);
     IS(count == 1 && value.name_size == 21 && value.size == 23, true);
+    IS(zug_subkeys_with_values_at(&hive, TEXT(""), 0, &row, 1, &value, 1, room, sizeof room, &count), 0);
+    IS(count == 1 && row.values == 1 && value.size == 23, true);
     IS(zug_entries(&hive, &entries, &kept), 0);
     IS(kept, entries);
     IS(zug_image_size(&hive, &size, &entries), 0);
@@ -774,6 +816,7 @@ static void calls_of_a_hive(void) {
     lists_of_values(&hive, handle);
     keys_by_path(&hive);
     values_by_path(&hive, handle);
+    subkeys_with_values(&hive, root, handle);
     numbers(&hive, handle);
     security(&hive, handle);
     deletions(&hive, root);

@@ -46,7 +46,7 @@ def type_of(parameter):
 class HeaderTest(unittest.TestCase):
     def test_functions(self):
         told = re.findall(r"\b(uint32_t|void) (zug_\w+)\(([^)]*)\);", header())
-        self.assertEqual(len(told), 28)
+        self.assertEqual(len(told), 29)
         for result, name, parameters in told:
             with self.subTest(function=name):
                 function = getattr(c.library, name)

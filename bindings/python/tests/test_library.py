@@ -283,6 +283,7 @@ class NoHiveTest(LibraryTest):
         self.assertEqual(LIBRARY.zug_subkeys_at(words, b"", 0, 0, key, 1, room, 8, count), c.INVALID_HANDLE)
         self.assertEqual(count.value, 0)
         self.assertEqual(LIBRARY.zug_values_at(words, b"", 0, 0, value, 1, room, 8, count), c.INVALID_HANDLE)
+        self.assertEqual(LIBRARY.zug_subkeys_with_values_at(words, b"", 0, 0, key, 1, value, 1, room, 8, count), c.INVALID_HANDLE)
         self.assertEqual(value.name_size, 9)
 
     def test_no_session(self):
@@ -596,11 +597,40 @@ class PathTest(LibraryTest):
         self.assertEqual(self.values_at(b"None", 0, 3, 12, c.FILE_NOT_FOUND), nothing)
         self.assertEqual(self.values_at(b"\\", 0, 3, 12, c.INVALID_PARAMETER), nothing)
 
+    def with_values_at(self, path, index, keys, values, size, expected=0):
+        """What is told of subkeys with their values, in so many rows and a room of so many bytes."""
+        key_rows, value_rows, told = (c.ZugSubkey * keys)(), (c.ZugValue * values)(), c_uint32(77)
+        room = create_string_buffer(self.UNTOUCHED * 2, 24)
+        arguments = (*sized(path), index, key_rows, keys, value_rows, values, room, size, told)
+        self.assertEqual(LIBRARY.zug_subkeys_with_values_at(self.words, *arguments), expected)
+        return told.value, [fields(row) for row in key_rows], [fields(row) for row in value_rows], room.raw
+
+    def test_subkeys_with_values_at(self):
+        abc, zug, no_key = (MOMENT, 3, 1, 0, 0), (MOMENT, 3, 0, 2, 0), (0, 0, 0, 0, 0)
+        named, default, none = (4, 9, 4), (0, 3, 4), (0, 0, 0)
+        untouched = self.UNTOUCHED * 2
+        both = (2, [abc, zug], [named, default], b"abcZugNamedatamore" + untouched[18:])
+        self.assertEqual(self.with_values_at(b"soft", 0, 2, 2, 18), both)
+        one = (1, [abc, no_key], [none, none], b"abc" + untouched[3:])
+        self.assertEqual(self.with_values_at(b"soft", 0, 2, 2, 17), one)
+        self.assertEqual(self.with_values_at(b"soft", 0, 1, 2, 18), (1, [abc], [none, none], b"abc" + untouched[3:]))
+        self.assertEqual(self.with_values_at(b"soft", 0, 2, 1, 18), (1, [abc, no_key], [none], b"abc" + untouched[3:]))
+        last = (1, [zug, no_key], [named, default], b"ZugNamedatamore" + untouched[15:])
+        self.assertEqual(self.with_values_at(b"soft", 1, 2, 2, 18), last)
+        nothing = (0, [no_key, no_key], [none, none], untouched)
+        self.assertEqual(self.with_values_at(b"soft", 1, 2, 2, 14, c.MORE_DATA), nothing)
+        self.assertEqual(self.with_values_at(b"soft", 1, 2, 1, 18, c.MORE_DATA), (0, [no_key, no_key], [none], untouched))
+        self.assertEqual(self.with_values_at(b"soft", 0, 0, 2, 18, c.MORE_DATA), (0, [], [none, none], untouched))
+        self.assertEqual(self.with_values_at(b"soft", 2, 2, 2, 18, c.NO_MORE_ITEMS), nothing)
+        self.assertEqual(self.with_values_at(b"None", 0, 2, 2, 18, c.FILE_NOT_FOUND), nothing)
+        self.assertEqual(self.with_values_at(b"\\", 0, 2, 2, 18, c.INVALID_PARAMETER), nothing)
+
     def test_no_entry(self):
         before = self.entries()
         self.key_at(b"Soft", 12)
         self.subkeys_at(b"Soft", 0, 3, 12)
         self.values_at(b"Soft\\Zug", 0, 3, 12)
+        self.with_values_at(b"Soft", 0, 2, 2, 18)
         self.assertEqual(self.entries(), before)
 
 
@@ -667,6 +697,7 @@ class NothingGivenTest(LibraryTest):
         self.assertEqual((key.name_size, key.subkeys), (4, 1))
         self.assertEqual(LIBRARY.zug_subkeys_at(self.words, None, 0, 0, None, 0, None, 0, size), c.MORE_DATA)
         self.assertEqual(LIBRARY.zug_values_at(self.words, None, 0, 0, None, 0, None, 0, size), c.NO_MORE_ITEMS)
+        self.assertEqual(LIBRARY.zug_subkeys_with_values_at(self.words, None, 0, 0, None, 0, None, 0, None, 0, size), c.MORE_DATA)
 
 
 class CauseTest(LibraryTest):

@@ -1,4 +1,4 @@
-"""Keys and values by their paths, without a handle: `look`, `subkeys`, `values` and `walk` of a hive."""
+"""Keys and values by their paths, without a handle: `look`, `subkeys`, `values`, `subkeys_with_values` and `walk` of a hive."""
 
 import threading
 import unittest
@@ -10,10 +10,11 @@ from zugmeled._walk import _FIRST_ROOM, _ROWS, _SUBKEY, _VALUE
 
 
 def calls(hive, path):
-    """The four calls by a path, each until its last item."""
+    """The five calls by a path, each until its last item."""
     yield lambda: hive.look(path)
     yield lambda: list(hive.subkeys(path))
     yield lambda: list(hive.values(path))
+    yield lambda: list(hive.subkeys_with_values(path))
     yield lambda: list(hive.walk(path))
 
 
@@ -208,6 +209,39 @@ class WalkTest(HiveTest):
                 call()
             self.assertEqual(hive.entries(), entries)
             self.assertFalse(hive.changed)
+
+
+class WithValuesTest(HiveTest):
+    """Subkeys with their values are those that `subkeys` and `values` tell."""
+
+    def one_by_one(self, path):
+        return [(row, list(self.hive.values(f"{path}\\{row.name}" if path else row.name))) for row in self.hive.subkeys(path)]
+
+    def assertAlike(self, path=""):
+        self.assertEqual(list(self.hive.subkeys_with_values(path)), self.one_by_one(path))
+
+    def test_values(self):
+        self.root.create("Services\\B")["Start"] = 1
+        self.root.create("Services\\A").create("Below")["Text"] = "text"
+        self.root.create("Services\\C")[""] = b"\0\1"
+        expected = [(KeyRow("A", MOMENT, 1, 0, 0), []), (KeyRow("B", MOMENT, 0, 1, 0), [("Start", 1)]), (KeyRow("C", MOMENT, 0, 1, 0), [("", b"\0\1")])]
+        self.assertEqual(list(self.hive.subkeys_with_values("services")), expected)
+        self.assertAlike()
+        self.assertAlike("Services\\A")
+        self.assertEqual(list(self.hive.subkeys_with_values("Services\\B")), [])
+
+    def test_more_than_there_are_rows(self):
+        for number in range(_ROWS + 2):
+            self.root.create(f"Many\\{number:04}")["Value"] = number
+        for number in range(_ROWS + 1):
+            self.root.open("Many\\0100")[f"{number}"] = number
+        self.assertAlike("Many")
+
+    def test_more_than_the_room_has(self):
+        for name in "ABC":
+            self.root.create(name)["Large"] = name.encode() * (_FIRST_ROOM - 10)
+        self.root.open("B")["Larger"] = b"b" * 3 * _FIRST_ROOM
+        self.assertAlike()
 
 
 class ChangedTest(HiveTest):

@@ -14,7 +14,7 @@ from . import _files
 from . import _library as c
 from ._errors import error, load_error
 from ._values import Value, from_data, kind_for, to_data
-from ._walk import KeyRow, Rooms, Step
+from ._walk import KeyRow, KeyWithValues, Rooms, Step
 
 #: A security descriptor without owner, group and lists.
 EMPTY_SECURITY = bytes.fromhex("0100048000000000000000000000000000000000")
@@ -170,7 +170,7 @@ class Hive:
     def look(self, path: str = "") -> KeyRow:
         """Tells of the key at the end of a path from the root. FileNotFoundError where there is none.
 
-        It opens no key, and neither do `subkeys`, `values` and `walk`. So no entry of the journal comes of them.
+        It opens no key, and neither do `subkeys`, `values`, `subkeys_with_values` and `walk`. So no entry of the journal comes of them.
         """
         return Rooms(self._call).key(_encoded(path))
 
@@ -188,6 +188,17 @@ class Hive:
         They are asked for as `subkeys` are.
         """
         return Rooms(self._call).values(_encoded(path))
+
+    def subkeys_with_values(self, path: str = "") -> Iterator[KeyWithValues]:
+        """Goes through the subkeys of the key at the end of a path, each with its values: by one call of the library for many of them.
+
+            for row, values in hive.subkeys_with_values("Services"):
+                print(row.name, dict(values))
+
+        They are asked for as `subkeys` are. A key with more than 256 values, or with much data, has its values asked for by themselves:
+        then another thread may change them meanwhile.
+        """
+        return Rooms(self._call).subkeys_with_values(_encoded(path))
 
     def walk(self, path: str = "") -> Iterator[Step]:
         """Goes through the key at the end of a path and all keys below it, each before its subkeys, in the order of names.

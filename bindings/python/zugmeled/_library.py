@@ -184,6 +184,7 @@ _ARGUMENTS = {
     "zug_key_at": (_HIVE, *_BYTES, POINTER(ZugSubkey), *_ROOM),
     "zug_subkeys_at": (_HIVE, *_BYTES, c_uint32, *_SUBKEYS, *_ROOM, _OUT32),
     "zug_values_at": (_HIVE, *_BYTES, c_uint32, *_VALUES, *_ROOM, _OUT32),
+    "zug_subkeys_with_values_at": (_HIVE, *_BYTES, c_uint32, *_SUBKEYS, *_VALUES, *_ROOM, _OUT32),
     "zug_take_notice": (_HIVE, c_uint8, _OUT64, _OUT64, _OUT32),
     "zug_cause": (*_CHANGE, c_uint32, c_uint64, *_BYTES, c_uint32, *_BYTES, c_bool),
 }

@@ -34,6 +34,9 @@ class KeyRow(NamedTuple):
     marks: int
 
 
+#: A subkey, and the names of its values, each with what the value is.
+KeyWithValues = Tuple[KeyRow, List[Tuple[str, Value]]]
+
 #: A key in a walk: its path from the root, its subkeys, and the names of its values, each with what the value is.
 Step = Tuple[str, List[KeyRow], List[Tuple[str, Value]]]
 
@@ -64,6 +67,10 @@ class Rooms:
         """Goes through a key's values."""
         return _each(self._values_from, path)
 
+    def subkeys_with_values(self, path: bytes) -> Iterator[KeyWithValues]:
+        """Goes through a key's subkeys, each with its values."""
+        return _each(self._subkeys_with_values_from, path)
+
     def walk(self, path: bytes) -> Iterator[Step]:
         """Goes through a key and all keys below it, each before its subkeys."""
         # It raises where there is no such key. One that leads to a key is ASCII.
@@ -92,35 +99,53 @@ class Rooms:
             raise error(status)
         return self._key
 
-    def _subkeys_from(self, path: bytes, index: int) -> List[KeyRow]:
+    def _subkeys_from(self, path: bytes, index: int, most: int = _ROWS) -> List[KeyRow]:
         """Subkeys from an index on, as many as have place: none only where no subkey has the index."""
-        count = self._asked(c.library.zug_subkeys_at, path, index, self._subkeys)
+        count = self._asked(c.library.zug_subkeys_at, path, index, self._subkeys, most)
         rows = list(itertools.islice(_SUBKEY.iter_unpack(self._subkeys), count))
-        names = string_at(self._room, sum(row[1] for row in rows)).decode("ascii")
-        found = []
-        end = 0
-        for written, size, subkeys, values, marks in rows:
-            begin, end = end, end + size
-            found.append(KeyRow(names[begin:end], written, subkeys, values, marks))
-        return found
+        told = _Told(self._room, sum(row[1] for row in rows))
+        return [told.key(row) for row in rows]
 
     def _values_from(self, path: bytes, index: int) -> List[Tuple[str, Value]]:
         """Values from an index on, as many as have place: none only where no value has the index."""
         count = self._asked(c.library.zug_values_at, path, index, self._values)
         rows = list(itertools.islice(_VALUE.iter_unpack(self._values), count))
-        told = string_at(self._room, sum(name_size + size for name_size, _kind, size in rows))
-        found = []
-        end = 0
-        for name_size, kind, size in rows:
-            begin, middle = end, end + name_size
-            end = middle + size
-            found.append((told[begin:middle].decode("ascii"), from_data(told[middle:end], kind)))
-        return found
+        told = _Told(self._room, sum(name_size + size for name_size, _kind, size in rows))
+        return [told.value(row) for row in rows]
 
-    def _asked(self, function: Any, path: bytes, index: int, rows: Any) -> int:
-        """Asks for items, with more room as long as there isn't enough for one, and tells how many came."""
+    def _subkeys_with_values_from(self, path: bytes, index: int) -> List[KeyWithValues]:
+        """Subkeys from an index on, each with its values, as many as have place: none only where no subkey has the index."""
         while True:
-            status = self._call(function, path, len(path), index, rows, _ROWS, self._room, len(self._room), self._count)
+            rooms = (self._subkeys, _ROWS, self._values, _ROWS, self._room, len(self._room))
+            status = self._call(c.library.zug_subkeys_with_values_at, path, len(path), index, *rooms, self._count)
+            if status == c.MORE_DATA:
+                try:
+                    return self._first_with_values(path, index)
+                except NotFound:
+                    # Another thread deleted it since. Where it is the parent that is gone, the next call tells that.
+                    continue
+            if status not in (c.SUCCESS, c.NO_MORE_ITEMS):
+                raise error(status)
+            return self._told_with_values(self._count.value)
+
+    def _told_with_values(self, count: int) -> List[KeyWithValues]:
+        """What was told of so many subkeys, each with its values."""
+        keys = list(itertools.islice(_SUBKEY.iter_unpack(self._subkeys), count))
+        rows = list(itertools.islice(_VALUE.iter_unpack(self._values), sum(row[3] for row in keys)))
+        told = _Told(self._room, sum(row[1] for row in keys) + sum(name_size + size for name_size, _kind, size in rows))
+        values = iter(rows)
+        return [(told.key(row), [told.value(each) for each in itertools.islice(values, row[3])]) for row in keys]
+
+    def _first_with_values(self, path: bytes, index: int) -> List[KeyWithValues]:
+        """The subkey at an index, which has no place with all its values at once."""
+        found = self._subkeys_from(path, index, 1)
+        names = [row.name.encode("ascii") for row in found]
+        return [(row, list(self.values(path + b"\\" + name if path else name))) for row, name in zip(found, names)]
+
+    def _asked(self, function: Any, path: bytes, index: int, rows: Any, most: int = _ROWS) -> int:
+        """Asks for items, at most so many, with more room as long as there isn't enough for one, and tells how many came."""
+        while True:
+            status = self._call(function, path, len(path), index, rows, most, self._room, len(self._room), self._count)
             if status == c.MORE_DATA:
                 # It is never so of subkeys. The first row tells what its value needs; twice as much as there was may spare the next growth.
                 needed = rows[0].name_size + rows[0].size
@@ -129,6 +154,29 @@ class Rooms:
                 return self._count.value
             else:
                 raise error(status)
+
+
+class _Told:
+    """What a room has been filled with, read from its front on."""
+
+    def __init__(self, room: Any, size: int) -> None:
+        self._bytes = string_at(room, size)
+        self._end = 0
+
+    def _next(self, size: int) -> bytes:
+        begin, self._end = self._end, self._end + size
+        return self._bytes[begin : self._end]
+
+    def key(self, row: Tuple[int, int, int, int, int]) -> KeyRow:
+        """The next key, by its ZugSubkey."""
+        written, size, subkeys, values, marks = row
+        return KeyRow(self._next(size).decode("ascii"), written, subkeys, values, marks)
+
+    def value(self, row: Tuple[int, int, int]) -> Tuple[str, Value]:
+        """The next value, by its ZugValue."""
+        name_size, kind, size = row
+        name = self._next(name_size).decode("ascii")
+        return name, from_data(self._next(size), kind)
 
 
 def _each(items_from: Callable[[bytes, int], List[_Item]], path: bytes) -> Iterator[_Item]:

@@ -324,6 +324,19 @@ unsafe extern "C" {
         room_length: usize,
         count: *mut u32,
     ) -> u32;
+    pub fn zug_subkeys_with_values_at(
+        hive: *mut HiveWords,
+        path: *const u8,
+        path_length: usize,
+        index: u32,
+        subkeys: *mut Subkey,
+        subkeys_length: usize,
+        values: *mut Value,
+        values_length: usize,
+        room: *mut u8,
+        room_length: usize,
+        count: *mut u32,
+    ) -> u32;
 
     pub fn zug_take_notice(
         hive: *mut HiveWords,

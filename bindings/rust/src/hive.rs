@@ -8,7 +8,7 @@ use crate::key::Key;
 use crate::moment::Clock;
 use crate::raw::{Asked, Handle, Stamp, Words};
 use crate::value::Value;
-use crate::walk::{self, Items, KeyRow, Walk};
+use crate::walk::{self, Items, KeyRow, KeyWithValues, Walk};
 use std::cell::{Cell, RefCell};
 use std::fmt;
 use std::io::Write;
@@ -200,6 +200,28 @@ impl Hive {
     /// As of [`Hive::subkeys`]; [`Status::NOT_ENOUGH_MEMORY`].
     pub fn values(&self, path: &str) -> Items<'_, (String, Value)> {
         Items::values(self, path)
+    }
+
+    /// Goes through the subkeys of the key at the end of a path, each with its values and their
+    /// names: by one call of the library for many of them.
+    ///
+    /// They are asked for as those of [`Hive::subkeys`] are.
+    ///
+    /// ```
+    /// # use zugmeled::{Hive, EMPTY_SECURITY};
+    /// let hive = Hive::new("ROOT", &EMPTY_SECURITY)?;
+    /// hive.root()?.create(r"Services\Tcpip")?.set("Start", 1_u32)?;
+    /// for service in hive.subkeys_with_values("Services") {
+    ///     let (row, values) = service?;
+    ///     assert_eq!((row.name.as_str(), values[0].0.as_str()), ("Tcpip", "Start"));
+    /// }
+    /// # Ok::<(), zugmeled::Error>(())
+    /// ```
+    ///
+    /// # Errors
+    /// As of [`Hive::subkeys`]; [`Status::NOT_ENOUGH_MEMORY`].
+    pub fn subkeys_with_values(&self, path: &str) -> Items<'_, KeyWithValues> {
+        Items::subkeys_with_values(self, path)
     }
 
     /// Goes through the key at the end of a path and all keys below it, each before its subkeys, in

@@ -46,7 +46,7 @@ pub use hive::{Entries, Hive, Notice, Reason, Session, Watch, EMPTY_SECURITY};
 pub use key::{Change, Created, Info, Key, Keys, SubKey, Values};
 pub use moment::{Clock, Moment};
 pub use value::{Kind, Value};
-pub use walk::{Items, KeyRow, Step, Walk};
+pub use walk::{Items, KeyRow, KeyWithValues, Step, Walk};
 
 /// The version of the library that was linked: 10,000 a version, 100 a lower one, 1 a patch.
 ///

@@ -453,6 +453,35 @@ impl Words {
         Ok(count)
     }
 
+    /// How many subkeys were told with all their values, from an index on.
+    pub fn subkeys_with_values_at(
+        &self,
+        path: &[u8],
+        index: u32,
+        subkeys: &mut [ffi::Subkey],
+        values: &mut [ffi::Value],
+        room: &mut [u8],
+    ) -> Result<u32> {
+        let mut count = 0;
+        // SAFETY: by the list at the top.
+        told(unsafe {
+            ffi::zug_subkeys_with_values_at(
+                self.at(),
+                path.as_ptr(),
+                path.len(),
+                index,
+                subkeys.as_mut_ptr(),
+                subkeys.len(),
+                values.as_mut_ptr(),
+                values.len(),
+                room.as_mut_ptr(),
+                room.len(),
+                &mut count,
+            )
+        })?;
+        Ok(count)
+    }
+
     /// The numbers of the watch and of the entry, and the reason.
     pub fn take_notice(&self, session: u8) -> Result<(u64, u64, u32)> {
         let (mut watch, mut entry, mut reason) = (0, 0, 0);

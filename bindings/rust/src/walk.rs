@@ -49,7 +49,10 @@ pub struct Step {
     pub values: Vec<(String, Value)>,
 }
 
-/// A loop over subkeys or values: [`Hive::subkeys`], [`Hive::values`].
+/// A subkey with its values, each with its name, in the order in which these were added.
+pub type KeyWithValues = (KeyRow, Vec<(String, Value)>);
+
+/// A loop over subkeys or values: [`Hive::subkeys`], [`Hive::values`], [`Hive::subkeys_with_values`].
 pub struct Items<'hive, T> {
     hive: &'hive Hive,
     path: String,
@@ -70,6 +73,15 @@ impl<'hive> Items<'hive, KeyRow> {
 impl<'hive> Items<'hive, (String, Value)> {
     pub(crate) fn values(hive: &'hive Hive, path: &str) -> Items<'hive, (String, Value)> {
         Items::of(hive, path, Rooms::values_from)
+    }
+}
+
+impl<'hive> Items<'hive, KeyWithValues> {
+    pub(crate) fn subkeys_with_values(
+        hive: &'hive Hive,
+        path: &str,
+    ) -> Items<'hive, KeyWithValues> {
+        Items::of(hive, path, Rooms::subkeys_with_values_from)
     }
 }
 
@@ -262,6 +274,49 @@ impl Rooms {
         let mut rest = &self.room[..];
         let rows = &self.values[..count];
         Ok(rows.iter().map(|row| value_row(row, &mut rest)).collect())
+    }
+
+    fn subkeys_with_values_from(
+        &mut self,
+        words: &Words,
+        path: &[u8],
+        index: u32,
+    ) -> Result<Vec<KeyWithValues>> {
+        let (keys, values, room) = (&mut self.keys, &mut self.values, &mut self.room);
+        let count = words.subkeys_with_values_at(path, index, keys, values, room);
+        if count.as_ref().is_err_and(is_short) {
+            return self.first_with_values(words, path, index);
+        }
+        let mut rest = &self.room[..];
+        let mut values = self.values.iter();
+        let keys = &self.keys[..count_of(count)?];
+        Ok(keys
+            .iter()
+            .map(|row| {
+                let key = key_row(row, taken(&mut rest, row.name_size));
+                let own = values.by_ref().take(row.values as usize);
+                (key, own.map(|row| value_row(row, &mut rest)).collect())
+            })
+            .collect())
+    }
+
+    /// The subkey at an index, which has no place with all its values at once. No other code runs
+    /// between these calls.
+    fn first_with_values(
+        &mut self,
+        words: &Words,
+        path: &[u8],
+        index: u32,
+    ) -> Result<Vec<KeyWithValues>> {
+        words.subkeys_at(path, index, &mut self.keys[..1], &mut self.room)?;
+        let key = key_row(&self.keys[0], &self.room);
+        let mut below = path.to_vec();
+        if !below.is_empty() {
+            below.push(b'\\');
+        }
+        below.extend(key.name.as_bytes());
+        let values = self.first(key.values, Rooms::values_from, words, &below)?;
+        Ok(vec![(key, values)])
     }
 
     /// Makes place for the first value. Its row tells what it needs; twice as much as there was may

@@ -7,3 +7,4 @@ pub mod ImageSizes
 pub mod ItemsTold
 pub mod KeyRows
 pub mod ValueRows
+pub mod WithValues

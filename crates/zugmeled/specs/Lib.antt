@@ -1,3 +1,4 @@
+pub mod Internal
 pub mod Held
 pub mod Calls
 pub mod Makers
@@ -6,5 +7,6 @@ pub mod Lives
 pub mod Journals
 pub mod Images
 pub mod Lists
+pub mod WithValues
 pub mod Notices
 pub mod Causes

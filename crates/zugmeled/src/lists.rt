@@ -39,13 +39,13 @@ pub struct ZugValue {
 
 /// A status, with how many items were told.
 #[derive(Clone, Copy)]
-struct Counted {
-    status: u32,
-    count: u32,
+pub(crate) struct Counted {
+    pub(crate) status: u32,
+    pub(crate) count: u32,
 }
 
 /// The key at the end of a path from the root, or the status of a path that leads to none.
-fn key_at(tree: &Tree, path: &[u8]) -> Result<Node, u32>
+pub(crate) fn key_at(tree: &Tree, path: &[u8]) -> Result<Node, u32>
     ensures found { IfOk result (λ node. IsFoundAt tree.now path.now node) }
     ensures absent { IfErr result (λ status. IsNotFound tree.now.tree path.now status) }
 {
@@ -59,7 +59,7 @@ fn key_at(tree: &Tree, path: &[u8]) -> Result<Node, u32>
 }
 
 /// Copies bytes behind the first so many of a room, which has place for them.
-fn fill_at(room: &mut [u8], at: usize, bytes: &[u8])
+pub(crate) fn fill_at(room: &mut [u8], at: usize, bytes: &[u8])
     requires { at + length bytes.now ≤ length room.old }
     ensures { room.new ≡ take at room.old ++ bytes.now ++ drop (at + length bytes.now) room.old }
 {
@@ -67,7 +67,7 @@ fn fill_at(room: &mut [u8], at: usize, bytes: &[u8])
 }
 
 /// What is told of a key.
-fn subkey_row(tree: &Tree, node: Node) -> ZugSubkey
+pub(crate) fn subkey_row(tree: &Tree, node: Node) -> ZugSubkey
     requires { IsThere tree.now node }
     ensures { (p : Path) → IsAt tree.now p node → result ≡ key_row tree.now.tree p }
 {
@@ -214,7 +214,7 @@ fn key_of_path(tree: &Tree, path: &[u8], room: &mut [u8]) -> Looked
 }
 
 /// What is told of a value.
-fn value_row(value: Value<'_>) -> ZugValue
+pub(crate) fn value_row(value: Value<'_>) -> ZugValue
     requires { length value.name.now < 4294967296 }
     ensures { (m : Member) → Tells m value.entry.name.now value.entry.kind value.entry.size → (t : KeyTree) → result ≡ value_row_of t m }
 {
@@ -238,7 +238,14 @@ fn fill_value_at(tree: &Tree, node: Node, index: u32, room: &mut [u8], at: usize
 }
 
 /// Copies a value's name behind the first bytes of a room, and its data behind that. The room has place for both.
-fn put_value(tree: &Tree, node: Node, index: u32, value: Value<'_>, room: &mut [u8], at: usize)
+pub(crate) fn put_value(
+    tree: &Tree,
+    node: Node,
+    index: u32,
+    value: Value<'_>,
+    room: &mut [u8],
+    at: usize,
+)
     requires there { (p : Path) × IsAt tree.now p node × (index < length (values_at tree.now.tree p)) }
     requires told { (p : Path) → IsAt tree.now p node → (m : Member) → slice_get (values_at tree.now.tree p) index ≡ Some m →
         Tells m value.name.now value.kind value.size }

@@ -13,7 +13,7 @@ fn functions_have_the_types_of_the_header() {
         .filter(|it| it.contains('('))
         .map(|it| function_in_rust(it))
         .collect();
-    assert_eq!(told.len(), 28);
+    assert_eq!(told.len(), 29);
     assert_eq!(declared, told);
 }
 

@@ -1,7 +1,9 @@
 //! Keys and values by their paths, without a handle.
 
 use crate::{new_hive, refused, MOMENT};
-use zugmeled::{Clock, Hive, Key, KeyRow, Kind, Moment, Result, Status, Step, Value};
+use zugmeled::{
+    Clock, Hive, Key, KeyRow, KeyWithValues, Kind, Moment, Result, Status, Step, Value,
+};
 
 /// How many items one call of the library tells at most.
 const ROWS: usize = 256;
@@ -39,12 +41,30 @@ fn paths(steps: impl IntoIterator<Item = Step>) -> Vec<String> {
     steps.into_iter().map(|step| step.path).collect()
 }
 
-/// The statuses of the four calls by a path, at their first item.
-fn statuses(hive: &Hive, path: &str) -> [Status; 4] {
+/// A key's subkeys with their values, as [`Hive::subkeys`] and [`Hive::values`] tell them.
+fn one_by_one(hive: &Hive, path: &str) -> Vec<KeyWithValues> {
+    let below = |row: &KeyRow| match path {
+        "" => row.name.clone(),
+        path => format!("{path}\\{}", row.name),
+    };
+    let rows = subkeys(hive, path).into_iter();
+    rows.map(|row| (row.clone(), values(hive, &below(&row))))
+        .collect()
+}
+
+fn with_values(hive: &Hive, path: &str) -> Vec<KeyWithValues> {
+    hive.subkeys_with_values(path)
+        .collect::<Result<_>>()
+        .unwrap()
+}
+
+/// The statuses of the five calls by a path, at their first item.
+fn statuses(hive: &Hive, path: &str) -> [Status; 5] {
     [
         refused(hive.look(path)),
         refused(hive.subkeys(path).next().unwrap()),
         refused(hive.values(path).next().unwrap()),
+        refused(hive.subkeys_with_values(path).next().unwrap()),
         refused(hive.walk(path).next().unwrap()),
     ]
 }
@@ -87,12 +107,12 @@ fn what_isnt_there_or_is_no_path_is_refused() {
     let hive = new_hive();
     hive.root().unwrap().create("a").unwrap();
     for path in ["b", "a\\b"] {
-        assert_eq!(statuses(&hive, path), [Status::FILE_NOT_FOUND; 4]);
+        assert_eq!(statuses(&hive, path), [Status::FILE_NOT_FOUND; 5]);
     }
     let deep = vec!["n"; 513].join("\\");
     let long = "n".repeat(256);
     for path in ["\\", "a\\", "\\a", "a\\\\b", &long, "\u{e4}", "a\0b", &deep] {
-        assert_eq!(statuses(&hive, path), [Status::INVALID_PARAMETER; 4]);
+        assert_eq!(statuses(&hive, path), [Status::INVALID_PARAMETER; 5]);
     }
 }
 
@@ -214,6 +234,42 @@ fn there_may_be_more_values_than_rows() {
     }
     let expected: Vec<_> = root.values().collect::<Result<_>>().unwrap();
     assert_eq!(values(&hive, ""), expected);
+}
+
+#[test]
+fn subkeys_come_with_their_values() {
+    let hive = new_hive();
+    let root = hive.root().unwrap();
+    root.create("Services\\b")
+        .unwrap()
+        .set("Start", 1_u32)
+        .unwrap();
+    root.create("Services\\A\\below")
+        .unwrap()
+        .set("v", 2_u32)
+        .unwrap();
+    let start = ("Start".to_string(), Value::from(1_u32));
+    let expected = [(row("A", 1, 0), Vec::new()), (row("b", 0, 1), vec![start])];
+    assert_eq!(with_values(&hive, "services"), expected);
+    assert_eq!(with_values(&hive, ""), one_by_one(&hive, ""));
+    assert_eq!(with_values(&hive, "Services\\b"), []);
+}
+
+#[test]
+fn there_may_be_more_subkeys_with_values_than_have_place() {
+    let hive = new_hive();
+    let root = hive.root().unwrap();
+    for name in with_subkeys(&root, "many", ROWS + 2) {
+        let key = root.open(&format!("many\\{name}")).unwrap();
+        key.set("name", name.as_str()).unwrap();
+    }
+    let rich = root.open("many\\Key 0100").unwrap();
+    for number in 0..ROWS as u32 + 1 {
+        rich.set(&number.to_string(), number).unwrap();
+    }
+    let large = root.open("many\\Key 0200").unwrap();
+    large.set("large", vec![1; 3 * FIRST_ROOM]).unwrap();
+    assert_eq!(with_values(&hive, "many"), one_by_one(&hive, "many"));
 }
 
 #[test]
