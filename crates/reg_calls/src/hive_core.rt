@@ -33,7 +33,6 @@ use std::marker::Model;
 use std::snapshot::Snapshot;
 
 /// What a hive is without its callbacks: the tree, the open handles, the watches, and the journal with its book.
-#[derive(Drop)]
 pub struct Core {
     alloc: Global,
     origin: Snapshot<Tree>,
@@ -42,6 +41,20 @@ pub struct Core {
     store: Store,
     journal: Journal,
     quiet: Quiet,
+}
+
+// By hand, so that a caller that drops a hive has one call for all but the callbacks, and none for each of its parts.
+impl Drop for Core {
+    fn drop(self) {
+        let Core {
+            alloc: _,
+            origin: _,
+            told: _,
+            store: _,
+            journal: _,
+            quiet: _,
+        } = self;
+    }
 }
 
 impl Model for Core {

@@ -1,6 +1,6 @@
 -- What a change of a file left, put together.
-use Rattle.std.proofs.Common.{◌≡◌, ℕ, true, false, List, Option, inl, inr, refl, subst}
-use Rattle.std.specs.Prelude.{◌&&◌, Result, Ok, Err, OnOk, IfErr}
+use Rattle.std.proofs.Common.{◌≡◌, ℕ, Bool, false, List, Option, refl, subst}
+use Rattle.std.specs.Prelude.{◌&&◌, Result, Ok, Err, OnOk}
 use Rattle.reg_words.specs.declared.request.EditRequest.{EditRequest}
 use Rattle.reg_words.specs.ChangeLines.{told as line_of}
 use Rattle.reg_words.specs.declared.typed.change.KeyChange.{KeyChange}
@@ -12,11 +12,9 @@ use Rattle.reg_edits.specs.declared.hindrances.Hindrance.{Hindrance}
 use Rattle.reg_edits.specs.declared.hindrances.Hindrance.TheVariants.{NoPath, NoName, TooLong, NoKey, NoParent, NoValue, HasSubkeys, IsRoot}
 use Rattle.reg_dotreg_import.specs.declared.fault.ImportFault.{ImportFault}
 use Rattle.reg_dotreg_import.specs.declared.fault.ImportFault.TheVariants as call
-use Rattle.reg_files.specs.Looking.{IsCutShort}
 use Rattle.reg_files.specs.Editing.{IsGiven, Tells, ChangesFile, StopsChanging}
-use Rattle.reg_files.specs.Internal.Cuts.{is_cut, is_save_end_cut}
+use Rattle.reg_files.specs.Internal.Cuts.{is_cut, IsUntold}
 use Rattle.reg_files.specs.Internal.Faults.{hindered, call_ended, change_ended}
-use Rattle.reg_files.specs.declared.fault.SaveEnd.{SaveEnd}
 
 -- it was made, and told if it was to be
 pub changed : (edit : EditRequest) (change : KeyChange) (begin : ℕ) (edited : Edited) (file file_left before after : Option (List ℕ))
@@ -36,17 +34,10 @@ changed edit change begin edited file file_left before after line given changes 
 )
 changed edit change begin edited file file_left before after line given changes same (Err e) tells = tells
 
--- its line was cut short
-pub cut_short : (change : KeyChange) (line : List ℕ) (before after : Option (List ℕ)) → line ≡ line_of change →
-    {A : Type 0} (r : Result A SaveEnd) → IfErr r (λ end. (is_save_end_cut end ≡ true) × IsCutShort line before after) →
-    IfErr r (λ end. StopsChanging change (is_save_end_cut end) before after)
-cut_short change line before after same (Ok a) h = h
-cut_short change line before after same (Err end) h = inr (h.0, subst (λ (l : List ℕ). IsCutShort l before after) same h.1)
-
--- it ended before that, and nothing was written
-pub ended : (change : KeyChange) (end : SaveEnd) (before : Option (List ℕ)) → is_save_end_cut end ≡ false →
-    StopsChanging change (is_save_end_cut end) before before
-ended change end before none = inl (none, refl)
+-- its line wasn't written, or not to the end
+pub untold : (change : KeyChange) (line : List ℕ) (cut : Bool) (before after : Option (List ℕ)) → line ≡ line_of change →
+    IsUntold line cut before after → StopsChanging change cut before after
+untold change line cut before after same h = subst (λ (l : List ℕ). IsUntold l cut before after) same h
 
 -- no fault of a change is a failed write
 hindered-uncut : (why : Hindrance) → is_cut (hindered why) ≡ false

@@ -1,7 +1,7 @@
 -- What stopped a command on a file, put together of what stopped the call that did it.
 use Rattle.std.proofs.Common.{◌≡◌, List, ℕ, Bool, true, inr, inl, subst, sym}
 use Rattle.std.specs.Borrow.{Bor}
-use Rattle.std.specs.Prelude.{Option, Result, Ok, Err, IfErr, IsErrAnd, codes, option_copied}
+use Rattle.std.specs.Prelude.{Option, Result, Ok, Err, IfErr, OnOk, OnErr, IsErrAnd, codes, option_copied}
 use Rattle.reg_tables.specs.Pages.{html_text}
 use Rattle.reg_tables.specs.Tables.{json_text, jsonl_text, csv_text}
 use Rattle.reg_diff.specs.declared.ignored.Ignored.{Ignored}
@@ -20,6 +20,25 @@ use Rattle.reg_files.specs.Looking.{IsCutShort}
 pub from_err : {X E : Type 0} (P Q : E → Type 0) (r : Result X E) → IsErrAnd r P → ((e : E) → P e → Q e) → IfErr r Q
 from_err P Q (Ok v) made says = absurd made
 from_err P Q (Err e) made says = says e made
+
+-- what is so of each error, by what each says
+pub while_err : {X E : Type 0} (P Q : E → Type 0) (r : Result X E) → IfErr r P → ((e : E) → P e → Q e) → IfErr r Q
+while_err P Q (Ok v) h says = tt
+while_err P Q (Err e) h says = says e h
+
+-- what is so where it is done
+pub when_ok : {X E A B : Type 0} (r : Result X E) → OnOk r A → (A → B) → OnOk r B
+when_ok (Ok v) h says = says h
+when_ok (Err e) h says = tt
+
+-- what is so in any case
+pub always_ok : {X E A : Type 0} (r : Result X E) → A → OnOk r A
+always_ok (Ok v) h = h
+always_ok (Err e) h = tt
+
+pub always_err : {X E A : Type 0} (r : Result X E) → A → OnErr r A
+always_err (Ok v) h = tt
+always_err (Err e) h = h
 
 module _ (form : Form) (path : List ℕ) (before after : Option (List ℕ)) (cut : Bool) (unread left : Option (List ℕ)) where
   -- a key wasn't written as a .reg text

@@ -1,6 +1,6 @@
 //! The commands that save files.
 
-ghost use Rattle.std.specs.Prelude.{◌≡◌, ◌⊎◌, ◌&&◌, true, is_some, option_copied, string_bytes, OnOk, OnErr, IfOk, IfErr};
+ghost use Rattle.std.specs.Prelude.{◌≡◌, ◌⊎◌, ◌&&◌, true, false, is_some, option_copied, string_bytes, OnOk, OnErr, IfOk, IfErr};
 ghost use Rattle.reg_calls.specs.HiveView.{view_of};
 ghost use Rattle.reg_tree_image.specs.FreeBytes.{are_sparse};
 ghost use Rattle.reg_files.specs.Saves.{is_saved, IsToSave, IsToMake, IsNotRebuilt};
@@ -8,7 +8,7 @@ ghost use Rattle.reg_words.specs.ChangeLines.{told as told_of};
 ghost use Rattle.reg_files.specs.Editing.{IsGiven, IsNone, OfFile, OfText, EditsFile, StopsEditing, Enters, StopsImporting};
 ghost use Rattle.reg_files.specs.Looking.{IsCutShort};
 ghost use Rattle.reg_files.specs.Editing.{Tells, ChangesFile, StopsChanging};
-ghost use Rattle.reg_files.specs.Internal.Cuts.{is_save_end_cut};
+ghost use Rattle.reg_files.specs.Internal.Cuts.{is_save_end_cut, IsUntold};
 
 use crate::device::Device;
 use crate::fault::{Fault, SaveEnd, Step, import_fault, taken};
@@ -84,6 +84,16 @@ pub fn put<H: Files>(
     }
 }
 
+/// What ended a step on the files.
+fn of_files(done: Result<(), Fault>) -> Result<(), SaveEnd>
+    ensures { IfErr result (λ end. is_save_end_cut end ≡ false) }
+{
+    match done {
+        Ok(()) => Ok(()),
+        Err(fault) => Err(SaveEnd::Files(fault)),
+    }
+}
+
 /// Saves what a command made of a file's hive, if it is to be saved.
 fn save<H: Files>(
     alloc: Global,
@@ -91,11 +101,14 @@ fn save<H: Files>(
     request: EditRequest<'_>,
     path: &str,
     edited: &Edited,
-) -> Result<(), Fault> {
-    let Some(saved) = to_save(alloc, request, edited)? else {
-        return Ok(());
-    };
-    put(alloc, host, request, path, &saved)
+) -> Result<(), SaveEnd>
+    ensures { IfErr result (λ end. is_save_end_cut end ≡ false) }
+{
+    match to_save(alloc, request, edited) {
+        Ok(Some(saved)) => of_files(put(alloc, host, request, path, &saved)),
+        Ok(None) => Ok(()),
+        Err(fault) => Err(SaveEnd::Files(fault)),
+    }
 }
 
 /// A file that is opened for a command that saves it, and locked until it is let go.
@@ -123,6 +136,49 @@ where
     })
 }
 
+/// Saves what a script left of a file's hive, as [`save`] does, and tells how many of its lines failed.
+fn save_script<H: Files>(
+    alloc: Global,
+    host: &H,
+    request: EditRequest<'_>,
+    path: &str,
+    edited: &Edited,
+) -> Result<(), SaveEnd>
+    ensures ok { OnOk result (edited.now.failed ≡ 0) }
+    ensures err { IfErr result (λ end. is_save_end_cut end ≡ false) }
+{
+    save(alloc, host, request, path, edited)?;
+    if edited.failed > 0 {
+        return Err(SaveEnd::Hive(Fault::Failed(edited.failed)));
+    }
+    Ok(())
+}
+
+/// Runs a script on the hive of a file that is open, and saves it, as [`edit_file`] says.
+fn edit_opened<H: Files + Clock, R: Read, W: Write>(
+    alloc: Global,
+    host: &H,
+    request: EditRequest<'_>,
+    keeps_going: bool,
+    opened: &mut Opened<H::File>,
+    input: &mut R,
+    output: &mut W,
+) -> Result<(), SaveEnd>
+    ensures ok { OnOk result (EditsFile request.entry keeps_going IsNone (R.remaining input.old) (R.remaining input.new)
+        (W.contents output.old) (W.contents output.new)) }
+    ensures err { IfErr result (λ end. StopsEditing request.entry keeps_going (is_save_end_cut end) (R.remaining input.old) (R.remaining input.new)
+        (W.contents output.old) (W.contents output.new)) }
+{
+    let begin = begin_at(host, request.begin)?;
+    match edit(alloc, &mut opened.file, begin, keeps_going, input, output) {
+        Ok(edited) => save_script(alloc, host, request, opened.path.as_str(), &edited),
+        Err(fault) => {
+            let fault = Fault::from(fault).of_file(&mut opened.file);
+            Err(SaveEnd::Hive(fault))
+        }
+    }
+}
+
 /// Runs a script on the hive of a file and saves it where a call that was accepted may have changed a key: in its place, or in another
 /// file, which is made anew. The file's lock is held until then. A line that fails ends it, and nothing is saved; with `keeps_going` it is
 /// passed over, and told behind the save.
@@ -141,20 +197,41 @@ where
     ensures err { IfErr result (λ end. StopsEditing request.entry keeps_going (is_save_end_cut end) (R.remaining input.old) (R.remaining input.new)
         (W.contents output.old) (W.contents output.new)) }
 {
+    // The file is owned here, and the hive below: so each has few ways out.
     let mut opened = open_for(alloc, host, request)?;
+    edit_opened(
+        alloc,
+        host,
+        request,
+        keeps_going,
+        &mut opened,
+        input,
+        output,
+    )
+}
+
+/// Makes the entries of the .reg text on an input in the hive of a file that is open, and saves it, as an edit does.
+fn import_opened<H: Files + Clock, R: Read>(
+    alloc: Global,
+    host: &H,
+    request: EditRequest<'_>,
+    front: Option<&[u8]>,
+    tells_all: bool,
+    opened: &mut Opened<H::File>,
+    input: &mut R,
+) -> Result<(), SaveEnd>
+    ensures ok { OnOk result (Enters request.entry (option_copied front.entry) (R.remaining input.old) (R.remaining input.new)) }
+    ensures err { OnErr result ((R.remaining input.new ≡ R.remaining input.old)
+        ⊎ StopsImporting request.entry (option_copied front.entry) tells_all (R.remaining input.old) (R.remaining input.new)) }
+{
     let begin = begin_at(host, request.begin)?;
-    let edited = match edit(alloc, &mut opened.file, begin, keeps_going, input, output) {
-        Ok(edited) => edited,
+    match import(alloc, &mut opened.file, front, tells_all, begin, input) {
+        Ok(imported) => save(alloc, host, request, opened.path.as_str(), &imported),
         Err(fault) => {
-            let fault = Fault::from(fault).of_file(&mut opened.file);
-            return Err(SaveEnd::Hive(fault));
+            let fault = import_fault(fault, front.is_some()).of_file(&mut opened.file);
+            Err(SaveEnd::Hive(fault))
         }
-    };
-    save(alloc, host, request, opened.path.as_str(), &edited)?;
-    if edited.failed > 0 {
-        return Err(SaveEnd::Hive(Fault::Failed(edited.failed)));
     }
-    Ok(())
 }
 
 /// Makes the entries of the .reg text on an input in the hive of a file and saves it, as an edit does.
@@ -173,16 +250,7 @@ where
         ⊎ StopsImporting request.entry (option_copied front.entry) tells_all (R.remaining input.old) (R.remaining input.new)) }
 {
     let mut opened = open_for(alloc, host, request)?;
-    let begin = begin_at(host, request.begin)?;
-    let imported = match import(alloc, &mut opened.file, front, tells_all, begin, input) {
-        Ok(imported) => imported,
-        Err(fault) => {
-            let fault = import_fault(fault, front.is_some()).of_file(&mut opened.file);
-            return Err(SaveEnd::Hive(fault));
-        }
-    };
-    save(alloc, host, request, opened.path.as_str(), &imported)?;
-    Ok(())
+    import_opened(alloc, host, request, front, tells_all, &mut opened, input)
 }
 
 /// Makes the entries of the .reg text in a file in the hive of another.
@@ -254,6 +322,50 @@ pub fn tell_change<W: Write>(
     }
 }
 
+/// Saves what a change left of a file's hive, and tells it, where it is to be told.
+fn save_change<H: Files, W: Write>(
+    alloc: Global,
+    host: &H,
+    request: EditRequest<'_>,
+    path: &str,
+    changed: &Edited,
+    line: &str,
+    output: &mut W,
+) -> Result<(), SaveEnd>
+    ensures ok { OnOk result (Tells (request.entry.dry_run && changed.now.is_changed) line.now (W.contents output.old) (W.contents output.new)) }
+    ensures err { IfErr result (λ end. IsUntold line.now (is_save_end_cut end) (W.contents output.old) (W.contents output.new)) }
+{
+    save(alloc, host, request, path, changed)?;
+    tell_change(request.dry_run, changed.is_changed, line, output)
+}
+
+/// Makes one change in the hive of a file that is open, and saves it, as [`change_file`] says. `line` is its line.
+fn change_opened<H: Files + Clock, W: Write>(
+    alloc: Global,
+    host: &H,
+    request: EditRequest<'_>,
+    opened: &mut Opened<H::File>,
+    asked: KeyChange,
+    line: &str,
+    output: &mut W,
+) -> Result<(), SaveEnd>
+    requires { line.now ≡ told_of asked }
+    ensures ok { OnOk result (ChangesFile request.entry asked (W.contents output.old) (W.contents output.new)) }
+    ensures err { IfErr result (λ end. StopsChanging asked (is_save_end_cut end) (W.contents output.old) (W.contents output.new)) }
+{
+    let begin = begin_at(host, request.begin)?;
+    match change(alloc, &mut opened.file, begin, asked) {
+        Ok(changed) => {
+            let path = opened.path.as_str();
+            save_change(alloc, host, request, path, &changed, line, output)
+        }
+        Err(fault) => {
+            let fault = Fault::from(fault).of_file(&mut opened.file);
+            Err(SaveEnd::Hive(fault))
+        }
+    }
+}
+
 /// Makes one change in the hive of a file and saves it, as an edit does; or, of a dry run, tells what would have been saved.
 pub fn change_file<H: Files + Clock, W: Write>(
     alloc: Global,
@@ -269,20 +381,26 @@ where
 {
     let line = line_of(alloc, &asked)?;
     let mut opened = open_for(alloc, host, request)?;
-    let begin = begin_at(host, request.begin)?;
-    let changed = match change(alloc, &mut opened.file, begin, asked) {
-        Ok(changed) => changed,
-        Err(fault) => {
-            let fault = Fault::from(fault).of_file(&mut opened.file);
-            return Err(SaveEnd::Hive(fault));
-        }
-    };
-    save(alloc, host, request, opened.path.as_str(), &changed)?;
-    tell_change(request.dry_run, changed.is_changed, line.as_str(), output)
+    change_opened(
+        alloc,
+        host,
+        request,
+        &mut opened,
+        asked,
+        line.as_str(),
+        output,
+    )
+}
+
+/// Makes a file with a hive.
+fn make<H: Files>(host: &H, file: &str, hive: &Hive<NoCallback>) -> Result<(), Fault> {
+    create(host, file, &to_make(hive))
 }
 
 /// Makes a file with a fresh hive.
 pub fn new_file<H: Files>(alloc: Global, host: &H, file: &str, name: &str) -> Result<(), Fault> {
-    let hive = fresh_hive(alloc, name.as_bytes())?;
-    create(host, file, &to_make(&hive))
+    match fresh_hive(alloc, name.as_bytes()) {
+        Ok(hive) => make(host, file, &hive),
+        Err(fault) => Err(Fault::from(fault)),
+    }
 }

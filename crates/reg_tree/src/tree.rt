@@ -33,12 +33,23 @@ use std::alloc::{AllocError, Global};
 use std::marker::Model;
 
 /// The keys of a hive. Contracts see its bins and the finite map from paths to keys.
-#[derive(Drop)]
 pub struct Tree {
     arena: Arena,
     root: u32,
     securities: SecurityTable,
     names: NamesSeen,
+}
+
+// By hand, so that a caller that drops a tree has one call for that, and none for each of its parts.
+impl Drop for Tree {
+    fn drop(self) {
+        let Tree {
+            arena: _,
+            root: _,
+            securities: _,
+            names: _,
+        } = self;
+    }
 }
 
 impl Model for Tree {

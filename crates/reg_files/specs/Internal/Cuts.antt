@@ -1,7 +1,8 @@
 -- Which ends of a command are a failed write of the output (this project's own).
-use Rattle.std.specs.Prelude.{◌≡◌, ℕ, Bool, true, false, Option, ⊤}
+use Rattle.std.specs.Prelude.{◌≡◌, ◌⊎◌, ℕ, Bool, true, false, List, Option, ⊤}
 use Rattle.reg_text.specs.Failures.{Stays, Fails}
 use Rattle.reg_files.specs.Cuts.{is_script_cut}
+use Rattle.reg_files.specs.Looking.{IsCutShort}
 use Rattle.reg_files.specs.declared.fault.Fault.{Fault}
 use Rattle.reg_files.specs.declared.fault.Fault.TheVariants as fault
 use Rattle.reg_files.specs.declared.fault.Step.{Step}
@@ -44,3 +45,7 @@ abbrev pub IsOfStep : Step → Fault → Type 0
 IsOfStep step (fault.Step refused error) = refused ≡ step
 IsOfStep step fault.Memory = ⊤
 IsOfStep step other = ⊥
+
+-- a line wasn't told: no write failed, and nothing was written; or one did, and the line was cut short
+abbrev pub IsUntold : (line : List ℕ) → (cut : Bool) → (before after : Option (List ℕ)) → Type 0
+IsUntold line cut before after = ((cut ≡ false) × (after ≡ before)) ⊎ ((cut ≡ true) × IsCutShort line before after)
