@@ -1,5 +1,5 @@
 -- Keys told with their values, one behind the other.
-use Rattle.std.proofs.Common.{◌≡◌, ℕ, ◌+◌, ◌-◌, ◌<◌, ◌≤◌, ◌⊎◌, inl, inr, ⊎_elim, List, [], ◌∷◌, ◌++◌, length, take, drop, map, get_or, set, slice_get, flat_map, Some, sym, ap, subst, ◌∙◌, arith, length-append, append_assoc, append-nil, length-drop}
+use Rattle.std.proofs.Common.{◌≡◌, ℕ, ◌+◌, ◌-◌, ◌<◌, ◌≤◌, ◌⊎◌, inl, inr, ⊎_elim, List, [], ◌∷◌, ◌++◌, length, take, drop, map, get_or, set, slice_get, flat_map, Some, sym, ap, subst, ◌∙◌, arith, length-append, append_assoc, append-nil}
 use Rattle.std.proofs.lemmas.List.{take_more, map_more, drop_more, drop-drop, set-append_right, length-map, length-take-le, take_all, take_at, drop_at, take-append-drop, map-append}
 use Rattle.std.proofs.lemmas.Option.{get_or_from_slice_get}
 use Rattle.std.proofs.lemmas.List.Concat.{flat_map-append}
@@ -49,15 +49,6 @@ module _ {A : Type 0} where
       let end : from + length b ≡ at + length (a ++ b) = let both = length-append a b in omega (arith, both, is) in
       then ∙ ap (λ (l : List A). l ++ b ++ drop (from + length b) mid) here ∙ ap (λ (l : List A). front ++ b ++ l) rest
       ∙ ap (λ (k : ℕ). front ++ b ++ drop k old) end ∙ ap (λ (l : List A). l ++ drop (at + length (a ++ b)) old) (append_assoc (take at old) a b)
-
-  -- as long as before
-  pub put-long : (at : ℕ) (a old new : List A) → at + length a ≤ length old → IsPutAt at a old new → length new ≡ length old
-  put-long at a old new within is =
-      let front = take at old ++ a in
-      let long = front-long at a old (omega (arith, within)) in
-      let rest = length-append front (drop (at + length a) old) in
-      let left = length-drop (at + length a) old in
-      ap length is ∙ omega (arith, rest, left, long, within)
 
   -- one element is a piece
   pub put-one : (at : ℕ) (x : A) (old : List A) → at < length old → IsPutAt at (x ∷ []) old (set old at x)
