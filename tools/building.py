@@ -1,10 +1,10 @@
 """Proves and builds a program, or libraries, with all below: by `rt ci` in a room, which is a copy of their sources.
 
-`rt ci` proves crates side by side, as processors and memory allow, and keeps what is done for its next run and for the gate's, where the
-kit has a place for that. So a build that is stopped goes on from there. Its libraries have statements in the place of proofs, which a check
-above reads sooner. The room has no wrong bodies, which the gate tries. What was built goes from there to out/ of its crate. `rt ci` leaves
-libraries without the stamp by which the kit's other commands know what they were built of; they get it here, so that `rt check` begins at
-once.
+`rt ci` keeps what is done for its next run and for the gate's, where the kit has a place for that. So each crate is proved by a run of its
+own (proving.py), a last run for all builds the highest and gives what was kept of the rest, and a build that is stopped goes on from
+there. Its libraries have statements in the place of proofs, which a check above reads sooner. The room has no wrong bodies, which the gate
+tries. What was built goes from there to out/ of its crate. `rt ci` leaves libraries without the stamp by which the kit's other commands know
+what they were built of; they get it here, so that `rt check` begins at once.
 """
 import fcntl
 import importlib.util
@@ -15,11 +15,12 @@ import subprocess
 import sys
 import tempfile
 import time
-from contextlib import contextmanager
+from contextlib import contextmanager, suppress
 from functools import cache
 from glob import glob
 
 import repository
+from proving import is_chain, prove_in_turn, with_jobs
 from repository import TOP, Failed, Untried, folder_of, kit, tell
 
 LEFT_OUT = ("out", "must-fail", "wrong-bodies", "tested-bodies")
@@ -88,28 +89,53 @@ def fill(room, names):
     shutil.copy2(f"{TOP}/HANDLES", room)
 
 
-def prove(room, names, log, at_once, out, done):
-    """Proves and builds the crates of a room, notes each that is done, and prints a line for it. Raises `Failed` where one isn't."""
-    begun = time.monotonic()
-    given = {**os.environ, "RT_JOBS": str(at_once or checks_at_once())}
+class Progress:
+    """Which crates of a build are done. It prints a line for each, and keeps what `rt` says in a log."""
+
+    def __init__(self, names, log, out):
+        self.names, self.log, self.out, self.done, self.begun = names, log, out, [], time.monotonic()
+        open(log, "w", encoding="utf-8").close()
+
+    def note(self, crate):
+        if crate in self.names and crate not in self.done:
+            self.done.append(crate)
+            minutes = (time.monotonic() - self.begun) / 60
+            print(f"{crate}: {len(self.done)} of {len(self.names)}, {minutes:.1f} minutes", file=self.out, flush=True)
+
+    def note_said(self, said):
+        """Notes what `rt` said, and each crate that is done by that."""
+        with open(self.log, "a", encoding="utf-8") as kept:
+            kept.write(said)
+        for line in said.splitlines():
+            found = DONE.match(line)
+            if found:
+                self.note(found[1])
+
+
+def prove(room, progress, built, at_once):
+    """Proves and builds the crates of a room, but for libraries that are built. Raises `Failed` where one isn't."""
+    at_once = at_once or checks_at_once()
+    try:
+        left = prove_in_turn(room, progress.names, built, at_once, progress.note_said)
+        build_all(room, progress, None if is_chain(left) else at_once)
+    except Failed as why:
+        raise Failed(f"{why}. The end of {os.path.relpath(progress.log, TOP)}:\n{end_of(progress.log)}") from None
+
+
+def build_all(room, progress, at_once):
+    """Proves what isn't kept yet, so many crates at once, or as the kit chooses, and has each library and program stand in the room."""
     how = {"cwd": room, "stdin": subprocess.DEVNULL, "stdout": subprocess.PIPE, "stderr": subprocess.STDOUT, "text": True, "errors": "replace"}
     # In a session of its own, so that Ctrl-C reaches this program alone.
-    command = subprocess.Popen(["rt", "ci"], env=given, start_new_session=True, **how)
+    command = subprocess.Popen(["rt", "ci"], env=with_jobs(at_once), start_new_session=True, **how)
     try:
-        with open(log, "w", encoding="utf-8") as kept:
-            for line in command.stdout:
-                print(line, end="", file=kept, flush=True)
-                found = DONE.match(line)
-                if found:
-                    done.append(found[1])
-                    minutes = (time.monotonic() - begun) / 60
-                    print(f"{found[1]}: {len(done)} of {len(names)}, {minutes:.1f} minutes", file=out, flush=True)
+        for line in command.stdout:
+            progress.note_said(line)
         status = command.wait()
     finally:
         command.terminate()
         command.wait()
     if status:
-        raise Failed(f"rt ci ended with {status}. The end of {os.path.relpath(log, TOP)}:\n{end_of(log)}")
+        raise Failed(f"rt ci ended with {status}")
 
 
 def end_of(log):
@@ -160,6 +186,15 @@ def stamp(names, before):
                 out.write(now[it])
 
 
+def built_now(stamps):
+    """The crates of these stamps whose library stands in out/, built of the sources that the stamps were made of."""
+    found = set()
+    for it, now in stamps.items():
+        with suppress(FileNotFoundError), open(stamp_of(it), encoding="utf-8") as known:
+            found |= {it} if known.read() == now else set()
+    return found
+
+
 def stale(names):
     """Which libraries are of other sources than stand now: by their stamps, or where they have none by their age."""
     found, now = [], stamps(names)
@@ -178,18 +213,16 @@ def build(*crates, at_once=None, out=sys.stdout):
     if not shutil.which("rt"):
         raise Untried("rt isn't on the path")
     below = repository.below(crates)
-    names, done = [it for it in repository.crates() if it in below or it in crates], []
-    log = f"{folder_of(names[-1])}/out/build.log"
+    names = [it for it in repository.crates() if it in below or it in crates]
     for it in names:
         os.makedirs(f"{folder_of(it)}/out", exist_ok=True)
+    progress = Progress(names, f"{folder_of(names[-1])}/out/build.log", out)
     begun, before = time.time(), stamps(names)
     with room_for(names) as room:
-        try:
-            prove(room, names, log, at_once, out, done)
-        finally:
-            for it in done:
-                put(room, it, begun)
-            stamp(done, before)
+        prove(room, progress, built_now(before), at_once)
+        for it in names:
+            put(room, it, begun)
+    stamp(names, before)
 
 
 def is_older(path, crate):

@@ -47,21 +47,26 @@ parts_text (suc count) bytes = codes "-" ++ (decimal (long_at 0 bytes) ++ parts_
 abbrev pub numbers_text : List ℕ → List ℕ
 numbers_text bytes = codes "S-1-" ++ (authority_text (drop 2 bytes) ++ parts_text (slice_index bytes 1) (drop 8 bytes))
 
--- the two letters that stand for a SID in numbers, or the numbers
-unfoldable pub short_name : List ℕ → List ℕ
-short_name numbers =
+-- the two letters that stand for a SID of the NT authority in numbers, or the numbers
+unfoldable pub nt_name : List ℕ → List ℕ
+nt_name numbers =
     if bytes_eq numbers (codes "S-1-5-18") then codes "SY"
     else if bytes_eq numbers (codes "S-1-5-32-544") then codes "BA"
     else if bytes_eq numbers (codes "S-1-5-32-545") then codes "BU"
-    else if bytes_eq numbers (codes "S-1-1-0") then codes "WD"
-    else if bytes_eq numbers (codes "S-1-3-0") then codes "CO"
-    else if bytes_eq numbers (codes "S-1-15-2-1") then codes "AC"
     else if bytes_eq numbers (codes "S-1-5-19") then codes "LS"
     else if bytes_eq numbers (codes "S-1-5-20") then codes "NS"
     else if bytes_eq numbers (codes "S-1-5-11") then codes "AU"
     else if bytes_eq numbers (codes "S-1-5-12") then codes "RC"
-    else if bytes_eq numbers (codes "S-1-3-4") then codes "OW"
     else numbers
+
+-- those that stand for any SID, or the numbers
+unfoldable pub short_name : List ℕ → List ℕ
+short_name numbers =
+    if bytes_eq numbers (codes "S-1-1-0") then codes "WD"
+    else if bytes_eq numbers (codes "S-1-3-0") then codes "CO"
+    else if bytes_eq numbers (codes "S-1-15-2-1") then codes "AC"
+    else if bytes_eq numbers (codes "S-1-3-4") then codes "OW"
+    else nt_name numbers
 
 -- the SID that bytes begin with
 unfoldable pub sid_of : List ℕ → Option (List ℕ)

@@ -91,16 +91,16 @@ named_so name word rows result e h = subst (λ (w : Text). IsFound (Asks (w, row
 pub none_asked : (name : Text) (rows : List Row) → IsOther name →
     ((edit : EditRequest) (change : KeyChange) → Asks (name, rows) (Change edit change) → ⊥) → (request : Request) → Asks (name, rows) request → ⊥
 none_asked name rows none never (Stream request) h =
-    stream_apart (name, rows) request none.no_query.no_run_word none.no_query.no_dump_word none.no_query.no_check_word h
-none_asked name rows none never (Dump hive) h = none.no_query.no_dump_word (named (name, rows) (Dump hive) h)
+    stream_apart (name, rows) request none.no_query.no_look.no_stream.no_run_word none.no_query.no_look.no_stream.no_dump_word none.no_query.no_look.no_stream.no_check_word h
+none_asked name rows none never (Dump hive) h = none.no_query.no_look.no_stream.no_dump_word (named (name, rows) (Dump hive) h)
 none_asked name rows none never (Check files is_dirty is_verbose) h =
-    none.no_query.no_check_word (named (name, rows) (Check files is_dirty is_verbose) h)
+    none.no_query.no_look.no_stream.no_check_word (named (name, rows) (Check files is_dirty is_verbose) h)
 none_asked name rows none never (Listing list) h =
-    none.no_query.no_ls_word (named (name, rows) (Listing list) h)
+    none.no_query.no_look.no_ls_word (named (name, rows) (Listing list) h)
 none_asked name rows none never (Get value) h =
-    none.no_query.no_get_word (named (name, rows) (Get value) h)
+    none.no_query.no_look.no_get_word (named (name, rows) (Get value) h)
 none_asked name rows none never (Find sought) h =
-    none.no_query.no_find_word (named (name, rows) (Find sought) h)
+    none.no_query.no_look.no_find_word (named (name, rows) (Find sought) h)
 none_asked name rows none never (Diff old new is_dirty form) h =
     none.no_query.no_diff_word (named (name, rows) (Diff old new is_dirty form) h)
 none_asked name rows none never (Export hive path form) h =

@@ -1,13 +1,10 @@
 -- `clap`'s command is put together of its arguments and subcommands, and what it takes is the definition's.
-use Rattle.std.proofs.Common.{◌≡◌, ◌∙◌, ◌||◌, List, [], ◌∷◌, ℕ, Bool, ap, ap₂, codes, subst, sym, refl, true, false, inl, inr}
-use Rattle.std.specs.Prelude.{◌↔◌, Option, Some, None, Result, Ok, Err, IfErr, IfOk}
+use Rattle.std.proofs.Common.{◌≡◌, ◌∙◌, List, [], ◌∷◌, ℕ, Bool, ap, codes, subst, sym, refl, true, false, inl, inr}
+use Rattle.std.specs.Prelude.{◌↔◌, Option, Some, None, Result, Ok, Err, IfErr}
 use Rattle.std.specs.Result.{IsErrAnd}
-use Rattle.std.specs.declared.alloc.AllocError.{AllocError}
 use Rattle.clap.specs.Values.{kind_of}
-use Rattle.clap.specs.Words.{AddsArg, AddsSubcommand, App, HasKind, HasMatchesOf, IsAmong, Kinds, Row, Rule, Text}
-use Rattle.clap.specs.Words.{fault_of, is_simple, is_simple_and_free, subcommand_of, subcommand_rows_of, with_rule, with_subcommand}
-use Rattle.clap.specs.declared.builder.arg.Arg.{Arg}
-use Rattle.clap.specs.declared.builder.command.Command.{Command}
+use Rattle.clap.specs.Words.{App, HasKind, HasMatchesOf, IsAmong, Kinds, Row, Text}
+use Rattle.clap.specs.Words.{fault_of, is_simple, is_simple_and_free, subcommand_of, subcommand_rows_of}
 use Rattle.clap.specs.declared.error.Error.{Error}
 use Rattle.clap.specs.declared.parser.matches.ArgMatches.{ArgMatches}
 use Rattle.clap.proofs.OnLiterals.{clap_on_literals}
@@ -18,33 +15,13 @@ use Rattle.reg_words.specs.WordsFaults.{WantsMemory, TellsOptions}
 use Rattle.reg_words.specs.declared.fault.WordsFault.{WordsFault}
 use Rattle.reg_words.specs.declared.fault.WordsFault.TheVariants.{Unread}
 use Rattle.reg_words.proofs.AskedNothing.{none_of_both}
-use Rattle.reg_words.specs.Internal.Commands.{IsRule, IsCommand, IsFound}
+use Rattle.reg_words.specs.Internal.Commands.{IsFound}
 use Rattle.reg_words.specs.declared.request.Request.{Request}
 
 -- the exit of a `?`
 if_err : {T E : Type 0} (P : E → Type 0) (r : Result T E) (e : E) → IsErrAnd r (λ y. y ≡ e) → P e → IfErr r P
 if_err P (Ok x) e h q = record {}
 if_err P (Err y) e h q = subst P (sym h) q
-
-pub with_arg : (old new : Command) (a : Arg) (app : App) (rule : Rule) → IsCommand app old → IsRule rule a → AddsArg old a new →
-    IsCommand (with_rule app rule) new
-with_arg old new a app rule c r adds = record {
-  app_is = adds.shape r.local ∙ ap₂ with_rule c.app_is r.rule_is;
-  local = adds.globals ∙ ap₂ (λ (x y : Bool). x || y) c.local r.local;
-}
-
-pub with_command : (old sub new : Command) (app sub_app : App) → IsCommand app old → IsCommand sub_app sub → AddsSubcommand old sub new →
-    IsCommand (with_subcommand app sub_app.top) new
-with_command old sub new app sub_app c s adds = record {
-  app_is = adds.shape s.local ∙ ap₂ with_subcommand c.app_is (ap (λ (a : App). a.top) s.app_is);
-  local = adds.globals ∙ ap₂ (λ (x y : Bool). x || y) c.local s.local;
-}
-
--- one that was to be made, and was
-pub with_sub : (old new : Command) (made : Result Command AllocError) (app sub_app : App) → IsCommand app old → IfOk made (IsCommand sub_app) →
-    ((sub : Command) × (made ≡ Ok sub) × AddsSubcommand old sub new) → IsCommand (with_subcommand app sub_app.top) new
-with_sub old new made app sub_app c made_is h =
-    with_command old h.0 new app sub_app c (subst (λ (r : Result Command AllocError). IfOk r (IsCommand sub_app)) h.1 made_is) h.2
 
 simple : is_simple_and_free regtool ≡ true
 unfolding regtool clap_on_literals

@@ -6,7 +6,7 @@ ghost use Rattle.reg_words.specs.StreamLines.{IsGiven, IsSet, AreBothGiven, Give
 ghost use Rattle.reg_words.specs.CommandLines.{AsksToBegin, AsksToSave, AsksForPlaces, AsksForHive, AsksForPath, AsksForValue, AsksForDifferences};
 ghost use Rattle.reg_words.specs.CommandLines.{AsksForMoment, AsksForTimeline, Asks, AsksIn};
 ghost use Rattle.reg_words.specs.declared.request.Request.TheVariants.{Stream};
-ghost use Rattle.reg_words.specs.Internal.Commands.{IsFound, IsNoQuery};
+ghost use Rattle.reg_words.specs.Internal.Commands.{IsFound, IsNoLook, IsNoQuery, IsNoStream};
 
 use crate::changes::{change_asked, copy_asked};
 use crate::forms::{
@@ -556,6 +556,48 @@ fn other_asked<'a>(
     change_asked(alloc, name, matches)
 }
 
+/// What a subcommand is asked for that doesn't look into one file alone; `None` where it is asked for nothing.
+fn apart_asked<'a>(
+    alloc: Global,
+    name: &str,
+    matches: &ArgMatches<'a>,
+) -> Result<Option<Request<'a>>, AllocError>
+    requires { IsNoLook name.now }
+    ensures { IfOk result (λ request. IsFound (Asks (name.now, rows_of (found_of matches.now))) request) }
+{
+    if name == "diff" {
+        return diff_asked(alloc, matches);
+    }
+    if name == "export" {
+        return export_asked(alloc, matches);
+    }
+    if name == "timeline" {
+        return timeline_asked(alloc, matches);
+    }
+    other_asked(alloc, name, matches)
+}
+
+/// What a subcommand is asked for that doesn't work on the standard streams; `None` where it is asked for nothing.
+fn file_asked<'a>(
+    alloc: Global,
+    name: &str,
+    matches: &ArgMatches<'a>,
+) -> Result<Option<Request<'a>>, AllocError>
+    requires { IsNoStream name.now }
+    ensures { IfOk result (λ request. IsFound (Asks (name.now, rows_of (found_of matches.now))) request) }
+{
+    if name == "ls" {
+        return list_asked(alloc, matches);
+    }
+    if name == "get" {
+        return get_asked(alloc, matches);
+    }
+    if name == "find" {
+        return Ok(find_asked(matches));
+    }
+    apart_asked(alloc, name, matches)
+}
+
 /// What a subcommand is asked for; `None` where it is asked for nothing.
 fn command_asked<'a>(
     alloc: Global,
@@ -573,25 +615,7 @@ fn command_asked<'a>(
     if name == "check" {
         return check_asked(alloc, matches);
     }
-    if name == "ls" {
-        return list_asked(alloc, matches);
-    }
-    if name == "get" {
-        return get_asked(alloc, matches);
-    }
-    if name == "find" {
-        return Ok(find_asked(matches));
-    }
-    if name == "diff" {
-        return diff_asked(alloc, matches);
-    }
-    if name == "export" {
-        return export_asked(alloc, matches);
-    }
-    if name == "timeline" {
-        return timeline_asked(alloc, matches);
-    }
-    other_asked(alloc, name, matches)
+    file_asked(alloc, name, matches)
 }
 
 /// What the whole command line is asked for.

@@ -1,8 +1,7 @@
 //! `clap`'s command, of which a command line is read.
 
-ghost use Rattle.std.specs.Prelude.{◌≡◌, IfOk, Ok, codes, true, false};
-ghost use Rattle.clap.specs.Words.{AddsSubcommand, App, new_app, with_rule};
-ghost use Rattle.clap.specs.declared.builder.command.Command.{Command as AnyCommand};
+ghost use Rattle.std.specs.Prelude.{IfOk, codes, true, false};
+ghost use Rattle.clap.specs.Words.{App, new_app, with_rule};
 ghost use Rattle.reg_words.specs.CommandShapes.{option_rule, required_rule, flag_rule, short_rule, place_rule, file_rule, files_rule, hives_rule};
 ghost use Rattle.reg_words.specs.CommandShapes.{data_rule, at_rule, wait_rule, image_rule, workers_rule, case_rule, dirty_rule};
 ghost use Rattle.reg_words.specs.CommandShapes.{looking_command as looking_shape, keyed_command as keyed_shape, import_command as import_shape};
@@ -17,8 +16,9 @@ ghost use Rattle.reg_words.specs.CommandShapes.{changing_command as changing_sha
 ghost use Rattle.reg_words.specs.CommandShapes.{saving_options as saving_rules, copied_command as copied_shape, copy_command as copy_shape};
 ghost use Rattle.reg_words.specs.CommandShapes.{delete_command as delete_shape, stream_commands as stream_shape, query_commands as query_shape};
 ghost use Rattle.reg_words.specs.CommandShapes.{saving_commands as saved_shape, regtool as regtool_shape};
-ghost use Rattle.reg_words.specs.Internal.Commands.{IsRule, IsCommand};
+ghost use Rattle.reg_words.specs.Internal.Commands.{IsRule, IsCommand, IsMade};
 
+use crate::making::Making;
 use clap::{Arg, ArgAction, Command};
 use std::alloc::{AllocError, Global};
 
@@ -206,140 +206,120 @@ fn verbose_arg<'a>(alloc: Global) -> Arg<'a>
     .short('v')
 }
 
-/// A command without arguments.
-fn bare_command<'a>(alloc: Global, name: &'a str, about: &'a str) -> Command<'a>
+/// A command of that name, without arguments.
+fn named<'a>(alloc: Global, name: &'a str, about: &'a str) -> Command<'a>
     ensures { IsCommand (new_app name.now) result }
 {
     Command::new(alloc, name).about(about)
 }
 
+/// The same, to be added to.
+fn bare_command<'a>(alloc: Global, name: &'a str, about: &'a str) -> Making<'a>
+    ensures { IsMade (new_app name.now) result }
+{
+    Making::of(named(alloc, name, about))
+}
+
 /// A command whose first argument is a file, which must be given.
-fn file_command<'a>(
-    alloc: Global,
-    name: &'a str,
-    about: &'a str,
-    help: &'a str,
-) -> Result<Command<'a>, AllocError>
-    ensures { IfOk result (λ command. IsCommand (with_rule (new_app name.now) (file_rule true)) command) }
+fn file_command<'a>(alloc: Global, name: &'a str, about: &'a str, help: &'a str) -> Making<'a>
+    ensures { IsMade (with_rule (new_app name.now) (file_rule true)) result }
 {
     bare_command(alloc, name, about).arg(file_arg(alloc, true, help))
 }
 
-/// Adds a subcommand, if there was memory for it.
-fn with_made<'a>(
-    command: Command<'a>,
-    made: Result<Command<'a>, AllocError>,
-) -> Result<Command<'a>, AllocError>
-    ensures { IfOk result (λ whole. (sub : AnyCommand) × (made.entry ≡ Ok sub) × AddsSubcommand command.entry sub whole) }
-{
-    match made {
-        Ok(sub) => command.subcommand(sub),
-        Err(error) => Err(error),
-    }
-}
-
-fn run_command<'a>(alloc: Global) -> Result<Command<'a>, AllocError>
-    ensures { IfOk result (λ command. IsCommand run_shape command) }
+fn run_command<'a>(alloc: Global) -> Making<'a>
+    ensures { IsMade run_shape result }
 {
     bare_command(
         alloc,
         "run",
         "Runs a script of registry calls from standard input on a fresh hive",
     )
-    .arg(image_arg(alloc))?
+    .arg(image_arg(alloc))
     .arg(workers_arg(alloc))
 }
 
-fn dump_command<'a>(alloc: Global) -> Result<Command<'a>, AllocError>
-    ensures { IfOk result (λ command. IsCommand dump_shape command) }
+fn dump_command<'a>(alloc: Global) -> Making<'a>
+    ensures { IsMade dump_shape result }
 {
     bare_command(alloc, "dump", "Tells the keys of a hive")
-        .arg(file_arg(alloc, false, "The hive, in place of standard input"))?
+        .arg(file_arg(alloc, false, "The hive, in place of standard input"))
         .arg(dirty_arg(alloc))
 }
 
-fn check_command<'a>(alloc: Global) -> Result<Command<'a>, AllocError>
-    ensures { IfOk result (λ command. IsCommand check_shape command) }
+fn check_command<'a>(alloc: Global) -> Making<'a>
+    ensures { IsMade check_shape result }
 {
     bare_command(alloc, "check", "Loads hives and counts their keys")
-        .arg(files_arg(alloc))?
-        .arg(dirty_arg(alloc))?
+        .arg(files_arg(alloc))
+        .arg(dirty_arg(alloc))
         .arg(verbose_arg(alloc))
 }
 
 /// A command that looks into a file, with its file.
-fn looking_command<'a>(
-    alloc: Global,
-    name: &'a str,
-    about: &'a str,
-) -> Result<Command<'a>, AllocError>
-    ensures { IfOk result (λ command. IsCommand (looking_shape name.now) command) }
+fn looking_command<'a>(alloc: Global, name: &'a str, about: &'a str) -> Making<'a>
+    ensures { IsMade (looking_shape name.now) result }
 {
-    file_command(alloc, name, about, "The hive")?.arg(dirty_arg(alloc))
+    file_command(alloc, name, about, "The hive").arg(dirty_arg(alloc))
 }
 
 /// A command that looks for a key of a file, by its path.
-fn keyed_command<'a>(
-    alloc: Global,
-    name: &'a str,
-    about: &'a str,
-    is_required: bool,
-) -> Result<Command<'a>, AllocError>
-    ensures { IfOk result (λ command. IsCommand (keyed_shape name.now is_required) command) }
+fn keyed_command<'a>(alloc: Global, name: &'a str, about: &'a str, is_required: bool) -> Making<'a>
+    ensures { IsMade (keyed_shape name.now is_required) result }
 {
-    looking_command(alloc, name, about)?
-        .arg(path_arg(alloc, is_required))?
+    looking_command(alloc, name, about)
+        .arg(path_arg(alloc, is_required))
         .arg(slash_arg(alloc))
 }
 
 /// `ls`, without what it tells beside names.
-fn listing_command<'a>(alloc: Global) -> Result<Command<'a>, AllocError>
-    ensures { IfOk result (λ command. IsCommand listing_shape command) }
+fn listing_command<'a>(alloc: Global) -> Making<'a>
+    ensures { IsMade listing_shape result }
 {
-    keyed_command(alloc, "ls", "Lists the values and subkeys of a key", false)?
-        .arg(flag_arg(alloc, "tree", "List all that is below it"))?
+    keyed_command(alloc, "ls", "Lists the values and subkeys of a key", false)
+        .arg(flag_arg(alloc, "tree", "List all that is below it"))
         .arg(flag_arg(alloc, "whole", "Test the whole hive first"))
 }
 
-fn list_command<'a>(alloc: Global) -> Result<Command<'a>, AllocError>
-    ensures { IfOk result (λ command. IsCommand list_shape command) }
+fn list_command<'a>(alloc: Global) -> Making<'a>
+    ensures { IsMade list_shape result }
 {
-    listing_command(alloc)?
-        .arg(long_arg(alloc))?
-        .arg(flag_arg(alloc, "time", "Tell when keys were last written"))?
-        .arg(flag_arg(alloc, "security", "Tell the descriptors of keys"))?
+    listing_command(alloc)
+        .arg(long_arg(alloc))
+        .arg(flag_arg(alloc, "time", "Tell when keys were last written"))
+        .arg(flag_arg(alloc, "security", "Tell the descriptors of keys"))
         .arg(flag_arg(alloc, "null", "End each line by a zero"))
 }
 
-fn get_command<'a>(alloc: Global) -> Result<Command<'a>, AllocError>
-    ensures { IfOk result (λ command. IsCommand get_shape command) }
+fn get_command<'a>(alloc: Global) -> Making<'a>
+    ensures { IsMade get_shape result }
 {
-    keyed_command(alloc, "get", "Tells the data of a value", true)?
+    keyed_command(alloc, "get", "Tells the data of a value", true)
         .arg(place_arg(
             alloc,
             "value",
             false,
             "NAME",
             "The value, as it is typed; @, or nothing, for the default one",
-        ))?
-        .arg(flag_arg(alloc, "raw", "Write its bytes"))?
+        ))
+        .arg(flag_arg(alloc, "raw", "Write its bytes"))
         .arg(flag_arg(
             alloc,
             "type",
             "Tell its type, and the form of its data, too",
-        ))?
+        ))
         .arg(flag_arg(alloc, "whole", "Test the whole hive first"))
 }
 
-fn new_command<'a>(alloc: Global) -> Result<Command<'a>, AllocError>
-    ensures { IfOk result (λ command. IsCommand new_shape command) }
+fn new_command<'a>(alloc: Global) -> Making<'a>
+    ensures { IsMade new_shape result }
 {
     file_command(
         alloc,
         "new",
         "Makes a file with a fresh hive",
         "The file, which must not be there yet",
-    )?
+    )
     .arg(option_arg(
         alloc,
         "name",
@@ -349,41 +329,37 @@ fn new_command<'a>(alloc: Global) -> Result<Command<'a>, AllocError>
 }
 
 /// Adds the options of a command that saves a file.
-fn with_saving_options<'a>(alloc: Global, command: Command<'a>) -> Result<Command<'a>, AllocError>
-    ensures { (app : App) → IsCommand app command.entry → IfOk result (λ whole. IsCommand (saving_rules app) whole) }
+fn with_saving_options<'a>(alloc: Global, command: Making<'a>) -> Making<'a>
+    ensures { (app : App) → IsMade app command.entry → IsMade (saving_rules app) result }
 {
     command
-        .arg(option_arg(alloc, "output", "FILE", "Save in this new file instead"))?
+        .arg(option_arg(alloc, "output", "FILE", "Save in this new file instead"))
         .arg(flag_arg(
             alloc,
             "now",
             "Begin at the moment of the clock, as without --at",
-        ))?
-        .arg(at_arg(alloc))?
-        .arg(flag_arg(alloc, "dry-run", "Save nothing"))?
+        ))
+        .arg(at_arg(alloc))
+        .arg(flag_arg(alloc, "dry-run", "Save nothing"))
         .arg(wait_arg(alloc))
 }
 
 /// A command that saves a file, with all that edits and imports have in common.
-fn saving_command<'a>(
-    alloc: Global,
-    name: &'a str,
-    about: &'a str,
-) -> Result<Command<'a>, AllocError>
-    ensures { IfOk result (λ command. IsCommand (saving_shape name.now) command) }
+fn saving_command<'a>(alloc: Global, name: &'a str, about: &'a str) -> Making<'a>
+    ensures { IsMade (saving_shape name.now) result }
 {
-    let command = file_command(alloc, name, about, "The hive, which is saved in place")?;
+    let command = file_command(alloc, name, about, "The hive, which is saved in place");
     with_saving_options(alloc, command)
 }
 
-fn edit_command<'a>(alloc: Global) -> Result<Command<'a>, AllocError>
-    ensures { IfOk result (λ command. IsCommand edit_shape command) }
+fn edit_command<'a>(alloc: Global) -> Making<'a>
+    ensures { IsMade edit_shape result }
 {
     saving_command(
         alloc,
         "edit",
         "Runs a script from standard input on a hive, and saves what it changed",
-    )?
+    )
     .arg(flag_arg(
         alloc,
         "keep-going",
@@ -391,27 +367,27 @@ fn edit_command<'a>(alloc: Global) -> Result<Command<'a>, AllocError>
     ))
 }
 
-fn import_command<'a>(alloc: Global) -> Result<Command<'a>, AllocError>
-    ensures { IfOk result (λ command. IsCommand import_shape command) }
+fn import_command<'a>(alloc: Global) -> Making<'a>
+    ensures { IsMade import_shape result }
 {
     saving_command(
         alloc,
         "import",
         "Makes the entries of a .reg text in a hive, and saves it",
-    )?
+    )
     .arg(place_arg(
         alloc,
         "text",
         false,
         "TEXT",
         "The .reg text, standard input where none is given",
-    ))?
+    ))
     .arg(option_arg(
         alloc,
         "prefix",
         "FRONT",
         "What stands in the text for the hive's root, its name where none is given",
-    ))?
+    ))
     .arg(flag_arg(
         alloc,
         "all-errors",
@@ -419,72 +395,72 @@ fn import_command<'a>(alloc: Global) -> Result<Command<'a>, AllocError>
     ))
 }
 
-fn find_command<'a>(alloc: Global) -> Result<Command<'a>, AllocError>
-    ensures { IfOk result (λ command. IsCommand find_shape command) }
+fn find_command<'a>(alloc: Global) -> Making<'a>
+    ensures { IsMade find_shape result }
 {
     looking_command(
         alloc,
         "find",
         "Tells the keys and values that a pattern matches",
-    )?
-    .arg(place_arg(alloc, "pattern", true, "PATTERN", "A regular expression"))?
+    )
+    .arg(place_arg(alloc, "pattern", true, "PATTERN", "A regular expression"))
     .arg(option_arg(
         alloc,
         "in",
         "PLACES",
         "Search in these, parted by commas: keys, names, data, paths, bytes",
-    ))?
+    ))
     .arg(case_arg(alloc))
 }
 
 /// `diff`, with the two files and the path.
-fn comparing_command<'a>(alloc: Global) -> Result<Command<'a>, AllocError>
-    ensures { IfOk result (λ command. IsCommand comparing_shape command) }
+fn comparing_command<'a>(alloc: Global) -> Making<'a>
+    ensures { IsMade comparing_shape result }
 {
     bare_command(alloc, "diff", "Tells what differs between two hives")
-        .arg(place_arg(alloc, "old", true, "OLD", "A hive"))?
-        .arg(place_arg(alloc, "new", true, "NEW", "Another one"))?
-        .arg(dirty_arg(alloc))?
-        .arg(path_arg(alloc, false))?
+        .arg(place_arg(alloc, "old", true, "OLD", "A hive"))
+        .arg(place_arg(alloc, "new", true, "NEW", "Another one"))
+        .arg(dirty_arg(alloc))
+        .arg(path_arg(alloc, false))
         .arg(slash_arg(alloc))
 }
 
-fn diff_command<'a>(alloc: Global) -> Result<Command<'a>, AllocError>
-    ensures { IfOk result (λ command. IsCommand diff_shape command) }
+fn diff_command<'a>(alloc: Global) -> Making<'a>
+    ensures { IsMade diff_shape result }
 {
-    comparing_command(alloc)?
+    comparing_command(alloc)
         .arg(option_arg(
             alloc,
             "ignore",
             "FIELDS",
             "Pass over these, parted by commas: time, security, order, class, marks",
-        ))?
+        ))
         .arg(option_arg(
             alloc,
             "as",
             "FORM",
             "reg: write a .reg text that makes NEW of OLD",
-        ))?
+        ))
         .arg(flag_arg(alloc, "utf8", "Write a .reg text in UTF-8"))
 }
 
-fn timeline_command<'a>(alloc: Global) -> Result<Command<'a>, AllocError>
-    ensures { IfOk result (λ command. IsCommand timeline_shape command) }
+fn timeline_command<'a>(alloc: Global) -> Making<'a>
+    ensures { IsMade timeline_shape result }
 {
     bare_command(
         alloc,
         "timeline",
         "Tells keys by when they were last written",
     )
-    .arg(hives_arg(alloc))?
-    .arg(dirty_arg(alloc))?
+    .arg(hives_arg(alloc))
+    .arg(dirty_arg(alloc))
     .arg(option_arg(
         alloc,
         "from",
         "TIME",
         "From this moment on: 2022-06-18T04:26:40Z, a date, or units of 100 ns since 1601",
-    ))?
-    .arg(option_arg(alloc, "to", "TIME", "Up to this moment"))?
+    ))
+    .arg(option_arg(alloc, "to", "TIME", "Up to this moment"))
     .arg(option_arg(
         alloc,
         "as",
@@ -493,22 +469,22 @@ fn timeline_command<'a>(alloc: Global) -> Result<Command<'a>, AllocError>
     ))
 }
 
-fn export_command<'a>(alloc: Global) -> Result<Command<'a>, AllocError>
-    ensures { IfOk result (λ command. IsCommand export_shape command) }
+fn export_command<'a>(alloc: Global) -> Making<'a>
+    ensures { IsMade export_shape result }
 {
     keyed_command(
         alloc,
         "export",
         "Writes a key with all below it as text",
         false,
-    )?
+    )
     .arg(required_arg(
         alloc,
         "as",
         "FORM",
         "The form of the text: reg, json, jsonl, csv or html",
-    ))?
-    .arg(flag_arg(alloc, "utf8", "Write a .reg text in UTF-8"))?
+    ))
+    .arg(flag_arg(alloc, "utf8", "Write a .reg text in UTF-8"))
     .arg(option_arg(
         alloc,
         "prefix",
@@ -518,36 +494,32 @@ fn export_command<'a>(alloc: Global) -> Result<Command<'a>, AllocError>
 }
 
 /// A command that changes a key, with its file and its path.
-fn key_command<'a>(alloc: Global, name: &'a str, about: &'a str) -> Result<Command<'a>, AllocError>
-    ensures { IfOk result (λ command. IsCommand (with_rule (saving_shape name.now) (place_rule (codes "path") true)) command) }
+fn key_command<'a>(alloc: Global, name: &'a str, about: &'a str) -> Making<'a>
+    ensures { IsMade (with_rule (saving_shape name.now) (place_rule (codes "path") true)) result }
 {
-    saving_command(alloc, name, about)?.arg(path_arg(alloc, true))
+    saving_command(alloc, name, about).arg(path_arg(alloc, true))
 }
 
 /// A command that changes a key, with all that these have in common.
-fn changing_command<'a>(
-    alloc: Global,
-    name: &'a str,
-    about: &'a str,
-) -> Result<Command<'a>, AllocError>
-    ensures { IfOk result (λ command. IsCommand (changing_shape name.now) command) }
+fn changing_command<'a>(alloc: Global, name: &'a str, about: &'a str) -> Making<'a>
+    ensures { IsMade (changing_shape name.now) result }
 {
-    key_command(alloc, name, about)?.arg(slash_arg(alloc))
+    key_command(alloc, name, about).arg(slash_arg(alloc))
 }
 
 /// `set` with its file, its path, and the value's name and type.
-fn typed_command<'a>(alloc: Global) -> Result<Command<'a>, AllocError>
-    ensures { IfOk result (λ command. IsCommand
-        (with_rule (with_rule (changing_shape (codes "set")) (place_rule (codes "value") true)) (place_rule (codes "type") true)) command) }
+fn typed_command<'a>(alloc: Global) -> Making<'a>
+    ensures { IsMade
+        (with_rule (with_rule (changing_shape (codes "set")) (place_rule (codes "value") true)) (place_rule (codes "type") true)) result }
 {
-    changing_command(alloc, "set", "Sets a value of a key, and saves the hive")?
+    changing_command(alloc, "set", "Sets a value of a key, and saves the hive")
         .arg(place_arg(
             alloc,
             "value",
             true,
             "NAME",
             "The value, @ for the default one",
-        ))?
+        ))
         .arg(place_arg(
             alloc,
             "type",
@@ -557,61 +529,61 @@ fn typed_command<'a>(alloc: Global) -> Result<Command<'a>, AllocError>
         ))
 }
 
-fn set_command<'a>(alloc: Global) -> Result<Command<'a>, AllocError>
-    ensures { IfOk result (λ command. IsCommand set_shape command) }
+fn set_command<'a>(alloc: Global) -> Making<'a>
+    ensures { IsMade set_shape result }
 {
-    typed_command(alloc)?.arg(data_arg(alloc))?.arg(flag_arg(
+    typed_command(alloc).arg(data_arg(alloc)).arg(flag_arg(
         alloc,
         "parents",
         "Make the key and those above it where they are missing",
     ))
 }
 
-fn create_command<'a>(alloc: Global) -> Result<Command<'a>, AllocError>
-    ensures { IfOk result (λ command. IsCommand create_shape command) }
+fn create_command<'a>(alloc: Global) -> Making<'a>
+    ensures { IsMade create_shape result }
 {
-    changing_command(alloc, "create", "Makes a key, and saves the hive")?.arg(flag_arg(
+    changing_command(alloc, "create", "Makes a key, and saves the hive").arg(flag_arg(
         alloc,
         "parents",
         "Make the keys above it where they are missing",
     ))
 }
 
-fn delete_command<'a>(alloc: Global) -> Result<Command<'a>, AllocError>
-    ensures { IfOk result (λ command. IsCommand delete_shape command) }
+fn delete_command<'a>(alloc: Global) -> Making<'a>
+    ensures { IsMade delete_shape result }
 {
     changing_command(
         alloc,
         "delete",
         "Takes a value or a key away, and saves the hive",
-    )?
+    )
     .arg(place_arg(
         alloc,
         "value",
         false,
         "NAME",
         "The value, @ for the default one; the key where none is given",
-    ))?
+    ))
     .arg(flag_arg(alloc, "tree", "Take all keys below it away, too"))
 }
 
 /// `copy`, without the options of a command that saves a file.
-fn copied_command<'a>(alloc: Global) -> Result<Command<'a>, AllocError>
-    ensures { IfOk result (λ command. IsCommand copied_shape command) }
+fn copied_command<'a>(alloc: Global) -> Making<'a>
+    ensures { IsMade copied_shape result }
 {
     keyed_command(
         alloc,
         "copy",
         "Copies a key with all below it to another hive, and saves that",
         true,
-    )?
+    )
     .arg(place_arg(
         alloc,
         "to-file",
         true,
         "TO-FILE",
         "The hive to copy to, which is saved in place",
-    ))?
+    ))
     .arg(place_arg(
         alloc,
         "to-path",
@@ -621,15 +593,15 @@ fn copied_command<'a>(alloc: Global) -> Result<Command<'a>, AllocError>
     ))
 }
 
-fn copy_command<'a>(alloc: Global) -> Result<Command<'a>, AllocError>
-    ensures { IfOk result (λ command. IsCommand copy_shape command) }
+fn copy_command<'a>(alloc: Global) -> Making<'a>
+    ensures { IsMade copy_shape result }
 {
-    let command = copied_command(alloc)?;
+    let command = copied_command(alloc);
     with_saving_options(alloc, command)
 }
 
-fn completions_command<'a>(alloc: Global) -> Result<Command<'a>, AllocError>
-    ensures { IfOk result (λ command. IsCommand completions_shape command) }
+fn completions_command<'a>(alloc: Global) -> Making<'a>
+    ensures { IsMade completions_shape result }
 {
     bare_command(alloc, "completions", "Writes the completions of a shell").arg(place_arg(
         alloc,
@@ -640,64 +612,70 @@ fn completions_command<'a>(alloc: Global) -> Result<Command<'a>, AllocError>
     ))
 }
 
-fn manual_command<'a>(alloc: Global) -> Result<Command<'a>, AllocError>
-    ensures { IfOk result (λ command. IsCommand (new_app (codes "manual")) command) }
+fn manual_command<'a>(alloc: Global) -> Making<'a>
+    ensures { IsMade (new_app (codes "manual")) result }
 {
-    Ok(bare_command(alloc, "manual", "Writes the manual page"))
+    bare_command(alloc, "manual", "Writes the manual page")
 }
 
-fn version_command<'a>(alloc: Global) -> Result<Command<'a>, AllocError>
-    ensures { IfOk result (λ command. IsCommand (new_app (codes "version")) command) }
+fn version_command<'a>(alloc: Global) -> Making<'a>
+    ensures { IsMade (new_app (codes "version")) result }
 {
-    Ok(bare_command(alloc, "version", "Tells the tool's version"))
+    bare_command(alloc, "version", "Tells the tool's version")
 }
 
 /// The commands that work on the standard streams.
-fn stream_commands<'a>(alloc: Global) -> Result<Command<'a>, AllocError>
-    ensures { IfOk result (λ command. IsCommand stream_shape command) }
+fn stream_commands<'a>(alloc: Global) -> Making<'a>
+    ensures { IsMade stream_shape result }
 {
-    let top = bare_command(alloc, "regtool", "Answers registry calls on hives");
-    let running = with_made(top.subcommand_required(true), run_command(alloc))?;
-    let dumping = with_made(running, dump_command(alloc))?;
-    with_made(dumping, check_command(alloc))
+    let top = named(alloc, "regtool", "Answers registry calls on hives");
+    Making::of(top.subcommand_required(true))
+        .subcommand(run_command(alloc))
+        .subcommand(dump_command(alloc))
+        .subcommand(check_command(alloc))
 }
 
 /// These with those that look into a file.
-fn query_commands<'a>(alloc: Global) -> Result<Command<'a>, AllocError>
-    ensures { IfOk result (λ command. IsCommand query_shape command) }
+fn query_commands<'a>(alloc: Global) -> Making<'a>
+    ensures { IsMade query_shape result }
 {
-    let listing = with_made(stream_commands(alloc)?, list_command(alloc))?;
-    let getting = with_made(listing, get_command(alloc))?;
-    let finding = with_made(getting, find_command(alloc))?;
-    let comparing = with_made(finding, diff_command(alloc))?;
-    let exporting = with_made(comparing, export_command(alloc))?;
-    with_made(exporting, timeline_command(alloc))
+    stream_commands(alloc)
+        .subcommand(list_command(alloc))
+        .subcommand(get_command(alloc))
+        .subcommand(find_command(alloc))
+        .subcommand(diff_command(alloc))
+        .subcommand(export_command(alloc))
+        .subcommand(timeline_command(alloc))
 }
 
 /// These with those that make a file or save one, whatever is changed.
-fn saving_commands<'a>(alloc: Global) -> Result<Command<'a>, AllocError>
-    ensures { IfOk result (λ command. IsCommand saved_shape command) }
+fn saving_commands<'a>(alloc: Global) -> Making<'a>
+    ensures { IsMade saved_shape result }
 {
-    let making = with_made(query_commands(alloc)?, new_command(alloc))?;
-    let editing = with_made(making, edit_command(alloc))?;
-    with_made(editing, import_command(alloc))
+    query_commands(alloc)
+        .subcommand(new_command(alloc))
+        .subcommand(edit_command(alloc))
+        .subcommand(import_command(alloc))
 }
 
 /// These with those that make one change.
-fn changing_commands<'a>(alloc: Global) -> Result<Command<'a>, AllocError>
-    ensures { IfOk result (λ command. IsCommand changed_shape command) }
+fn changing_commands<'a>(alloc: Global) -> Making<'a>
+    ensures { IsMade changed_shape result }
 {
-    let setting = with_made(saving_commands(alloc)?, set_command(alloc))?;
-    let creating = with_made(setting, create_command(alloc))?;
-    let deleting = with_made(creating, delete_command(alloc))?;
-    with_made(deleting, copy_command(alloc))
+    saving_commands(alloc)
+        .subcommand(set_command(alloc))
+        .subcommand(create_command(alloc))
+        .subcommand(delete_command(alloc))
+        .subcommand(copy_command(alloc))
 }
 
 /// The whole command.
 pub fn whole_command<'a>(alloc: Global) -> Result<Command<'a>, AllocError>
     ensures { IfOk result (λ command. IsCommand regtool_shape command) }
 {
-    let telling = with_made(changing_commands(alloc)?, manual_command(alloc))?;
-    let completing = with_made(telling, completions_command(alloc))?;
-    with_made(completing, version_command(alloc))
+    changing_commands(alloc)
+        .subcommand(manual_command(alloc))
+        .subcommand(completions_command(alloc))
+        .subcommand(version_command(alloc))
+        .made
 }

@@ -17,6 +17,7 @@ mod command;
 mod fault;
 mod fields;
 mod forms;
+mod making;
 mod moments;
 mod page;
 mod places;
@@ -108,6 +109,27 @@ fn stream_of(request: &Request<'_>) -> Option<StreamRequest>
     }
 }
 
+/// Reads a command line that asks for something of the standard streams alone, by the tool's command.
+fn read_stream_by<'a>(
+    alloc: Global,
+    command: &mut Command<'a>,
+    words: &'a [String],
+) -> Result<StreamRequest, WordsFault>
+    requires { app_of command.old ≡ regtool }
+    ensures asks { IfOk result (λ request. IsCommandLine (texts words.now) (Stream request)) }
+    ensures refuses { IfErr result (λ fault. (WantsMemory fault → ⊥) → AsksNoStream (texts words.now)) }
+    ensures options { IfErr result (λ fault. TellsOptions fault (texts words.now)) }
+{
+    let request = read_by(alloc, command, words)?;
+    match stream_of(&request) {
+        Some(stream) => Ok(stream),
+        None => Err(WordsFault::Unread(refusal(
+            command,
+            "the words name files, and only standard input is read here",
+        ))),
+    }
+}
+
 /// Reads a command line that asks for something of the standard streams alone. The fault is that of [`read_words`]; or it tells that the
 /// words name files.
 pub fn read_stream_words<'a>(
@@ -119,12 +141,5 @@ pub fn read_stream_words<'a>(
     ensures options { IfErr result (λ fault. TellsOptions fault (texts words.now)) }
 {
     let mut command = whole_command(alloc)?;
-    let request = read_by(alloc, &mut command, words)?;
-    match stream_of(&request) {
-        Some(stream) => Ok(stream),
-        None => Err(WordsFault::Unread(refusal(
-            &mut command,
-            "the words name files, and only standard input is read here",
-        ))),
-    }
+    read_stream_by(alloc, &mut command, words)
 }

@@ -1,7 +1,7 @@
 //! SIDs.
 ghost use Rattle.std.specs.Prelude.{◌≡◌, ◌+◌, ◌*◌, ◌≤◌, length, slice_index, IfOk, string_bytes};
 ghost use Rattle.std.specs.Option.{option_map};
-ghost use Rattle.reg_tables.specs.SecurityTexts.{is_sid, authority_text, parts_text, numbers_text, short_name, sid_of};
+ghost use Rattle.reg_tables.specs.SecurityTexts.{is_sid, authority_text, parts_text, numbers_text, nt_name, short_name, sid_of};
 
 use crate::sddl::fields::{behind, long_at};
 use byteorder::{BigEndian, ByteOrder};
@@ -56,10 +56,10 @@ fn numbers_text(alloc: Global, bytes: &[u8]) -> Result<String, AllocError>
     format!(in alloc; "S-1-{authority}{parts}")
 }
 
-/// The letters that stand for a SID, or its numbers.
-#[tactic(auto, unfolding(crate::specs::SecurityTexts::short_name))]
-fn short_name(numbers: &str) -> &str
-    ensures { result.now ≡ short_name numbers.now }
+/// The letters that stand for a SID of the NT authority, or its numbers.
+#[tactic(auto, unfolding(crate::specs::SecurityTexts::nt_name))]
+fn nt_name(numbers: &str) -> &str
+    ensures { result.now ≡ nt_name numbers.now }
 {
     if numbers == "S-1-5-18" {
         return "SY";
@@ -69,15 +69,6 @@ fn short_name(numbers: &str) -> &str
     }
     if numbers == "S-1-5-32-545" {
         return "BU";
-    }
-    if numbers == "S-1-1-0" {
-        return "WD";
-    }
-    if numbers == "S-1-3-0" {
-        return "CO";
-    }
-    if numbers == "S-1-15-2-1" {
-        return "AC";
     }
     if numbers == "S-1-5-19" {
         return "LS";
@@ -91,10 +82,27 @@ fn short_name(numbers: &str) -> &str
     if numbers == "S-1-5-12" {
         return "RC";
     }
+    numbers
+}
+
+/// The letters that stand for a SID, or its numbers.
+#[tactic(auto, unfolding(crate::specs::SecurityTexts::short_name))]
+fn short_name(numbers: &str) -> &str
+    ensures { result.now ≡ short_name numbers.now }
+{
+    if numbers == "S-1-1-0" {
+        return "WD";
+    }
+    if numbers == "S-1-3-0" {
+        return "CO";
+    }
+    if numbers == "S-1-15-2-1" {
+        return "AC";
+    }
     if numbers == "S-1-3-4" {
         return "OW";
     }
-    numbers
+    nt_name(numbers)
 }
 
 /// The SID that the bytes begin with.

@@ -1,11 +1,12 @@
 -- `clap`'s commands as they are put together, and what is read of their matches (this project's own).
 use Rattle.jiff.specs.declared.timestamp.Timestamp.{Timestamp}
 use Rattle.jiff_core.specs.declared.error.Error.{Error}
-use Rattle.std.specs.Prelude.{◌≡◌, ℕ, ℤ, List, codes, false, Option, Some, None, Result, Ok, Err}
+use Rattle.std.specs.Prelude.{◌≡◌, ℕ, ℤ, List, codes, false, Option, Some, None, Result, Ok, Err, IfOk}
 use Rattle.clap.specs.Words.{App, Rule, app_of, rule_of}
 use Rattle.clap.specs.declared.builder.command.Command.TheViews.{out-Command}
 use Rattle.clap.specs.declared.builder.arg.Arg.{Arg}
 use Rattle.clap.specs.declared.builder.command.Command.{Command}
+use Rattle.reg_words.specs.declared.making.Making.{Making}
 use Rattle.reg_words.specs.declared.request.StreamRequest.{StreamRequest}
 use Rattle.reg_words.specs.declared.request.Request.{Request}
 use Rattle.reg_words.specs.declared.request.Request.TheVariants.{Stream}
@@ -19,6 +20,10 @@ pub record IsRule (rule : Rule) (arg : Arg) : Type 0 where
 pub record IsCommand (app : App) (command : Command) : Type 0 where
   pub app_is : app_of command ≡ app
   pub local : (out-Command command).has_globals ≡ false
+
+-- that such a command is put together, if there was memory for it
+abbrev pub IsMade : App → Making → Type 0
+IsMade app making = IfOk making.made (IsCommand app)
 
 -- something of which this holds, or none, where it holds of none
 abbrev pub IsFound : {A : Type 0} → (A → Type 0) → Option A → Type 0
@@ -35,14 +40,22 @@ abbrev pub stream_of : Request → Option StreamRequest
 stream_of (Stream stream) = Some stream
 stream_of request = None
 
--- a subcommand of another name than those that work on the standard streams or look into a file
-pub record IsNoQuery (name : List ℕ) : Type 0 where
+-- a subcommand of another name than those that work on the standard streams
+pub record IsNoStream (name : List ℕ) : Type 0 where
   pub no_run_word : name ≡ codes "run" → ⊥
   pub no_dump_word : name ≡ codes "dump" → ⊥
   pub no_check_word : name ≡ codes "check" → ⊥
+
+-- and than those that look into one file
+pub record IsNoLook (name : List ℕ) : Type 0 where
+  pub no_stream : IsNoStream name
   pub no_ls_word : name ≡ codes "ls" → ⊥
   pub no_get_word : name ≡ codes "get" → ⊥
   pub no_find_word : name ≡ codes "find" → ⊥
+
+-- and than those that compare, export or tell times
+pub record IsNoQuery (name : List ℕ) : Type 0 where
+  pub no_look : IsNoLook name
   pub no_diff_word : name ≡ codes "diff" → ⊥
   pub no_export_word : name ≡ codes "export" → ⊥
   pub no_timeline_word : name ≡ codes "timeline" → ⊥

@@ -1,8 +1,6 @@
-use Rattle.std.proofs.lemmas.Result.{IfOk-weaker}
-use Rattle.reg_words.proofs.CommandShapes.{with_arg}
 use Rattle.reg_words.proofs.command.dump_command.Goals as goal
 
 pub returns : goal.returns
 returns c =
-    let with_file = with_arg _ _ _ _ _ c.bare_command.ensures c.file_arg.ensures c.in_ok-arg.ensures in
-    IfOk-weaker c.arg-2.result _ _ (λ r adds. with_arg _ r _ _ _ with_file c.dirty_arg.ensures adds) c.arg-2.ensures
+    let with_1 = c.arg.ensures _ _ c.bare_command.ensures c.file_arg.ensures in
+    c.arg-2.ensures _ _ with_1 c.dirty_arg.ensures

@@ -1,10 +1,8 @@
-use Rattle.std.proofs.lemmas.Result.{IfOk-weaker}
-use Rattle.reg_words.proofs.CommandShapes.{with_arg}
 use Rattle.reg_words.proofs.command.list_command.Goals as goal
 
 pub returns : goal.returns
 returns c =
-    let with_1 = with_arg _ _ _ _ _ c.in_ok-listing_command.ensures c.long_arg.ensures c.in_ok-arg.ensures in
-    let with_2 = with_arg _ _ _ _ _ with_1 c.flag_arg.ensures c.in_ok-arg-2.ensures in
-    let with_3 = with_arg _ _ _ _ _ with_2 c.flag_arg-2.ensures c.in_ok-arg-3.ensures in
-    IfOk-weaker c.arg-4.result _ _ (λ r adds. with_arg _ r _ _ _ with_3 c.flag_arg-3.ensures adds) c.arg-4.ensures
+    let with_1 = c.arg.ensures _ _ c.listing_command.ensures c.long_arg.ensures in
+    let with_2 = c.arg-2.ensures _ _ with_1 c.flag_arg.ensures in
+    let with_3 = c.arg-3.ensures _ _ with_2 c.flag_arg-2.ensures in
+    c.arg-4.ensures _ _ with_3 c.flag_arg-3.ensures
