@@ -677,5 +677,5 @@ pub fn whole_command<'a>(alloc: Global) -> Result<Command<'a>, AllocError>
         .subcommand(manual_command(alloc))
         .subcommand(completions_command(alloc))
         .subcommand(version_command(alloc))
-        .made
+        .whole()
 }

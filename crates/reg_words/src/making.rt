@@ -1,12 +1,39 @@
 //! A command that is being put together.
 
 ghost use Rattle.std.specs.Prelude.{◌≡◌, IfOk, Ok};
-ghost use Rattle.clap.specs.Words.{AddsSubcommand, App, Rule, with_rule, with_subcommand};
+ghost use Rattle.clap.specs.Words.{AddsArg, AddsSubcommand, App, Rule, with_rule, with_subcommand};
 ghost use Rattle.clap.specs.declared.builder.command.Command.{Command as AnyCommand};
 ghost use Rattle.reg_words.specs.Internal.Commands.{IsRule, IsCommand, IsMade};
 
 use clap::{Arg, Command};
 use std::alloc::AllocError;
+
+/// Adds an argument to a command, if there was memory for that.
+fn with_arg<'a>(
+    made: Result<Command<'a>, AllocError>,
+    arg: Arg<'a>,
+) -> Result<Command<'a>, AllocError>
+    ensures { IfOk result (λ whole. (command : AnyCommand) × (made.entry ≡ Ok command) × AddsArg command arg.entry whole) }
+{
+    match made {
+        Ok(command) => command.arg(arg),
+        Err(lack) => Err(lack),
+    }
+}
+
+/// Adds a subcommand to a command, if there was memory for both.
+fn with_subcommand_of<'a>(
+    made: Result<Command<'a>, AllocError>,
+    other: Result<Command<'a>, AllocError>,
+) -> Result<Command<'a>, AllocError>
+    ensures { IfOk result (λ whole. (command : AnyCommand) × (sub : AnyCommand) × (made.entry ≡ Ok command) × (other.entry ≡ Ok sub)
+        × AddsSubcommand command sub whole) }
+{
+    match made {
+        Ok(command) => with_made(command, other),
+        Err(lack) => Err(lack),
+    }
+}
 
 /// Adds a subcommand, if there was memory for it.
 fn with_made<'a>(
@@ -22,9 +49,14 @@ fn with_made<'a>(
 }
 
 /// A command, unless memory was refused for a part of it. So whoever puts it together needn't ask after each part.
-#[derive(Drop)]
 pub struct Making<'a> {
     pub made: Result<Command<'a>, AllocError>,
+}
+
+impl<'a> Drop for Making<'a> {
+    fn drop(self) {
+        let Making { made: _ } = self;
+    }
 }
 
 impl<'a> Making<'a> {
@@ -35,25 +67,31 @@ impl<'a> Making<'a> {
         Making { made: Ok(command) }
     }
 
+    /// The command, if there was memory for all of it.
+    pub fn whole(self) -> Result<Command<'a>, AllocError>
+        ensures { result ≡ self.entry.made }
+    {
+        let Making { made } = self;
+        made
+    }
+
     /// The same with one argument more.
     pub fn arg(self, arg: Arg<'a>) -> Making<'a>
         ensures { (app : App) → (rule : Rule) → IsMade app self.entry → IsRule rule arg.entry → IsMade (with_rule app rule) result }
     {
-        let made = match self.made {
-            Ok(command) => command.arg(arg),
-            Err(lack) => Err(lack),
-        };
-        Making { made }
+        let Making { made } = self;
+        Making {
+            made: with_arg(made, arg),
+        }
     }
 
     /// The same with one subcommand more, which was made apart.
     pub fn subcommand(self, other: Making<'a>) -> Making<'a>
         ensures { (app sub : App) → IsMade app self.entry → IsMade sub other.entry → IsMade (with_subcommand app sub.top) result }
     {
-        let made = match self.made {
-            Ok(command) => with_made(command, other.made),
-            Err(lack) => Err(lack),
-        };
-        Making { made }
+        let Making { made } = self;
+        Making {
+            made: with_subcommand_of(made, other.whole()),
+        }
     }
 }

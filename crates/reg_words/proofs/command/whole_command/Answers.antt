@@ -1,4 +1,9 @@
+use Rattle.std.proofs.Common.{subst, sym}
+use Rattle.std.specs.Prelude.{Result, IfOk}
+use Rattle.std.specs.declared.alloc.AllocError.{AllocError}
+use Rattle.clap.specs.declared.builder.command.Command.{Command}
 use Rattle.reg_words.specs.CommandShapes.{regtool}
+use Rattle.reg_words.specs.Internal.Commands.{IsCommand}
 use Rattle.reg_words.proofs.command.whole_command.Goals as goal
 
 pub returns : goal.returns
@@ -6,4 +11,5 @@ unfolding regtool
 returns c =
     let with_1 = c.subcommand.ensures _ _ c.changing_commands.ensures c.manual_command.ensures in
     let with_2 = c.subcommand-2.ensures _ _ with_1 c.completions_command.ensures in
-    c.subcommand-3.ensures _ _ with_2 c.version_command.ensures
+    let with_3 = c.subcommand-3.ensures _ _ with_2 c.version_command.ensures in
+    subst (λ (r : Result Command AllocError). IfOk r (IsCommand regtool)) (sym c.whole.ensures) with_3
