@@ -53,6 +53,7 @@ pub struct Making<'a> {
     pub made: Result<Command<'a>, AllocError>,
 }
 
+// By hand, so that a step which takes one has no way of its own for each part of a command.
 impl<'a> Drop for Making<'a> {
     fn drop(self) {
         let Making { made: _ } = self;
