@@ -20,12 +20,12 @@ from functools import cache
 from glob import glob
 
 import repository
-from proving import is_chain, prove_in_turn, with_jobs
+from proving import is_chain, prove_by_chains, with_jobs
 from repository import TOP, Failed, Untried, folder_of, kit, tell
 
 LEFT_OUT = ("out", "must-fail", "wrong-bodies", "tested-bodies")
 # What a check takes of memory, in bytes. `rt ci` by itself counts up to four times as much, and leaves processors idle.
-MEMORY = 3_000_000_000
+MEMORY = 3_600_000_000
 DONE = re.compile(r"rt: (\w+) (?:proved|is kept: .*)$")
 
 
@@ -84,16 +84,22 @@ def fill(room, names):
     os.mkdir(f"{room}/.git")
     for it in names:
         shutil.copytree(folder_of(it), f"{room}/crates/{it}", ignore=shutil.ignore_patterns(*LEFT_OUT))
-    with open(f"{TOP}/crates.txt", encoding="utf-8") as lines, open(f"{room}/crates.txt", "w", encoding="utf-8") as out:
-        out.writelines(line for line in lines if line.partition(":")[0].partition(" ")[0] in names)
+    list_crates(room, names)
     shutil.copy2(f"{TOP}/HANDLES", room)
 
 
+def list_crates(room, names):
+    """Writes a room's list of its crates."""
+    with open(f"{TOP}/crates.txt", encoding="utf-8") as lines, open(f"{room}/crates.txt", "w", encoding="utf-8") as out:
+        out.writelines(line for line in lines if line.partition(":")[0].partition(" ")[0] in names)
+
+
 class Progress:
-    """Which crates of a build are done. It prints a line for each, and keeps what `rt` says in a log."""
+    """Which crates of a build are done, and which of them stand whole in the room. It prints a line for each, and keeps what `rt` says in a
+    log."""
 
     def __init__(self, names, log, out):
-        self.names, self.log, self.out, self.done, self.begun = names, log, out, [], time.monotonic()
+        self.names, self.log, self.out, self.done, self.given, self.begun = names, log, out, [], [], time.monotonic()
         open(log, "w", encoding="utf-8").close()
 
     def note(self, crate):
@@ -103,23 +109,43 @@ class Progress:
             print(f"{crate}: {len(self.done)} of {len(self.names)}, {minutes:.1f} minutes", file=self.out, flush=True)
 
     def note_said(self, said):
-        """Notes what `rt` said, and each crate that is done by that."""
+        """Notes what `rt` said, and each crate that is done by that, which it answers."""
         with open(self.log, "a", encoding="utf-8") as kept:
             kept.write(said)
-        for line in said.splitlines():
-            found = DONE.match(line)
-            if found:
-                self.note(found[1])
+        found = [it[1] for it in map(DONE.match, said.splitlines()) if it]
+        for it in found:
+            self.note(it)
+        return found
 
 
 def prove(room, progress, built, at_once):
-    """Proves and builds the crates of a room, but for libraries that are built. Raises `Failed` where one isn't."""
+    """Proves and builds the crates of a room, but for libraries that are built. Raises `Failed` where one isn't; what is done stands there."""
     at_once = at_once or checks_at_once()
     try:
-        left = prove_in_turn(room, progress.names, built, at_once, progress.note_said)
+        left = prove_by_chains(room, progress.names, built, at_once, progress.note_said)
+    except Failed as why:
+        ended = told(progress, why)
+        leave(room, progress.done)
+        if progress.done:
+            build_all(room, progress, None)
+        raise ended from None
+    try:
         build_all(room, progress, None if is_chain(left) else at_once)
     except Failed as why:
-        raise Failed(f"{why}. The end of {os.path.relpath(progress.log, TOP)}:\n{end_of(progress.log)}") from None
+        raise told(progress, why) from None
+
+
+def told(progress, why):
+    """A failure, with the end of the log."""
+    return Failed(f"{why}. The end of {os.path.relpath(progress.log, TOP)}:\n{end_of(progress.log)}")
+
+
+def leave(room, names):
+    """Takes all crates but these from a room."""
+    for it in os.listdir(f"{room}/crates"):
+        if it not in names:
+            shutil.rmtree(f"{room}/crates/{it}")
+    list_crates(room, names)
 
 
 def build_all(room, progress, at_once):
@@ -129,7 +155,7 @@ def build_all(room, progress, at_once):
     command = subprocess.Popen(["rt", "ci"], env=with_jobs(at_once), start_new_session=True, **how)
     try:
         for line in command.stdout:
-            progress.note_said(line)
+            progress.given += progress.note_said(line)
         status = command.wait()
     finally:
         command.terminate()
@@ -177,20 +203,26 @@ def stamp_of(crate):
     return f"{folder_of(crate)}/out/rlib/stamp"
 
 
+def mark_of(crate):
+    """Where the same stands once more if `rt ci` proved the library, so that the kit may have kept it."""
+    return f"{folder_of(crate)}/out/rlib/built"
+
+
 def stamp(names, before):
     """Stamps built libraries, but for those of which a source was changed since these stamps were made."""
     now = stamps(names)
     for it in names:
         if it in now and now[it] == before.get(it) and os.path.isdir(os.path.dirname(stamp_of(it))):
-            with open(stamp_of(it), "w", encoding="utf-8") as out:
-                out.write(now[it])
+            for path in (stamp_of(it), mark_of(it)):
+                with open(path, "w", encoding="utf-8") as out:
+                    out.write(now[it])
 
 
 def built_now(stamps):
-    """The crates of these stamps whose library stands in out/, built of the sources that the stamps were made of."""
+    """The crates of these stamps whose library stands in out/, built here of the sources that the stamps were made of."""
     found = set()
     for it, now in stamps.items():
-        with suppress(FileNotFoundError), open(stamp_of(it), encoding="utf-8") as known:
+        with suppress(FileNotFoundError), open(mark_of(it), encoding="utf-8") as known:
             found |= {it} if known.read() == now else set()
     return found
 
@@ -219,10 +251,12 @@ def build(*crates, at_once=None, out=sys.stdout):
     progress = Progress(names, f"{folder_of(names[-1])}/out/build.log", out)
     begun, before = time.time(), stamps(names)
     with room_for(names) as room:
-        prove(room, progress, built_now(before), at_once)
-        for it in names:
-            put(room, it, begun)
-    stamp(names, before)
+        try:
+            prove(room, progress, built_now(before), at_once)
+        finally:
+            for it in progress.given:
+                put(room, it, begun)
+            stamp(progress.given, before)
 
 
 def is_older(path, crate):

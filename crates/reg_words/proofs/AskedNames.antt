@@ -91,30 +91,30 @@ named_so name word rows result e h = subst (λ (w : Text). IsFound (Asks (w, row
 pub none_asked : (name : Text) (rows : List Row) → IsOther name →
     ((edit : EditRequest) (change : KeyChange) → Asks (name, rows) (Change edit change) → ⊥) → (request : Request) → Asks (name, rows) request → ⊥
 none_asked name rows none never (Stream request) h =
-    stream_apart (name, rows) request none.no_query.no_look.no_stream.no_run_word none.no_query.no_look.no_stream.no_dump_word none.no_query.no_look.no_stream.no_check_word h
-none_asked name rows none never (Dump hive) h = none.no_query.no_look.no_stream.no_dump_word (named (name, rows) (Dump hive) h)
+    stream_apart (name, rows) request none.no_save.no_query.no_look.no_stream.no_run_word none.no_save.no_query.no_look.no_stream.no_dump_word none.no_save.no_query.no_look.no_stream.no_check_word h
+none_asked name rows none never (Dump hive) h = none.no_save.no_query.no_look.no_stream.no_dump_word (named (name, rows) (Dump hive) h)
 none_asked name rows none never (Check files is_dirty is_verbose) h =
-    none.no_query.no_look.no_stream.no_check_word (named (name, rows) (Check files is_dirty is_verbose) h)
+    none.no_save.no_query.no_look.no_stream.no_check_word (named (name, rows) (Check files is_dirty is_verbose) h)
 none_asked name rows none never (Listing list) h =
-    none.no_query.no_look.no_ls_word (named (name, rows) (Listing list) h)
+    none.no_save.no_query.no_look.no_ls_word (named (name, rows) (Listing list) h)
 none_asked name rows none never (Get value) h =
-    none.no_query.no_look.no_get_word (named (name, rows) (Get value) h)
+    none.no_save.no_query.no_look.no_get_word (named (name, rows) (Get value) h)
 none_asked name rows none never (Find sought) h =
-    none.no_query.no_look.no_find_word (named (name, rows) (Find sought) h)
+    none.no_save.no_query.no_look.no_find_word (named (name, rows) (Find sought) h)
 none_asked name rows none never (Diff old new is_dirty form) h =
-    none.no_query.no_diff_word (named (name, rows) (Diff old new is_dirty form) h)
+    none.no_save.no_query.no_diff_word (named (name, rows) (Diff old new is_dirty form) h)
 none_asked name rows none never (Export hive path form) h =
-    none.no_query.no_export_word (named (name, rows) (Export hive path form) h)
+    none.no_save.no_query.no_export_word (named (name, rows) (Export hive path form) h)
 none_asked name rows none never (Timeline timeline) h =
-    none.no_query.no_timeline_word (named (name, rows) (Timeline timeline) h)
-none_asked name rows none never (New file value) h = none.no_new_word (named (name, rows) (New file value) h)
+    none.no_save.no_query.no_timeline_word (named (name, rows) (Timeline timeline) h)
+none_asked name rows none never (New file value) h = none.no_save.no_new_word (named (name, rows) (New file value) h)
 none_asked name rows none never (Edit edit keeps_going) h =
-    none.no_edit_word (named (name, rows) (Edit edit keeps_going) h)
+    none.no_save.no_edit_word (named (name, rows) (Edit edit keeps_going) h)
 none_asked name rows none never (Import edit text prefix tells_all) h =
-    none.no_import_word (named (name, rows) (Import edit text prefix tells_all) h)
+    none.no_save.no_import_word (named (name, rows) (Import edit text prefix tells_all) h)
 none_asked name rows none never (Change edit change) h = never edit change h
 none_asked name rows none never (Copy edit source path into) h =
-    none.no_copy_word (named (name, rows) (Copy edit source path into) h)
+    none.no_save.no_copy_word (named (name, rows) (Copy edit source path into) h)
 none_asked name rows none never Manual h = none.no_manual_word (named (name, rows) Manual h)
 none_asked name rows none never (Completions shell) h =
     none.no_completions_word (named (name, rows) (Completions shell) h)

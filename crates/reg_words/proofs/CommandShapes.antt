@@ -1,10 +1,12 @@
 -- `clap`'s command is put together of its arguments and subcommands, and what it takes is the definition's.
 use Rattle.std.proofs.Common.{◌≡◌, ◌∙◌, List, [], ◌∷◌, ℕ, Bool, ap, codes, subst, sym, refl, true, false, inl, inr}
-use Rattle.std.specs.Prelude.{◌↔◌, Option, Some, None, Result, Ok, Err, IfErr}
+use Rattle.std.specs.Prelude.{◌↔◌, Option, Some, None, Result, Ok, Err, IfErr, IfOk}
 use Rattle.std.specs.Result.{IsErrAnd}
+use Rattle.std.specs.declared.alloc.AllocError.{AllocError}
 use Rattle.clap.specs.Values.{kind_of}
 use Rattle.clap.specs.Words.{App, HasKind, HasMatchesOf, IsAmong, Kinds, Row, Text}
 use Rattle.clap.specs.Words.{fault_of, is_simple, is_simple_and_free, subcommand_of, subcommand_rows_of}
+use Rattle.clap.specs.declared.builder.command.Command.{Command}
 use Rattle.clap.specs.declared.error.Error.{Error}
 use Rattle.clap.specs.declared.parser.matches.ArgMatches.{ArgMatches}
 use Rattle.clap.proofs.OnLiterals.{clap_on_literals}
@@ -15,13 +17,18 @@ use Rattle.reg_words.specs.WordsFaults.{WantsMemory, TellsOptions}
 use Rattle.reg_words.specs.declared.fault.WordsFault.{WordsFault}
 use Rattle.reg_words.specs.declared.fault.WordsFault.TheVariants.{Unread}
 use Rattle.reg_words.proofs.AskedNothing.{none_of_both}
-use Rattle.reg_words.specs.Internal.Commands.{IsFound}
+use Rattle.reg_words.specs.declared.builder.CommandBuilder.{CommandBuilder}
+use Rattle.reg_words.specs.Internal.Commands.{IsCommand, IsFound, IsMade}
 use Rattle.reg_words.specs.declared.request.Request.{Request}
 
 -- the exit of a `?`
 if_err : {T E : Type 0} (P : E → Type 0) (r : Result T E) (e : E) → IsErrAnd r (λ y. y ≡ e) → P e → IfErr r P
 if_err P (Ok x) e h q = record {}
 if_err P (Err y) e h q = subst P (sym h) q
+
+-- a builder that has a command of that form
+pub begun : (app : App) (builder : CommandBuilder) (command : Command) → builder.made ≡ Ok command → IsCommand app command → IsMade app builder
+begun app builder command is has = subst (λ (r : Result Command AllocError). IfOk r (IsCommand app)) (sym is) has
 
 simple : is_simple_and_free regtool ≡ true
 unfolding regtool clap_on_literals

@@ -6,7 +6,7 @@ ghost use Rattle.reg_words.specs.StreamLines.{IsGiven, IsSet, AreBothGiven, Give
 ghost use Rattle.reg_words.specs.CommandLines.{AsksToBegin, AsksToSave, AsksForPlaces, AsksForHive, AsksForPath, AsksForValue, AsksForDifferences};
 ghost use Rattle.reg_words.specs.CommandLines.{AsksForMoment, AsksForTimeline, Asks, AsksIn};
 ghost use Rattle.reg_words.specs.declared.request.Request.TheVariants.{Stream};
-ghost use Rattle.reg_words.specs.Internal.Commands.{IsFound, IsNoLook, IsNoQuery, IsNoStream};
+ghost use Rattle.reg_words.specs.Internal.Commands.{IsFound, IsNoLook, IsNoQuery, IsNoSave, IsNoStream};
 
 use crate::changes::{change_asked, copy_asked};
 use crate::forms::{
@@ -523,6 +523,27 @@ fn new_asked<'a>(matches: &ArgMatches<'a>) -> Option<Request<'a>>
     }
 }
 
+/// What a subcommand that writes a text of the tool's own, or changes a key, is asked for; `None` where it is asked for nothing.
+fn text_asked<'a>(
+    alloc: Global,
+    name: &str,
+    matches: &ArgMatches<'a>,
+) -> Result<Option<Request<'a>>, AllocError>
+    requires { IsNoSave name.now }
+    ensures { IfOk result (λ request. IsFound (Asks (name.now, rows_of (found_of matches.now))) request) }
+{
+    if name == "manual" {
+        return Ok(Some(Request::Manual));
+    }
+    if name == "completions" {
+        return Ok(completions_asked(matches));
+    }
+    if name == "version" {
+        return Ok(Some(Request::Version));
+    }
+    change_asked(alloc, name, matches)
+}
+
 /// What a subcommand is asked for that neither works on the standard streams nor looks into a file; `None` where it is asked for nothing.
 fn other_asked<'a>(
     alloc: Global,
@@ -544,20 +565,11 @@ fn other_asked<'a>(
     if name == "copy" {
         return copy_asked(alloc, matches);
     }
-    if name == "manual" {
-        return Ok(Some(Request::Manual));
-    }
-    if name == "completions" {
-        return Ok(completions_asked(matches));
-    }
-    if name == "version" {
-        return Ok(Some(Request::Version));
-    }
-    change_asked(alloc, name, matches)
+    text_asked(alloc, name, matches)
 }
 
-/// What a subcommand is asked for that doesn't look into one file alone; `None` where it is asked for nothing.
-fn apart_asked<'a>(
+/// What `diff`, `export`, `timeline` or a subcommand behind them is asked for; `None` where it is asked for nothing.
+fn telling_asked<'a>(
     alloc: Global,
     name: &str,
     matches: &ArgMatches<'a>,
@@ -577,8 +589,8 @@ fn apart_asked<'a>(
     other_asked(alloc, name, matches)
 }
 
-/// What a subcommand is asked for that doesn't work on the standard streams; `None` where it is asked for nothing.
-fn file_asked<'a>(
+/// What `ls`, `get`, `find` or a subcommand behind them is asked for; `None` where it is asked for nothing.
+fn looking_asked<'a>(
     alloc: Global,
     name: &str,
     matches: &ArgMatches<'a>,
@@ -595,7 +607,7 @@ fn file_asked<'a>(
     if name == "find" {
         return Ok(find_asked(matches));
     }
-    apart_asked(alloc, name, matches)
+    telling_asked(alloc, name, matches)
 }
 
 /// What a subcommand is asked for; `None` where it is asked for nothing.
@@ -615,7 +627,7 @@ fn command_asked<'a>(
     if name == "check" {
         return check_asked(alloc, matches);
     }
-    file_asked(alloc, name, matches)
+    looking_asked(alloc, name, matches)
 }
 
 /// What the whole command line is asked for.

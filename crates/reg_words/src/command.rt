@@ -18,7 +18,7 @@ ghost use Rattle.reg_words.specs.CommandShapes.{delete_command as delete_shape, 
 ghost use Rattle.reg_words.specs.CommandShapes.{saving_commands as saved_shape, regtool as regtool_shape};
 ghost use Rattle.reg_words.specs.Internal.Commands.{IsRule, IsCommand, IsMade};
 
-use crate::making::Making;
+use crate::builder::CommandBuilder;
 use clap::{Arg, ArgAction, Command};
 use std::alloc::{AllocError, Global};
 
@@ -214,20 +214,25 @@ fn named<'a>(alloc: Global, name: &'a str, about: &'a str) -> Command<'a>
 }
 
 /// The same, to be added to.
-fn bare_command<'a>(alloc: Global, name: &'a str, about: &'a str) -> Making<'a>
+fn bare_command<'a>(alloc: Global, name: &'a str, about: &'a str) -> CommandBuilder<'a>
     ensures { IsMade (new_app name.now) result }
 {
-    Making::of(named(alloc, name, about))
+    CommandBuilder::of(named(alloc, name, about))
 }
 
 /// A command whose first argument is a file, which must be given.
-fn file_command<'a>(alloc: Global, name: &'a str, about: &'a str, help: &'a str) -> Making<'a>
+fn file_command<'a>(
+    alloc: Global,
+    name: &'a str,
+    about: &'a str,
+    help: &'a str,
+) -> CommandBuilder<'a>
     ensures { IsMade (with_rule (new_app name.now) (file_rule true)) result }
 {
     bare_command(alloc, name, about).arg(file_arg(alloc, true, help))
 }
 
-fn run_command<'a>(alloc: Global) -> Making<'a>
+fn run_command<'a>(alloc: Global) -> CommandBuilder<'a>
     ensures { IsMade run_shape result }
 {
     bare_command(
@@ -239,7 +244,7 @@ fn run_command<'a>(alloc: Global) -> Making<'a>
     .arg(workers_arg(alloc))
 }
 
-fn dump_command<'a>(alloc: Global) -> Making<'a>
+fn dump_command<'a>(alloc: Global) -> CommandBuilder<'a>
     ensures { IsMade dump_shape result }
 {
     bare_command(alloc, "dump", "Tells the keys of a hive")
@@ -247,7 +252,7 @@ fn dump_command<'a>(alloc: Global) -> Making<'a>
         .arg(dirty_arg(alloc))
 }
 
-fn check_command<'a>(alloc: Global) -> Making<'a>
+fn check_command<'a>(alloc: Global) -> CommandBuilder<'a>
     ensures { IsMade check_shape result }
 {
     bare_command(alloc, "check", "Loads hives and counts their keys")
@@ -257,14 +262,19 @@ fn check_command<'a>(alloc: Global) -> Making<'a>
 }
 
 /// A command that looks into a file, with its file.
-fn looking_command<'a>(alloc: Global, name: &'a str, about: &'a str) -> Making<'a>
+fn looking_command<'a>(alloc: Global, name: &'a str, about: &'a str) -> CommandBuilder<'a>
     ensures { IsMade (looking_shape name.now) result }
 {
     file_command(alloc, name, about, "The hive").arg(dirty_arg(alloc))
 }
 
 /// A command that looks for a key of a file, by its path.
-fn keyed_command<'a>(alloc: Global, name: &'a str, about: &'a str, is_required: bool) -> Making<'a>
+fn keyed_command<'a>(
+    alloc: Global,
+    name: &'a str,
+    about: &'a str,
+    is_required: bool,
+) -> CommandBuilder<'a>
     ensures { IsMade (keyed_shape name.now is_required) result }
 {
     looking_command(alloc, name, about)
@@ -273,7 +283,7 @@ fn keyed_command<'a>(alloc: Global, name: &'a str, about: &'a str, is_required: 
 }
 
 /// `ls`, without what it tells beside names.
-fn listing_command<'a>(alloc: Global) -> Making<'a>
+fn listing_command<'a>(alloc: Global) -> CommandBuilder<'a>
     ensures { IsMade listing_shape result }
 {
     keyed_command(alloc, "ls", "Lists the values and subkeys of a key", false)
@@ -281,7 +291,7 @@ fn listing_command<'a>(alloc: Global) -> Making<'a>
         .arg(flag_arg(alloc, "whole", "Test the whole hive first"))
 }
 
-fn list_command<'a>(alloc: Global) -> Making<'a>
+fn list_command<'a>(alloc: Global) -> CommandBuilder<'a>
     ensures { IsMade list_shape result }
 {
     listing_command(alloc)
@@ -291,7 +301,7 @@ fn list_command<'a>(alloc: Global) -> Making<'a>
         .arg(flag_arg(alloc, "null", "End each line by a zero"))
 }
 
-fn get_command<'a>(alloc: Global) -> Making<'a>
+fn get_command<'a>(alloc: Global) -> CommandBuilder<'a>
     ensures { IsMade get_shape result }
 {
     keyed_command(alloc, "get", "Tells the data of a value", true)
@@ -311,7 +321,7 @@ fn get_command<'a>(alloc: Global) -> Making<'a>
         .arg(flag_arg(alloc, "whole", "Test the whole hive first"))
 }
 
-fn new_command<'a>(alloc: Global) -> Making<'a>
+fn new_command<'a>(alloc: Global) -> CommandBuilder<'a>
     ensures { IsMade new_shape result }
 {
     file_command(
@@ -329,7 +339,7 @@ fn new_command<'a>(alloc: Global) -> Making<'a>
 }
 
 /// Adds the options of a command that saves a file.
-fn with_saving_options<'a>(alloc: Global, command: Making<'a>) -> Making<'a>
+fn with_saving_options<'a>(alloc: Global, command: CommandBuilder<'a>) -> CommandBuilder<'a>
     ensures { (app : App) → IsMade app command.entry → IsMade (saving_rules app) result }
 {
     command
@@ -345,14 +355,14 @@ fn with_saving_options<'a>(alloc: Global, command: Making<'a>) -> Making<'a>
 }
 
 /// A command that saves a file, with all that edits and imports have in common.
-fn saving_command<'a>(alloc: Global, name: &'a str, about: &'a str) -> Making<'a>
+fn saving_command<'a>(alloc: Global, name: &'a str, about: &'a str) -> CommandBuilder<'a>
     ensures { IsMade (saving_shape name.now) result }
 {
     let command = file_command(alloc, name, about, "The hive, which is saved in place");
     with_saving_options(alloc, command)
 }
 
-fn edit_command<'a>(alloc: Global) -> Making<'a>
+fn edit_command<'a>(alloc: Global) -> CommandBuilder<'a>
     ensures { IsMade edit_shape result }
 {
     saving_command(
@@ -367,7 +377,7 @@ fn edit_command<'a>(alloc: Global) -> Making<'a>
     ))
 }
 
-fn import_command<'a>(alloc: Global) -> Making<'a>
+fn import_command<'a>(alloc: Global) -> CommandBuilder<'a>
     ensures { IsMade import_shape result }
 {
     saving_command(
@@ -395,7 +405,7 @@ fn import_command<'a>(alloc: Global) -> Making<'a>
     ))
 }
 
-fn find_command<'a>(alloc: Global) -> Making<'a>
+fn find_command<'a>(alloc: Global) -> CommandBuilder<'a>
     ensures { IsMade find_shape result }
 {
     looking_command(
@@ -414,7 +424,7 @@ fn find_command<'a>(alloc: Global) -> Making<'a>
 }
 
 /// `diff`, with the two files and the path.
-fn comparing_command<'a>(alloc: Global) -> Making<'a>
+fn comparing_command<'a>(alloc: Global) -> CommandBuilder<'a>
     ensures { IsMade comparing_shape result }
 {
     bare_command(alloc, "diff", "Tells what differs between two hives")
@@ -425,7 +435,7 @@ fn comparing_command<'a>(alloc: Global) -> Making<'a>
         .arg(slash_arg(alloc))
 }
 
-fn diff_command<'a>(alloc: Global) -> Making<'a>
+fn diff_command<'a>(alloc: Global) -> CommandBuilder<'a>
     ensures { IsMade diff_shape result }
 {
     comparing_command(alloc)
@@ -444,7 +454,7 @@ fn diff_command<'a>(alloc: Global) -> Making<'a>
         .arg(flag_arg(alloc, "utf8", "Write a .reg text in UTF-8"))
 }
 
-fn timeline_command<'a>(alloc: Global) -> Making<'a>
+fn timeline_command<'a>(alloc: Global) -> CommandBuilder<'a>
     ensures { IsMade timeline_shape result }
 {
     bare_command(
@@ -469,7 +479,7 @@ fn timeline_command<'a>(alloc: Global) -> Making<'a>
     ))
 }
 
-fn export_command<'a>(alloc: Global) -> Making<'a>
+fn export_command<'a>(alloc: Global) -> CommandBuilder<'a>
     ensures { IsMade export_shape result }
 {
     keyed_command(
@@ -494,21 +504,21 @@ fn export_command<'a>(alloc: Global) -> Making<'a>
 }
 
 /// A command that changes a key, with its file and its path.
-fn key_command<'a>(alloc: Global, name: &'a str, about: &'a str) -> Making<'a>
+fn key_command<'a>(alloc: Global, name: &'a str, about: &'a str) -> CommandBuilder<'a>
     ensures { IsMade (with_rule (saving_shape name.now) (place_rule (codes "path") true)) result }
 {
     saving_command(alloc, name, about).arg(path_arg(alloc, true))
 }
 
 /// A command that changes a key, with all that these have in common.
-fn changing_command<'a>(alloc: Global, name: &'a str, about: &'a str) -> Making<'a>
+fn changing_command<'a>(alloc: Global, name: &'a str, about: &'a str) -> CommandBuilder<'a>
     ensures { IsMade (changing_shape name.now) result }
 {
     key_command(alloc, name, about).arg(slash_arg(alloc))
 }
 
 /// `set` with its file, its path, and the value's name and type.
-fn typed_command<'a>(alloc: Global) -> Making<'a>
+fn typed_command<'a>(alloc: Global) -> CommandBuilder<'a>
     ensures { IsMade
         (with_rule (with_rule (changing_shape (codes "set")) (place_rule (codes "value") true)) (place_rule (codes "type") true)) result }
 {
@@ -529,7 +539,7 @@ fn typed_command<'a>(alloc: Global) -> Making<'a>
         ))
 }
 
-fn set_command<'a>(alloc: Global) -> Making<'a>
+fn set_command<'a>(alloc: Global) -> CommandBuilder<'a>
     ensures { IsMade set_shape result }
 {
     typed_command(alloc).arg(data_arg(alloc)).arg(flag_arg(
@@ -539,7 +549,7 @@ fn set_command<'a>(alloc: Global) -> Making<'a>
     ))
 }
 
-fn create_command<'a>(alloc: Global) -> Making<'a>
+fn create_command<'a>(alloc: Global) -> CommandBuilder<'a>
     ensures { IsMade create_shape result }
 {
     changing_command(alloc, "create", "Makes a key, and saves the hive").arg(flag_arg(
@@ -549,7 +559,7 @@ fn create_command<'a>(alloc: Global) -> Making<'a>
     ))
 }
 
-fn delete_command<'a>(alloc: Global) -> Making<'a>
+fn delete_command<'a>(alloc: Global) -> CommandBuilder<'a>
     ensures { IsMade delete_shape result }
 {
     changing_command(
@@ -568,7 +578,7 @@ fn delete_command<'a>(alloc: Global) -> Making<'a>
 }
 
 /// `copy`, without the options of a command that saves a file.
-fn copied_command<'a>(alloc: Global) -> Making<'a>
+fn copied_command<'a>(alloc: Global) -> CommandBuilder<'a>
     ensures { IsMade copied_shape result }
 {
     keyed_command(
@@ -593,14 +603,14 @@ fn copied_command<'a>(alloc: Global) -> Making<'a>
     ))
 }
 
-fn copy_command<'a>(alloc: Global) -> Making<'a>
+fn copy_command<'a>(alloc: Global) -> CommandBuilder<'a>
     ensures { IsMade copy_shape result }
 {
     let command = copied_command(alloc);
     with_saving_options(alloc, command)
 }
 
-fn completions_command<'a>(alloc: Global) -> Making<'a>
+fn completions_command<'a>(alloc: Global) -> CommandBuilder<'a>
     ensures { IsMade completions_shape result }
 {
     bare_command(alloc, "completions", "Writes the completions of a shell").arg(place_arg(
@@ -612,31 +622,31 @@ fn completions_command<'a>(alloc: Global) -> Making<'a>
     ))
 }
 
-fn manual_command<'a>(alloc: Global) -> Making<'a>
+fn manual_command<'a>(alloc: Global) -> CommandBuilder<'a>
     ensures { IsMade (new_app (codes "manual")) result }
 {
     bare_command(alloc, "manual", "Writes the manual page")
 }
 
-fn version_command<'a>(alloc: Global) -> Making<'a>
+fn version_command<'a>(alloc: Global) -> CommandBuilder<'a>
     ensures { IsMade (new_app (codes "version")) result }
 {
     bare_command(alloc, "version", "Tells the tool's version")
 }
 
 /// The commands that work on the standard streams.
-fn stream_commands<'a>(alloc: Global) -> Making<'a>
+fn stream_commands<'a>(alloc: Global) -> CommandBuilder<'a>
     ensures { IsMade stream_shape result }
 {
     let top = named(alloc, "regtool", "Answers registry calls on hives");
-    Making::of(top.subcommand_required(true))
+    CommandBuilder::of(top.subcommand_required(true))
         .subcommand(run_command(alloc))
         .subcommand(dump_command(alloc))
         .subcommand(check_command(alloc))
 }
 
 /// These with those that look into a file.
-fn query_commands<'a>(alloc: Global) -> Making<'a>
+fn query_commands<'a>(alloc: Global) -> CommandBuilder<'a>
     ensures { IsMade query_shape result }
 {
     stream_commands(alloc)
@@ -649,7 +659,7 @@ fn query_commands<'a>(alloc: Global) -> Making<'a>
 }
 
 /// These with those that make a file or save one, whatever is changed.
-fn saving_commands<'a>(alloc: Global) -> Making<'a>
+fn saving_commands<'a>(alloc: Global) -> CommandBuilder<'a>
     ensures { IsMade saved_shape result }
 {
     query_commands(alloc)
@@ -659,7 +669,7 @@ fn saving_commands<'a>(alloc: Global) -> Making<'a>
 }
 
 /// These with those that make one change.
-fn changing_commands<'a>(alloc: Global) -> Making<'a>
+fn changing_commands<'a>(alloc: Global) -> CommandBuilder<'a>
     ensures { IsMade changed_shape result }
 {
     saving_commands(alloc)
@@ -677,5 +687,5 @@ pub fn whole_command<'a>(alloc: Global) -> Result<Command<'a>, AllocError>
         .subcommand(manual_command(alloc))
         .subcommand(completions_command(alloc))
         .subcommand(version_command(alloc))
-        .whole()
+        .finish()
 }

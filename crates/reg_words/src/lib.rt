@@ -12,12 +12,12 @@
 #![tactic(auto)]
 
 mod asked;
+mod builder;
 mod changes;
 mod command;
 mod fault;
 mod fields;
 mod forms;
-mod making;
 mod moments;
 mod page;
 mod places;

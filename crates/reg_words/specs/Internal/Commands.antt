@@ -6,7 +6,7 @@ use Rattle.clap.specs.Words.{App, Rule, app_of, rule_of}
 use Rattle.clap.specs.declared.builder.command.Command.TheViews.{out-Command}
 use Rattle.clap.specs.declared.builder.arg.Arg.{Arg}
 use Rattle.clap.specs.declared.builder.command.Command.{Command}
-use Rattle.reg_words.specs.declared.making.Making.{Making}
+use Rattle.reg_words.specs.declared.builder.CommandBuilder.{CommandBuilder}
 use Rattle.reg_words.specs.declared.request.StreamRequest.{StreamRequest}
 use Rattle.reg_words.specs.declared.request.Request.{Request}
 use Rattle.reg_words.specs.declared.request.Request.TheVariants.{Stream}
@@ -21,8 +21,8 @@ pub record IsCommand (app : App) (command : Command) : Type 0 where
   pub app_is : app_of command ≡ app
   pub local : (out-Command command).has_globals ≡ false
 
--- that such a command is put together, if there was memory for it
-abbrev pub IsMade : App → Making → Type 0
+-- what is put together is such a command, unless memory was refused for a part of it
+abbrev pub IsMade : App → CommandBuilder → Type 0
 IsMade app making = IfOk making.made (IsCommand app)
 
 -- something of which this holds, or none, where it holds of none
@@ -40,33 +40,37 @@ abbrev pub stream_of : Request → Option StreamRequest
 stream_of (Stream stream) = Some stream
 stream_of request = None
 
--- a subcommand of another name than those that work on the standard streams
+-- a subcommand of another name than `run`, `dump` and `check`
 pub record IsNoStream (name : List ℕ) : Type 0 where
   pub no_run_word : name ≡ codes "run" → ⊥
   pub no_dump_word : name ≡ codes "dump" → ⊥
   pub no_check_word : name ≡ codes "check" → ⊥
 
--- and than those that look into one file
+-- and than `ls`, `get` and `find`
 pub record IsNoLook (name : List ℕ) : Type 0 where
   pub no_stream : IsNoStream name
   pub no_ls_word : name ≡ codes "ls" → ⊥
   pub no_get_word : name ≡ codes "get" → ⊥
   pub no_find_word : name ≡ codes "find" → ⊥
 
--- and than those that compare, export or tell times
+-- and than `diff`, `export` and `timeline`
 pub record IsNoQuery (name : List ℕ) : Type 0 where
   pub no_look : IsNoLook name
   pub no_diff_word : name ≡ codes "diff" → ⊥
   pub no_export_word : name ≡ codes "export" → ⊥
   pub no_timeline_word : name ≡ codes "timeline" → ⊥
 
--- and than all others that ask for something but a change
-pub record IsOther (name : List ℕ) : Type 0 where
+-- and than `new`, `edit`, `import` and `copy`
+pub record IsNoSave (name : List ℕ) : Type 0 where
   pub no_query : IsNoQuery name
   pub no_new_word : name ≡ codes "new" → ⊥
   pub no_edit_word : name ≡ codes "edit" → ⊥
   pub no_import_word : name ≡ codes "import" → ⊥
   pub no_copy_word : name ≡ codes "copy" → ⊥
+
+-- and than all others that ask for something but a change
+pub record IsOther (name : List ℕ) : Type 0 where
+  pub no_save : IsNoSave name
   pub no_manual_word : name ≡ codes "manual" → ⊥
   pub no_completions_word : name ≡ codes "completions" → ⊥
   pub no_version_word : name ≡ codes "version" → ⊥

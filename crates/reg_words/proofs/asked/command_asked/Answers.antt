@@ -18,8 +18,8 @@ returns-then-eq-3 c =
     IfOk-weaker c.check_asked.result _ _ (λ r h. named_so c.args.name.now (codes "check") (rows_of (found_of c.args.matches.now)) r is h)
     c.check_asked.ensures
 
-pub file_asked-requires : goal.file_asked-requires
-file_asked-requires c = record {
+pub looking_asked-requires : goal.looking_asked-requires
+looking_asked-requires c = record {
   no_run_word = λ e. search (rules, e);
   no_dump_word = λ e. search (rules, e);
   no_check_word = λ e. search (rules, e);

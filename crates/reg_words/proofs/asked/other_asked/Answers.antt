@@ -22,19 +22,11 @@ returns-then-eq-4 c =
     IfOk-weaker c.copy_asked.result _ _ (λ r h. named_so c.args.name.now (codes "copy") (rows_of (found_of c.args.matches.now)) r is h)
     c.copy_asked.ensures
 
-pub returns-then-eq-6 : goal.returns-then-eq-6
-returns-then-eq-6 c =
-    named_so c.args.name.now (codes "completions") (rows_of (found_of c.args.matches.now)) c.completions_asked.result (search rules)
-    c.completions_asked.ensures
-
-pub change_asked-requires : goal.change_asked-requires
-change_asked-requires c = record {
+pub text_asked-requires : goal.text_asked-requires
+text_asked-requires c = record {
   no_query = c.requires;
   no_new_word = λ e. search (rules, e);
   no_edit_word = λ e. search (rules, e);
   no_import_word = λ e. search (rules, e);
   no_copy_word = λ e. search (rules, e);
-  no_manual_word = λ e. search (rules, e);
-  no_completions_word = λ e. search (rules, e);
-  no_version_word = λ e. search (rules, e);
 }

@@ -12,4 +12,4 @@ returns c =
     let with_1 = c.subcommand.ensures _ _ c.changing_commands.ensures c.manual_command.ensures in
     let with_2 = c.subcommand-2.ensures _ _ with_1 c.completions_command.ensures in
     let with_3 = c.subcommand-3.ensures _ _ with_2 c.version_command.ensures in
-    subst (λ (r : Result Command AllocError). IfOk r (IsCommand regtool)) (sym c.whole.ensures) with_3
+    subst (λ (r : Result Command AllocError). IfOk r (IsCommand regtool)) (sym c.finish.ensures) with_3

@@ -49,50 +49,50 @@ fn with_made<'a>(
 }
 
 /// A command, unless memory was refused for a part of it. So whoever puts it together needn't ask after each part.
-pub struct Making<'a> {
+pub struct CommandBuilder<'a> {
     pub made: Result<Command<'a>, AllocError>,
 }
 
 // By hand, so that a step which takes one has no way of its own for each part of a command.
-impl<'a> Drop for Making<'a> {
+impl<'a> Drop for CommandBuilder<'a> {
     fn drop(self) {
-        let Making { made: _ } = self;
+        let CommandBuilder { made: _ } = self;
     }
 }
 
-impl<'a> Making<'a> {
+impl<'a> CommandBuilder<'a> {
     /// A command, to which nothing was added yet.
-    pub fn of(command: Command<'a>) -> Making<'a>
-        ensures { (app : App) → IsCommand app command.entry → IsMade app result }
+    pub fn of(command: Command<'a>) -> CommandBuilder<'a>
+        ensures { result.made ≡ Ok command.entry }
     {
-        Making { made: Ok(command) }
+        CommandBuilder { made: Ok(command) }
     }
 
     /// The command, if there was memory for all of it.
-    pub fn whole(self) -> Result<Command<'a>, AllocError>
+    pub fn finish(self) -> Result<Command<'a>, AllocError>
         ensures { result ≡ self.entry.made }
     {
-        let Making { made } = self;
+        let CommandBuilder { made } = self;
         made
     }
 
     /// The same with one argument more.
-    pub fn arg(self, arg: Arg<'a>) -> Making<'a>
+    pub fn arg(self, arg: Arg<'a>) -> CommandBuilder<'a>
         ensures { (app : App) → (rule : Rule) → IsMade app self.entry → IsRule rule arg.entry → IsMade (with_rule app rule) result }
     {
-        let Making { made } = self;
-        Making {
+        let CommandBuilder { made } = self;
+        CommandBuilder {
             made: with_arg(made, arg),
         }
     }
 
     /// The same with one subcommand more, which was made apart.
-    pub fn subcommand(self, other: Making<'a>) -> Making<'a>
+    pub fn subcommand(self, other: CommandBuilder<'a>) -> CommandBuilder<'a>
         ensures { (app sub : App) → IsMade app self.entry → IsMade sub other.entry → IsMade (with_subcommand app sub.top) result }
     {
-        let Making { made } = self;
-        Making {
-            made: with_subcommand_of(made, other.whole()),
+        let CommandBuilder { made } = self;
+        CommandBuilder {
+            made: with_subcommand_of(made, other.finish()),
         }
     }
 }

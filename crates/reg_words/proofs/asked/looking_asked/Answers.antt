@@ -2,7 +2,7 @@ use Rattle.std.proofs.Common.{◌≡◌, codes, rules}
 use Rattle.std.proofs.lemmas.Result.{IfOk-weaker}
 use Rattle.clap.specs.Words.{found_of, rows_of}
 use Rattle.reg_words.proofs.AskedNames.{named_so}
-use Rattle.reg_words.proofs.asked.file_asked.Goals as goal
+use Rattle.reg_words.proofs.asked.looking_asked.Goals as goal
 
 pub returns-then-eq : goal.returns-then-eq
 returns-then-eq c =
@@ -20,8 +20,8 @@ pub returns-then-eq-3 : goal.returns-then-eq-3
 returns-then-eq-3 c =
     named_so c.args.name.now (codes "find") (rows_of (found_of c.args.matches.now)) c.find_asked.result (search rules) c.find_asked.ensures
 
-pub apart_asked-requires : goal.apart_asked-requires
-apart_asked-requires c = record {
+pub telling_asked-requires : goal.telling_asked-requires
+telling_asked-requires c = record {
   no_stream = c.requires;
   no_ls_word = λ e. search (rules, e);
   no_get_word = λ e. search (rules, e);

@@ -2,7 +2,7 @@ use Rattle.std.proofs.Common.{◌≡◌, codes, rules}
 use Rattle.std.proofs.lemmas.Result.{IfOk-weaker}
 use Rattle.clap.specs.Words.{found_of, rows_of}
 use Rattle.reg_words.proofs.AskedNames.{named_so}
-use Rattle.reg_words.proofs.asked.apart_asked.Goals as goal
+use Rattle.reg_words.proofs.asked.telling_asked.Goals as goal
 
 pub returns-then-eq : goal.returns-then-eq
 returns-then-eq c =
