@@ -1,6 +1,7 @@
 //! Times calls of the library for C, beside the same on plain maps and beside the same library at another size.
 //!
 //!     bench_calls maps|sizes|watches     of each row of a subject: how many visits took how many nanoseconds, on both sides
+//!     bench_calls tree|cut|rounds        of hives alone: what memory they have is looked at from outside, at the lines that are printed
 //!     bench_calls --small                of all rows, with six keys and visits at most: how many entries both sides have then
 //!
 //! A row is a step on the keys of a place. Both sides make the calls of 100 visits by turns, in one process; they are made ready before the
@@ -40,6 +41,9 @@ const FEW: u32 = 16;
 /// How many bytes a value has where nothing else is said, and how many it may have.
 const SIZE: usize = 24;
 const LARGEST: usize = DATA_LIMIT as usize;
+
+/// How many bytes an image has before its bins.
+const BASE_BLOCK: usize = 4_096;
 
 /// How many sessions watch.
 const SESSIONS: u8 = 64;
@@ -639,13 +643,112 @@ fn with_watches() -> Vec<Row> {
     ]
 }
 
+// ---- Hives alone
+
+fn must(status: u32) -> Result<(), String> {
+    match status {
+        SUCCESS => Ok(()),
+        _ => Err(format!("a call is answered {status}")),
+    }
+}
+
+impl Hive {
+    /// Opens the root. Answers the handle.
+    fn root(&mut self) -> Result<u64, String> {
+        self.change(0, open_root())
+    }
+
+    /// Begins the journal anew. Answers how many entries it had.
+    fn cut(&mut self) -> Result<u64, String> {
+        let mut cut = 0;
+        // SAFETY: as in `apply`.
+        must(unsafe { ffi::zug_hive_cut(&mut self.words, &mut cut) })?;
+        Ok(cut)
+    }
+
+    /// The hive's image.
+    fn image(&mut self) -> Result<Vec<u8>, String> {
+        let (mut size, mut entries) = (0, 0);
+        // SAFETY: as in `apply`.
+        must(unsafe { ffi::zug_image_size(&mut self.words, &mut size, &mut entries) })?;
+        let mut image = vec![0; size as usize];
+        // SAFETY: as in `apply`.
+        must(unsafe { ffi::zug_image_part(&mut self.words, MOMENT, 1, entries, 0, image.as_mut_ptr(), image.len()) })?;
+        Ok(image)
+    }
+
+    /// Sets a value of the root so many times, by a handle that is closed then.
+    fn set_often(&mut self, changes: u32) -> Result<(), String> {
+        let root = self.root()?;
+        let set = set(root, 0, 4);
+        for _ in 0..changes {
+            must(self.apply(0, &set))?;
+        }
+        must(self.apply(0, &Change::Close { handle: root }))
+    }
+
+    /// Makes keys of so many numbers below a parent of its own, with a value of less data than a page has.
+    fn make_keys(&mut self, parent: u32) -> Result<(), String> {
+        let root = self.root()?;
+        for key in 0..EACH {
+            let path = format!("{}\\{}", key_name(parent), key_name(key));
+            let key = self.change(0, create(root, path, Vec::new()))?;
+            must(self.apply(0, &set(key, 0, 1_000)))?;
+            must(self.apply(0, &Change::Close { handle: key }))?;
+        }
+        must(self.apply(0, &Change::Close { handle: root }))
+    }
+}
+
+/// Makes a hive of keys with a value each, whose journal begins anew behind each parent, and tells how many bytes its bins have.
+fn fill_tree(parents: u32) -> Result<(), String> {
+    let mut hive = Hive::new()?;
+    for parent in 0..parents {
+        hive.make_keys(parent)?;
+        hive.cut()?;
+    }
+    println!("tree of {} keys: {} bytes of bins", parents * EACH, hive.image()?.len() - BASE_BLOCK);
+    Ok(())
+}
+
+/// Cuts a hive's journal behind one change, and behind many.
+fn cut_behind(changes: u32) -> Result<(), String> {
+    let mut hive = Hive::new()?;
+    for changes in [1, changes] {
+        hive.set_often(changes)?;
+        println!("cut behind {changes} changes: {} entries", hive.cut()?);
+    }
+    Ok(())
+}
+
+/// Makes rounds of changes, behind each of which the image is taken and the journal cut.
+fn make_rounds(rounds: u32, changes: u32) -> Result<(), String> {
+    let mut hive = Hive::new()?;
+    for round in 0..rounds {
+        hive.set_often(changes)?;
+        let size = hive.image()?.len();
+        println!("round {round}: {} entries, an image of {size} bytes", hive.cut()?);
+    }
+    Ok(())
+}
+
+/// What `--small` does with hives alone.
+fn check_hives() -> Result<(), String> {
+    fill_tree(2)?;
+    cut_behind(SMALL)?;
+    make_rounds(2, SMALL)
+}
+
 fn run(word: &str) -> Result<(), String> {
     match word {
+        "tree" => fill_tree(720),
+        "cut" => cut_behind(1_000_000),
+        "rounds" => make_rounds(100, 200_000),
         "maps" => beside_maps().into_iter().try_for_each(Row::measure),
         "sizes" => at_two_sizes().into_iter().try_for_each(Row::measure),
         "watches" => with_watches().into_iter().try_for_each(Row::measure),
-        "--small" => [beside_maps(), at_two_sizes(), with_watches()].into_iter().flatten().try_for_each(Row::check),
-        _ => Err("the words are: maps, sizes, watches, --small".to_string()),
+        "--small" => [beside_maps(), at_two_sizes(), with_watches()].into_iter().flatten().try_for_each(Row::check).and_then(|()| check_hives()),
+        _ => Err("the words are: maps, sizes, watches, tree, cut, rounds, --small".to_string()),
     }
 }
 

@@ -2,20 +2,23 @@
 
 What stands on one another is proved one after another, so the longest such chain tells when the build can end. Its next crate may have
 several jobs, as many as the kit allows it, and so may one of a chain that is nearly as long. The others, side by side, get one each, which
-is the cheapest. One `rt ci` for all can't do so: it gives each check one job, or else counts up to four times the memory that a check
-takes, and leaves processors idle.
+is the cheapest, and of the processors what these leave. One `rt ci` for all can't do so: it gives each check one job, or else counts up to
+four times the memory that a check takes, and leaves processors idle.
 """
 import os
 import signal
 import subprocess
 import tempfile
 import time
+from contextlib import suppress
 from glob import glob
 
 from repository import Failed, below, crates, folder_of
 
 # A chain with so much of the longest one's lines is nearly as long.
-NEAR = 0.9
+NEAR = 0.8
+# How nice a check is that isn't on the longest chain.
+BEHIND = "10"
 PAUSE = 0.1
 KEPT = "passed, and that is kept."
 
@@ -43,6 +46,12 @@ def with_jobs(checks):
     return given if checks is None else {**given, "RT_JOBS": str(checks)}
 
 
+def let_pass(session):
+    """Puts a session behind others, where Linux shares processors out among sessions: there `nice` tells within one alone."""
+    with suppress(OSError), open(f"/proc/{session}/autogroup", "w", encoding="utf-8") as share:
+        share.write(BEHIND)
+
+
 class Check:
     """A `rt ci` of one crate in a room, at work."""
 
@@ -50,7 +59,10 @@ class Check:
         self.crate, self.said = crate, tempfile.TemporaryFile("w+", encoding="utf-8", errors="replace")
         # In a session of its own, so that Ctrl-C reaches this program alone.
         how = {"cwd": room, "env": with_jobs(None if has_jobs else 1), "stdin": subprocess.DEVNULL, "stdout": self.said, "stderr": subprocess.STDOUT}
-        self.command = subprocess.Popen(["rt", "ci", crate], start_new_session=True, **how)
+        first = [] if has_jobs else ["nice", "-n", BEHIND]
+        self.command = subprocess.Popen([*first, "rt", "ci", crate], start_new_session=True, **how)
+        if not has_jobs:
+            let_pass(self.command.pid)
 
     def has_ended(self):
         return self.command.poll() is not None

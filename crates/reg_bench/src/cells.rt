@@ -1,11 +1,8 @@
-//! Carves and frees of an arena, and the memory of a tree.
+//! Carves and frees of an arena.
 
 use crate::calls::{Bench, Took};
-use anyhow::{Result, bail};
+use anyhow::Result;
 use reg_fixtures::LiveCells;
-use reg_names::{check_path, check_value_name};
-use reg_tree::Tree;
-use std::alloc::Global;
 use std::rt::Clock;
 use std::time::{Duration, Instant};
 
@@ -60,41 +57,4 @@ fn free_some<Rt: Clock>(bench: Bench<'_, Rt>, cells: &mut LiveCells, count: usiz
     let calls = cells.free_chosen() as u64;
     took.add(calls, start.elapsed(bench.rt)?);
     Ok(took)
-}
-
-/// Makes a tree of keys with a value each, and prints how many bytes its bins have. The system tells what memory the process then has.
-pub fn fill_tree<Rt: Print>(bench: Bench<'_, Rt>) -> Result<()> {
-    let Ok(mut tree) = Tree::new(bench.alloc, b"ROOT", &[1], 0) else {
-        bail!("there is no memory for a tree");
-    };
-    fill(bench, &mut tree, if bench.is_small { 12 } else { 180_000 })
-}
-
-fn fill<Rt: Print>(bench: Bench<'_, Rt>, tree: &mut Tree, keys: u32) -> Result<()> {
-    for key in 0..keys {
-        let path = format!(in bench.alloc; "Key{}\\Key{}", key / 200, key % 200)?;
-        make(bench.alloc, tree, path.as_bytes())?;
-    }
-    let bins = tree.arena().bins_size();
-    println!(bench.rt; "tree of {keys} keys: {bins} bytes of bins")?;
-    Ok(())
-}
-
-/// Makes a key, and its value with less data than a page has.
-fn make(alloc: Global, tree: &mut Tree, path: &[u8]) -> Result<()> {
-    let name = b"Value".as_slice();
-    let (Ok(()), Ok(())) = (check_path(path), check_value_name(name)) else {
-        bail!("that is no path, or no name");
-    };
-    let root = tree.root();
-    let Ok(_) = tree.create(alloc, root, path, None, 1) else {
-        bail!("a key was not made");
-    };
-    let Some(node) = tree.resolve(tree.root(), path) else {
-        bail!("a key is missing");
-    };
-    let Ok(()) = tree.set_value(alloc, node, name, 3, &[7; 1_000], 2) else {
-        bail!("a value was not set");
-    };
-    Ok(())
 }

@@ -1,9 +1,9 @@
-//! Measures what only a caller of the libraries can: cells, a tree's memory, calls that callbacks are asked of, calls and notices of
-//! sessions, and what changes leave of memory. tools/bench runs it, and makes means, rates and ratios of the numbers that it prints.
+//! Measures what only a caller of the libraries can: cells, calls that callbacks are asked of, calls and notices of sessions, and what
+//! changes leave of memory in one. tools/bench runs it, and makes means, rates and ratios of the numbers that it prints.
 //!
 //! The words `arena`, `callbacks` and `sessions` take times: of each row how many calls were accepted in how many nanoseconds, on both
-//! sides. `tree`, `session`, `cut` and `rounds` make something large, of which the system tells the memory. Without a word all is done
-//! with a few keys and calls, and counts are printed alone, which are the same on every run.
+//! sides. `session` makes a session of many changes, of which the system tells the memory. Without a word all is done with a few keys and
+//! calls, and counts are printed alone, which are the same on every run.
 //!
 //! The calls are on one value, by sessions ([`seats`], [`crew`]) or on a hive without a lock ([`callbacks`]). Who makes a hive or an arena
 //! lends it once and does nothing else, so that all is soon checked.
@@ -18,7 +18,6 @@ mod notices;
 mod seats;
 
 use crate::calls::Bench;
-use crate::memory::End;
 use anyhow::{Result, bail};
 use reg_fixtures::PlainHive;
 use std::env;
@@ -27,14 +26,11 @@ use std::sync::Wait;
 use std::thread::Threads;
 
 /// All that is done.
-const WORDS: &str = "tree session cut rounds arena callbacks sessions";
+const WORDS: &str = "session arena callbacks sessions";
 
 fn run<Rt: Print + Clock + Threads + Wait + Sync>(bench: Bench<'_, Rt>, what: &str) -> Result<()> {
     match what {
-        "tree" => cells::fill_tree(bench),
         "session" => memory::fill_session(bench),
-        "cut" => memory::run(bench, End::Cut),
-        "rounds" => memory::run(bench, End::Checkpoint),
         "arena" => cells::run(bench),
         "callbacks" => callbacks::run(bench),
         "sessions" => {

@@ -72,6 +72,31 @@ pub struct Conditions {
     pub is_front: bool,
 }
 
+/// What the system refuses, by a word alone.
+const REFUSED: [(&str, Refused); 11] = [
+    ("nothing", Refused::Nothing),
+    ("clock", Refused::Clock),
+    ("create", Refused::Create),
+    ("permit", Refused::Permit),
+    ("owner", Refused::Owner),
+    ("group", Refused::Group),
+    ("sync", Refused::Sync),
+    ("rename", Refused::Rename),
+    ("unlocked", Refused::Unlocked),
+    ("folder", Refused::Folder),
+    ("lock", Refused::Lock),
+];
+
+/// How a call of a device fails, by a word.
+const FAILING: [(&str, Failing); 6] = [
+    ("nothing", Failing::Nothing),
+    ("broken", Failing::Broken),
+    ("closed", Failing::Closed),
+    ("full", Failing::Full),
+    ("interrupted", Failing::Interrupted),
+    ("flush", Failing::Flush),
+];
+
 impl Habits {
     /// A device that gives or takes all at once.
     const WIDE: Habits = Habits {
@@ -80,6 +105,18 @@ impl Habits {
         call: 0,
         failing: Failing::Nothing,
     };
+
+    /// The same with room for so many bytes in all, and how a call fails past them.
+    fn with_room(self, words: &[&str]) -> Option<Habits> {
+        let [room, how] = words else {
+            return None;
+        };
+        Some(Habits {
+            room: number_in(room)?,
+            failing: named(&FAILING, how)?,
+            ..self
+        })
+    }
 }
 
 impl Conditions {
@@ -95,15 +132,21 @@ impl Conditions {
 
     /// Takes in what the words of a line say; `None` where they are no condition.
     pub fn add(&mut self, words: &[&str]) -> Option<()> {
+        let (what, rest) = words.split_first()?;
+        match *what {
+            "refused" => self.refused = refused_in(rest)?,
+            "clock" => self.clock = Some(clock_in(rest)?),
+            "reads" => self.reads = habits_in(rest)?,
+            "writes" => self.writes = habits_in(rest)?,
+            "takes" => self.writes = self.writes.with_room(rest)?,
+            _ => self.add_manner(words)?,
+        }
+        Some(())
+    }
+
+    /// Takes in how input comes, or what of the output is wanted.
+    fn add_manner(&mut self, words: &[&str]) -> Option<()> {
         match words {
-            ["refused", what @ ..] => self.refused = refused_in(what)?,
-            ["clock", second] => self.clock = Some(second.parse::<u64>().ok()?),
-            ["reads", rest @ ..] => self.reads = habits_in(rest)?,
-            ["writes", rest @ ..] => self.writes = habits_in(rest)?,
-            ["takes", room, how] => {
-                self.writes.room = number_in(room)?;
-                self.writes.failing = failing_in(how)?;
-            }
             ["in", "turns"] => self.in_turns = true,
             ["front"] => self.is_front = true,
             _ => return None,
@@ -117,37 +160,32 @@ fn number_in(word: &str) -> Option<usize> {
     word.parse::<usize>().ok()
 }
 
-/// What words say that the system refuses.
-fn refused_in(words: &[&str]) -> Option<Refused> {
-    Some(match words {
-        ["nothing"] => Refused::Nothing,
-        ["clock"] => Refused::Clock,
-        ["create"] => Refused::Create,
-        ["permit"] => Refused::Permit,
-        ["owner"] => Refused::Owner,
-        ["group"] => Refused::Group,
-        ["write", past] => Refused::Write(number_in(past)?),
-        ["sync"] => Refused::Sync,
-        ["rename"] => Refused::Rename,
-        ["unlocked"] => Refused::Unlocked,
-        ["folder"] => Refused::Folder,
-        ["read", past] => Refused::Read(number_in(past)?),
-        ["lock"] => Refused::Lock,
-        _ => return None,
-    })
+/// The second at which a clock stands.
+fn clock_in(words: &[&str]) -> Option<u64> {
+    match words {
+        [second] => second.parse::<u64>().ok(),
+        _ => None,
+    }
 }
 
-/// How a call fails, by a word.
-fn failing_in(word: &str) -> Option<Failing> {
-    Some(match word {
-        "nothing" => Failing::Nothing,
-        "broken" => Failing::Broken,
-        "closed" => Failing::Closed,
-        "full" => Failing::Full,
-        "interrupted" => Failing::Interrupted,
-        "flush" => Failing::Flush,
-        _ => return None,
-    })
+/// What words say that the system refuses.
+fn refused_in(words: &[&str]) -> Option<Refused> {
+    match words {
+        [word] => named(&REFUSED, word),
+        ["write", past] => Some(Refused::Write(number_in(past)?)),
+        ["read", past] => Some(Refused::Read(number_in(past)?)),
+        _ => None,
+    }
+}
+
+/// What a word names in a table.
+fn named<T: Copy>(table: &[(&str, T)], word: &str) -> Option<T> {
+    for (name, what) in table {
+        if *name == word {
+            return Some(*what);
+        }
+    }
+    None
 }
 
 /// How a device works, by words: how many bytes a call, and which call fails, if one does, and how.
@@ -158,11 +196,11 @@ fn habits_in(words: &[&str]) -> Option<Habits> {
         [step, "call", call, how] => {
             habits.step = number_in(step)?;
             habits.call = number_in(call)?;
-            habits.failing = failing_in(how)?;
+            habits.failing = named(&FAILING, how)?;
         }
         [step, "end", how] => {
             habits.step = number_in(step)?;
-            habits.failing = failing_in(how)?;
+            habits.failing = named(&FAILING, how)?;
         }
         _ => return None,
     }

@@ -18,11 +18,12 @@ use reg_model::statuses::{
     ACCESS_DENIED, FILE_NOT_FOUND, INVALID_HANDLE, INVALID_PARAMETER, KEY_DELETED,
     NO_SYSTEM_RESOURCES, NOT_ENOUGH_MEMORY,
 };
-use reg_script::FailedLine;
+use reg_script::{FailedLine, ScriptFault};
 use reg_text::{Sink, write_escaped};
 use reg_tree_image::{FaultPlace, LoadFault};
 use reg_words::EditRequest;
 use std::alloc::{AllocError, Global};
+use std::fmt::Display;
 use std::slice::from_ref;
 
 /// How standard input is named.
@@ -104,45 +105,72 @@ fn lines_text(
     Ok(text)
 }
 
+/// What is told, behind what it is of.
+fn told_of<T: Display>(alloc: Global, what: &str, told: &T) -> Result<String, AllocError> {
+    format!(in alloc; "{what}: {told}")
+}
+
+/// The same of a file or an input.
+fn told_of_file<T: Display>(
+    alloc: Global,
+    what: &str,
+    file: &str,
+    told: &T,
+) -> Result<String, AllocError> {
+    format!(in alloc; "{what} {file}: {told}")
+}
+
+/// What is reported where an image doesn't load.
+fn load_text(alloc: Global, file: &str, fault: LoadFault) -> Result<String, AllocError> {
+    let number = fault.number();
+    format!(in alloc; "1009 load {number} {file}: {fault}")
+}
+
+/// What is reported where a script ends early.
+fn script_text(alloc: Global, fault: &ScriptFault) -> Result<String, AllocError> {
+    let number = fault.number();
+    format!(in alloc; "script {number}: {fault}")
+}
+
+/// What is reported where a change is refused.
+fn no_change_text(alloc: Global, file: &str, status: u32) -> Result<String, AllocError> {
+    let name = status_name(status);
+    format!(in alloc; "change {file}: refused with status {status}{name}")
+}
+
+/// What is reported where the entry of a line is refused.
+fn refused_text(alloc: Global, input: &str, line: u64, status: u32) -> Result<String, AllocError> {
+    let name = status_name(status);
+    format!(in alloc; "line {line} of {input}: refused with status {status}{name}")
+}
+
 /// What is reported of what ended a command on a file, which read an input, without its `error`.
 fn fault_text(alloc: Global, file: &str, input: &str, fault: &Fault) -> Result<String, AllocError> {
     match fault {
-        Fault::Load(LoadFault::Memory) | Fault::Memory => format!(in alloc; "8"),
+        Fault::Load(LoadFault::Memory) | Fault::Memory => "8".to_string(alloc),
         Fault::Busy => format!(in alloc; "busy {file}"),
-        Fault::NoFile => format!(in alloc; "file {file}: {fault}"),
-        Fault::Name | Fault::NoPath | Fault::NoName => format!(in alloc; "name {file}: {fault}"),
+        Fault::NoFile => told_of_file(alloc, "file", file, fault),
+        Fault::Name | Fault::NoPath | Fault::NoName => told_of_file(alloc, "name", file, fault),
         Fault::Step { step, error } => format!(in alloc; "{step} {file}: {error}"),
-        Fault::Load(fault) => {
-            let number = fault.number();
-            format!(in alloc; "1009 load {number} {file}: {fault}")
-        }
-        Fault::Rebuild(_) => format!(in alloc; "rebuild {file}: {fault}"),
-        Fault::Script(fault) => {
-            let number = fault.number();
-            format!(in alloc; "script {number}: {fault}")
-        }
+        Fault::Load(fault) => load_text(alloc, file, *fault),
+        Fault::Rebuild(_) => told_of_file(alloc, "rebuild", file, fault),
+        Fault::Script(fault) => script_text(alloc, fault),
         Fault::Line(line) => failed_line_text(alloc, input, line),
         Fault::Failed(count) => format!(in alloc; "lines of {input} that failed: {count}"),
         Fault::NoKey | Fault::NoValue | Fault::NoParent | Fault::NoCopy(CopyFault::NoPlace) => {
-            format!(in alloc; "missing {file}: {fault}")
+            told_of_file(alloc, "missing", file, fault)
         }
         Fault::TooLong | Fault::HasSubkeys | Fault::IsRoot | Fault::NoCopy(_) => {
-            format!(in alloc; "change {file}: {fault}")
+            told_of_file(alloc, "change", file, fault)
         }
-        Fault::NoChange { status } => {
-            let name = status_name(*status);
-            format!(in alloc; "change {file}: refused with status {status}{name}")
-        }
-        Fault::Front => format!(in alloc; "prefix: {fault}"),
+        Fault::NoChange { status } => no_change_text(alloc, file, *status),
+        Fault::Front => told_of(alloc, "prefix", fault),
         Fault::LineBreak(key) => line_break_text(alloc, file, key.as_slice()),
-        Fault::Input(error) => format!(in alloc; "read {input}: {error}"),
-        Fault::Text(fault) => format!(in alloc; "{input}: {fault}"),
+        Fault::Input(error) => told_of_file(alloc, "read", input, error),
+        Fault::Text(fault) => told_of(alloc, input, fault),
         Fault::Lines { bad, is_front } => lines_text(alloc, input, bad, *is_front),
-        Fault::Refused { line, status } => {
-            let name = status_name(*status);
-            format!(in alloc; "line {line} of {input}: refused with status {status}{name}")
-        }
-        Fault::Pattern(fault) => format!(in alloc; "pattern: {fault}"),
+        Fault::Refused { line, status } => refused_text(alloc, input, *line, *status),
+        Fault::Pattern(fault) => told_of(alloc, "pattern", fault),
         Fault::Cut(written) => format!(in alloc; "1013 written {written}"),
     }
 }

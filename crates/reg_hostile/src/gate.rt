@@ -4,6 +4,7 @@ use crate::hives::scripted;
 use crate::rows::run_rows;
 use crate::seeds::{RECORDS_END, SCRIPTS, every_record};
 use crate::sweeps::{all_bits, fronts, readers, sealed_bits, some_bits};
+use crate::verdicts::Tally;
 use crate::ways::{same_bits, sizes_by_ways};
 use anyhow::Result;
 use reg_fixtures::PlainHive;
@@ -21,47 +22,47 @@ const STRIDE: usize = 37;
 /// How many seeds are tried.
 const SEEDS: u64 = 20_000;
 
-/// Fronts and bits of the image of a fresh hive.
-fn sweep_fresh(rt: &impl Print, alloc: Global) -> Result<()> {
-    let mut image = scripted::<PlainHive>(alloc, b"")?;
-    let len = image.len();
-    println!(rt; "fresh hive, fronts: {}", fronts(alloc, &image)?)?;
-    println!(rt;
-        "fresh hive, bits: {}",
-        all_bits(alloc, &mut image, 0, len)?
-    )?;
-    println!(rt;
-        "fresh hive, bits with a checksum: {}",
-        sealed_bits(alloc, &mut image)?
-    )?;
+/// Prints verdicts.
+fn tell(rt: &impl Print, what: &str, tally: Tally) -> Result<()> {
+    println!(rt; "{what}: {tally}")?;
     Ok(())
 }
 
-/// Fronts and bits of the image with every record.
-fn sweep_records(rt: &impl Print, alloc: Global) -> Result<()> {
-    let mut image = every_record(alloc)?;
-    println!(rt; "every record, fronts: {}", fronts(alloc, &image)?)?;
-    println!(rt;
-        "every record, bits of records: {}",
-        all_bits(alloc, &mut image, 4096, RECORDS_END)?
+/// Fronts and bits of the image of a fresh hive, which is then as before.
+fn sweep_fresh(rt: &impl Print, alloc: Global, image: &mut [u8]) -> Result<()> {
+    let len = image.len();
+    tell(rt, "fresh hive, fronts", fronts(alloc, image)?)?;
+    tell(rt, "fresh hive, bits", all_bits(alloc, image, 0, len)?)?;
+    tell(
+        rt,
+        "fresh hive, bits with a checksum",
+        sealed_bits(alloc, image)?,
+    )
+}
+
+/// Fronts and bits of the image with every record, which is then as before.
+fn sweep_records(rt: &impl Print, alloc: Global, image: &mut [u8]) -> Result<()> {
+    tell(rt, "every record, fronts", fronts(alloc, image)?)?;
+    tell(
+        rt,
+        "every record, bits of records",
+        all_bits(alloc, image, 4096, RECORDS_END)?,
     )?;
-    println!(rt;
-        "every record, bits: {}",
-        some_bits(alloc, &mut image, BITS)?
-    )?;
-    Ok(())
+    tell(rt, "every record, bits", some_bits(alloc, image, BITS)?)
+}
+
+/// Of how many bits of the records of an image of ours the same is told by either way.
+fn same_of_own(alloc: Global) -> Result<usize> {
+    let mut image = scripted::<PlainHive>(alloc, SCRIPTS[0].as_bytes())?;
+    same_bits::<PlainHive>(alloc, &mut image, 4096, 4096 + OWN_BYTES)
 }
 
 /// Images of ours by either way, their bins taken as they stand or built anew, with bits of their records turned over.
 fn sweep_own(rt: &impl Print, alloc: Global) -> Result<()> {
     let (taken, anew) = sizes_by_ways::<PlainHive>(alloc)?;
     println!(rt; "bins with free cells: {taken} bytes taken, {anew} built anew")?;
-    let mut image = scripted::<PlainHive>(alloc, SCRIPTS[0].as_bytes())?;
-    let same = same_bits::<PlainHive>(alloc, &mut image, 4096, 4096 + OWN_BYTES)?;
-    println!(rt;
-        "own records, bits: {same} of {} as built anew",
-        OWN_BYTES * 8
-    )?;
+    let (same, bits) = (same_of_own(alloc)?, OWN_BYTES * 8);
+    println!(rt; "own records, bits: {same} of {bits} as built anew")?;
     Ok(())
 }
 
@@ -80,30 +81,34 @@ fn fail_readers(
         ("give one byte a call and fail", 1, true),
         ("give all and fail", usize::MAX, true),
     ] {
-        println!(rt;
-            "readers of {of} that {what}: {}",
-            readers(alloc, image, stride, step, fails)?
-        )?;
+        let tally = readers(alloc, image, stride, step, fails)?;
+        println!(rt; "readers of {of} that {what}: {tally}")?;
     }
     Ok(())
 }
 
-/// Readers of a fresh hive's image, at each place, and of the image with every record.
-fn fail_all_readers(rt: &impl Print, alloc: Global) -> Result<()> {
-    let fresh = scripted::<PlainHive>(alloc, b"")?;
-    fail_readers(rt, alloc, "a fresh hive", &fresh, 1)?;
-    let image = every_record(alloc)?;
-    fail_readers(rt, alloc, "every record", &image, STRIDE)
+/// Images and scripts at random.
+fn try_seeds(rt: &impl Print, alloc: Global) -> Result<()> {
+    let (of_images, of_scripts) = fuzz::<PlainHive>(alloc, 1, SEEDS)?;
+    println!(rt; "images of {SEEDS} seeds: {of_images}")?;
+    println!(rt; "scripts of {SEEDS} seeds: {of_scripts}")?;
+    Ok(())
+}
+
+/// What the gate runs with the image of a fresh hive and that with every record. Of the first a reader stops at each place.
+fn run_with(rt: &impl Print, alloc: Global, fresh: &mut [u8], records: &mut [u8]) -> Result<()> {
+    sweep_fresh(rt, alloc, fresh)?;
+    sweep_records(rt, alloc, records)?;
+    sweep_own(rt, alloc)?;
+    fail_readers(rt, alloc, "a fresh hive", fresh, 1)?;
+    fail_readers(rt, alloc, "every record", records, STRIDE)
 }
 
 /// Runs all that the gate runs.
 pub fn run(rt: &impl Print, alloc: Global) -> Result<()> {
-    sweep_fresh(rt, alloc)?;
-    sweep_records(rt, alloc)?;
-    sweep_own(rt, alloc)?;
-    fail_all_readers(rt, alloc)?;
-    let (of_images, of_scripts) = fuzz::<PlainHive>(alloc, 1, SEEDS)?;
-    println!(rt; "images of {SEEDS} seeds: {of_images}")?;
-    println!(rt; "scripts of {SEEDS} seeds: {of_scripts}")?;
+    let mut fresh = scripted::<PlainHive>(alloc, b"")?;
+    let mut records = every_record(alloc)?;
+    run_with(rt, alloc, &mut fresh, &mut records)?;
+    try_seeds(rt, alloc)?;
     run_rows::<PlainHive>(rt, alloc)
 }

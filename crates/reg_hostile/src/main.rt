@@ -38,14 +38,18 @@ fn print_fuzz(rt: &impl Print, alloc: Global, first: u64, count: u64) -> Result<
 /// Prints the verdicts on each bit of the image with every record.
 fn print_bits(rt: &impl Print, alloc: Global) -> Result<()> {
     let mut image = every_record(alloc)?;
-    println!(rt; "bits: {}", sweeps::all_bits(alloc, &mut image, 0, 24_576)?)?;
+    let tally = sweeps::all_bits(alloc, &mut image, 0, 24_576)?;
+    println!(rt; "bits: {tally}")?;
+    Ok(())
+}
+
+/// Prints of how many bits of the bins of an image of ours with every record the same is told by either way.
+fn print_own_bits(rt: &impl Print, alloc: Global) -> Result<()> {
     let mut own = ways::own_records(alloc)?;
     let len = own.len();
-    println!(rt;
-        "own bits: {} of {} as built anew",
-        ways::same_bits::<PlainHive>(alloc, &mut own, 4096, len)?,
-        len.saturating_sub(4096).saturating_mul(8)
-    )?;
+    let same = ways::same_bits::<PlainHive>(alloc, &mut own, 4096, len)?;
+    let bits = len.saturating_sub(4096).saturating_mul(8);
+    println!(rt; "own bits: {same} of {bits} as built anew")?;
     Ok(())
 }
 
@@ -53,7 +57,10 @@ fn print_bits(rt: &impl Print, alloc: Global) -> Result<()> {
 fn answer(rt: &impl Print, alloc: Global, words: &[&str]) -> Result<bool> {
     match words {
         [] => gate::run(rt, alloc)?,
-        ["bits"] => print_bits(rt, alloc)?,
+        ["bits"] => {
+            print_bits(rt, alloc)?;
+            print_own_bits(rt, alloc)?;
+        }
         ["rows"] => rows::run_rows::<PlainHive>(rt, alloc)?,
         ["fuzz", first, count] => {
             print_fuzz(rt, alloc, first.parse::<u64>()?, count.parse::<u64>()?)?;

@@ -10,7 +10,7 @@ use reg_calls::{Hive, SeatedHive};
 use reg_journal::Share;
 use reg_model::{Call, Change, Query};
 use reg_script::{Line, parse};
-use std::alloc::Global;
+use std::alloc::{AllocError, Global};
 use std::cell::Cell;
 use std::rc::Rc;
 use std::test::Fail;
@@ -330,6 +330,12 @@ fn open(hive: &mut Hive<Noting>, share: &mut Share) -> u32 {
         .status
 }
 
+/// What a QueryInfo by a share is answered.
+fn info(alloc: Global, hive: &Hive<Noting>, share: &Share) -> Result<String, AllocError> {
+    let answer = hive.read(share, &Query::QueryInfo { handle: 0 });
+    format!(in alloc; "{:?}", answer.body)
+}
+
 /// A call by the first share of a hive; then the cause of one by that share at another hive, such a call, and a question there; and one
 /// more call at its own hive. Last stand the rows of both hives' books, and which callback of the other hive was asked.
 fn strange(
@@ -340,17 +346,29 @@ fn strange(
 ) -> Result<String, Fail> {
     let mut shares = own.seat(1)?;
     let _seats = other.seat(1)?;
-    let Some(share) = shares.get_mut(0) else {
-        return Err("there is no share".into());
-    };
+    match shares.get_mut(0) {
+        Some(share) => told_by(alloc, own, other, share, asked),
+        None => Err("there is no share".into()),
+    }
+}
+
+/// The same by that share.
+fn told_by(
+    alloc: Global,
+    own: &mut Hive<Noting>,
+    other: &mut Hive<Noting>,
+    share: &mut Share,
+    asked: &Rc<Cell<u32>>,
+) -> Result<String, Fail> {
     let first = open(own, share);
     let cause = other.cause(share, 0, &Change::OpenRoot { mask: 983_103 });
     let status = open(other, share);
-    let body = other.read(share, &Query::QueryInfo { handle: 0 }).body;
+    let info = info(alloc, other, share)?;
     let last = open(own, share);
     let rows = (own.row(0), other.row(0));
     Ok(format!(in alloc;
-        "{first}, {cause:?} {status} {body:?}, {last}, {rows:?}, {} asked",
+        "{first}, {cause:?} {status} {}, {last}, {rows:?}, {} asked",
+        info.as_str(),
         asked.get()
     )?)
 }

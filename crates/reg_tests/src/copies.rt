@@ -4,9 +4,10 @@ use crate::support::{assert_report, hive};
 use reg_callbacks::NoCallback;
 use reg_calls::Hive;
 use reg_journal::Share;
-use reg_model::Step;
+use reg_model::{Outcome, Step};
 use reg_script::{Line, parse};
-use std::alloc::Global;
+use std::alloc::{AllocError, Global};
+use std::fmt::Debug;
 use std::test::Fail;
 
 /// A call of each kind; among them two questions more, of which one has too little room, and the other no handle.
@@ -101,15 +102,29 @@ fn step(alloc: Global, line: &str) -> Result<Step, Fail> {
     }
 }
 
-/// Copies of the steps, which it tells.
+/// Tells a copy.
+fn tell_copy<T: Debug + Drop>(copy: Result<T, AllocError>, text: &mut String) -> Result<(), Fail> {
+    write!(text, "{:?}\n", copy?)?;
+    Ok(())
+}
+
+/// The steps. It tells copies of them.
 fn steps(alloc: Global, text: &mut String) -> Result<Vec<Step>, Fail> {
     let mut steps = Vec::new(alloc);
     for line in CALLS.lines() {
-        let copy = step(alloc, line)?.try_clone(alloc)?;
-        write!(text, "{copy:?}\n")?;
-        steps.push(copy)?;
+        let step = step(alloc, line)?;
+        tell_copy(step.try_clone(alloc), text)?;
+        steps.push(step)?;
     }
     Ok(steps)
+}
+
+/// Tells copies of what steps are answered.
+fn tell_outcomes(alloc: Global, outcomes: &[Outcome], text: &mut String) -> Result<(), Fail> {
+    for outcome in outcomes {
+        tell_copy(outcome.try_clone(alloc), text)?;
+    }
+    Ok(())
 }
 
 /// Runs the steps on a hive, and tells copies of what they are answered and of the entries.
@@ -120,11 +135,9 @@ fn tell(
     text: &mut String,
 ) -> Result<(), Fail> {
     let steps = steps(alloc, text)?;
-    for outcome in hive.run(shares, steps)? {
-        write!(text, "{:?}\n", outcome.try_clone(alloc)?)?;
-    }
+    tell_outcomes(alloc, &hive.run(shares, steps)?, text)?;
     for entry in hive.entries() {
-        write!(text, "{:?}\n", entry.try_clone(alloc)?)?;
+        tell_copy(entry.try_clone(alloc), text)?;
     }
     Ok(())
 }

@@ -5,6 +5,7 @@ pub mod AskedNothing
 pub mod AskedNumbers
 pub mod AskedWords
 pub mod CommandLineRows
+pub mod CommandRows
 pub mod CommandShapes
 pub mod Digits
 pub mod EscapedWords

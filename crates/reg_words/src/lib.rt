@@ -15,6 +15,7 @@ mod asked;
 mod builder;
 mod changes;
 mod command;
+mod commands;
 mod fault;
 mod fields;
 mod forms;

@@ -5,7 +5,7 @@ ghost use Rattle.std.specs.Prelude.{◌≤◌};
 use crate::typed::KeyChange;
 
 /// A number of hives.
-#[derive(Clone, Copy, Debug, PartialEq, Eq)]
+#[derive(Clone, Copy)]
 pub struct HiveCount {
     /// From 1 to 16.
     pub number: u8,
@@ -14,7 +14,7 @@ pub struct HiveCount {
 }
 
 /// What is asked of standard input, and is answered on standard output.
-#[derive(Clone, Copy, Debug, PartialEq, Eq)]
+#[derive(Clone, Copy)]
 pub enum StreamRequest {
     /// The replies to a script.
     Run,
@@ -29,7 +29,7 @@ pub enum StreamRequest {
 }
 
 /// The moment at which an edit begins.
-#[derive(Clone, Copy, Debug, PartialEq, Eq)]
+#[derive(Clone, Copy)]
 pub enum Begin {
     /// That of the host's clock.
     Now,
@@ -38,7 +38,7 @@ pub enum Begin {
 }
 
 /// Where a pattern is searched for.
-#[derive(Clone, Copy, Debug, PartialEq, Eq)]
+#[derive(Clone, Copy)]
 pub struct Places {
     /// In the names of keys.
     pub keys: bool,
@@ -53,7 +53,7 @@ pub struct Places {
 }
 
 /// A form of text in which keys and values are written.
-#[derive(Clone, Copy, Debug, PartialEq, Eq)]
+#[derive(Clone, Copy)]
 pub enum Form<'a> {
     /// A .reg text.
     Reg {
@@ -73,7 +73,7 @@ pub enum Form<'a> {
 }
 
 /// How the keys of a timeline are written.
-#[derive(Clone, Copy, Debug, PartialEq, Eq)]
+#[derive(Clone, Copy)]
 pub enum TimelineForm {
     /// A line for each key.
     Text,
@@ -84,7 +84,7 @@ pub enum TimelineForm {
 }
 
 /// What a listing tells of keys and values beside their names.
-#[derive(Clone, Copy, Debug, PartialEq, Eq)]
+#[derive(Clone, Copy)]
 pub struct Columns {
     /// The data of values.
     pub data: bool,
@@ -97,7 +97,7 @@ pub struct Columns {
 }
 
 /// How a value's data are written.
-#[derive(Clone, Copy, Debug, PartialEq, Eq)]
+#[derive(Clone, Copy)]
 pub enum DataForm {
     /// As text.
     Told,
@@ -108,7 +108,7 @@ pub enum DataForm {
 }
 
 /// What `diff` passes over of a key that both hives have.
-#[derive(Clone, Copy, Debug, PartialEq, Eq)]
+#[derive(Clone, Copy)]
 pub struct Ignored {
     /// When it was last written.
     pub time: bool,
@@ -123,7 +123,7 @@ pub struct Ignored {
 }
 
 /// How `diff` writes what differs.
-#[derive(Debug, Drop)]
+#[derive(Drop)]
 pub enum DiffForm {
     /// A line for each difference of a key and of those below it.
     Lines {
@@ -138,7 +138,7 @@ pub enum DiffForm {
 }
 
 /// A shell whose completions are written.
-#[derive(Clone, Copy, Debug, PartialEq, Eq)]
+#[derive(Clone, Copy)]
 pub enum Shell {
     Bash,
     Zsh,
@@ -146,7 +146,7 @@ pub enum Shell {
 }
 
 /// A hive file that is only looked into.
-#[derive(Clone, Copy, Debug, PartialEq, Eq)]
+#[derive(Clone, Copy)]
 pub struct HiveFile<'a> {
     pub file: &'a str,
     /// Whether it is read as it stands, too, where it wasn't written to its end.
@@ -154,7 +154,7 @@ pub struct HiveFile<'a> {
 }
 
 /// What a listing is asked for.
-#[derive(Debug, Drop)]
+#[derive(Drop)]
 pub struct ListRequest<'a> {
     pub hive: HiveFile<'a>,
     /// The key's path; the empty one is the root's.
@@ -167,7 +167,7 @@ pub struct ListRequest<'a> {
 }
 
 /// Which value is asked for, and how.
-#[derive(Debug, Drop)]
+#[derive(Drop)]
 pub struct GetRequest<'a> {
     pub hive: HiveFile<'a>,
     /// Its key's path; the empty one is the root's.
@@ -180,7 +180,7 @@ pub struct GetRequest<'a> {
 }
 
 /// What is searched for.
-#[derive(Clone, Copy, Debug, PartialEq, Eq)]
+#[derive(Clone, Copy)]
 pub struct FindRequest<'a> {
     pub hive: HiveFile<'a>,
     /// A regular expression.
@@ -191,7 +191,7 @@ pub struct FindRequest<'a> {
 }
 
 /// What a timeline is asked for.
-#[derive(Debug, Drop)]
+#[derive(Drop)]
 pub struct TimelineRequest<'a> {
     pub files: Vec<&'a str>,
     /// Whether they are read as they stand, too, where they weren't written to their end.
@@ -204,7 +204,7 @@ pub struct TimelineRequest<'a> {
 }
 
 /// What a command that saves a file is asked for of it.
-#[derive(Clone, Copy, Debug, PartialEq, Eq)]
+#[derive(Clone, Copy)]
 pub struct EditRequest<'a> {
     pub file: &'a str,
     /// A file to be made, in which to save in place of that one.
@@ -217,7 +217,7 @@ pub struct EditRequest<'a> {
 }
 
 /// What a command line asks for.
-#[derive(Debug, Drop)]
+#[derive(Drop)]
 pub enum Request<'a> {
     /// What is done with the standard streams alone.
     Stream(StreamRequest),

@@ -6,7 +6,7 @@ ghost use Rattle.reg_words.specs.Settings.{page_character, zsh_character, fish_c
 use std::alloc::AllocError;
 
 /// Where a text stands.
-#[derive(Clone, Copy, Debug, PartialEq, Eq)]
+#[derive(Clone, Copy)]
 pub enum Setting {
     /// In a line of a manual page, not at its begin.
     Page,

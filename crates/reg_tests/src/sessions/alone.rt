@@ -2,7 +2,7 @@
 //! thread. A Close isn't asked.
 use crate::sessions::guard::boxed;
 use crate::sessions::scenes::entries_of;
-use crate::sessions::stage::{Cast, started};
+use crate::sessions::stage::{Cast, Stage, started};
 use crate::support::{assert_report, replies, seated};
 use reg_calls::SeatedHive;
 use std::alloc::{AllocError, Global};
@@ -49,9 +49,14 @@ fn told_by_session<Rt: Print + Threads + Wait + Sync>(
 ) -> Result<String, Fail> {
     let lines = format!(in alloc; "{BEFORE}register 7 5 {kind}\n{CALLS}")?;
     let mut stage = started(rt, alloc, &Cast("", 1, 1, &[]))?;
-    let mut text = stage.take_all(rt, lines.as_str())?;
-    text.push_str(entries_of(alloc, &stage.gathered()?)?.as_str())?;
-    Ok(text)
+    let statuses = stage.take_all(rt, lines.as_str())?;
+    let entries = entries_left(alloc, stage)?;
+    Ok(format!(in alloc; "{}{}", statuses.as_str(), entries.as_str())?)
+}
+
+/// How many entries a stage's hives have once its sessions are gathered.
+fn entries_left(alloc: Global, stage: Stage) -> Result<String, Fail> {
+    entries_of(alloc, &stage.gathered()?)
 }
 
 /// Writes the statuses of a hive's replies.

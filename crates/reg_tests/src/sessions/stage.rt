@@ -19,7 +19,7 @@ use crate::support::{hive, lines_of};
 use reg_callbacks::{Callback, CallbackFault, Cookie};
 use reg_calls::Hive;
 use reg_image::image;
-use reg_model::{Answer, AnswerBody, Call, Change, ChangeReply, Query};
+use reg_model::{Answer, AnswerBody, Call, Change, ChangeReply, Notice, Query};
 use reg_script::{
     CHANGE_REPLY_LIMIT, NOTICE_REPLY_LIMIT, is_notify, write_answered, write_changed, write_notice,
 };
@@ -85,7 +85,7 @@ pub fn started<Rt: Print>(rt: &Rt, alloc: Global, cast: &Cast) -> Result<Stage, 
 }
 
 /// Writes the reply to a change, and answers its status.
-fn tell_reply(change: &Change, reply: &ChangeReply, text: &mut String) -> Result<u32, AllocError> {
+fn tell_reply(change: &Change, reply: &ChangeReply, text: &mut String) -> Result<u32, Fail> {
     if let Some(number) = reply.number {
         write!(text, "#{number} ")?;
     }
@@ -100,13 +100,20 @@ fn tell_answer(
     query: &Query,
     answer: &Answer,
     text: &mut String,
-) -> Result<u32, AllocError> {
+) -> Result<u32, Fail> {
     write!(text, "@{} ", answer.at)?;
     write_answered(alloc, text, query, answer)?;
     match &answer.body {
         AnswerBody::Refused { status } => Ok(*status),
         _ => Ok(0),
     }
+}
+
+/// Writes a notice that was taken, or that there was none.
+fn tell_notice(notice: Option<Notice>, text: &mut String) -> Result<u32, Fail> {
+    text.reserve(NOTICE_REPLY_LIMIT)?;
+    write_notice(text, notice);
+    Ok(0)
 }
 
 /// The numbers of a text.
@@ -119,10 +126,38 @@ fn numbers(alloc: Global, text: &str) -> Result<Vec<u32>, Fail> {
 }
 
 /// Writes what a callback answers to an OpenRoot.
-fn tell_callback(callback: Box<dyn Callback + Send>, text: &mut String) -> Result<u32, AllocError> {
+fn tell_callback(callback: Box<dyn Callback + Send>, text: &mut String) -> Result<u32, Fail> {
     let status = callback.pre_change(0, 0, b"", &Change::OpenRoot { mask: 0 });
     write!(text, "the box answers {status}\n")?;
     Ok(0)
+}
+
+/// Writes the cookie of a callback that was registered, or that its altitude is taken.
+fn tell_registered(
+    registered: Result<Cookie, CallbackFault<Box<dyn Callback + Send>>>,
+    text: &mut String,
+) -> Result<u32, Fail> {
+    match registered {
+        Ok(cookie) => {
+            write!(text, "cookie {}\n", cookie.number)?;
+            Ok(0)
+        }
+        Err(CallbackFault::AltitudeTaken(callback)) => {
+            text.push_str("taken, ")?;
+            tell_callback(callback, text)
+        }
+        Err(CallbackFault::Memory(_)) => Ok(NO_MEMORY),
+        Err(_) => Err("a callback was refused".into()),
+    }
+}
+
+/// Fails where a reply, with ` / ` between its lines, isn't what a step wants.
+fn check_reply(alloc: Global, step: &str, wanted: &str, text: &str) -> Result<(), Fail> {
+    let reply = text.trim_end().replace(alloc, '\n', " / ")?;
+    if wanted == ".." || reply.as_str() == wanted {
+        return Ok(());
+    }
+    Err(Fail::new(format_args!("{step}: {}", reply.as_str())))
 }
 
 impl Stage {
@@ -138,18 +173,13 @@ impl Stage {
         match ask {
             Ask::Call(Call::Change(change)) => {
                 let reply = session.change(rt, &self.registry, &OpenGate, hive, moment, change);
-                Ok(tell_reply(change, &reply, text)?)
+                tell_reply(change, &reply, text)
             }
             Ask::Call(Call::Query(query)) => {
                 let answer = session.ask(rt, &self.registry, &OpenGate, hive, query);
-                Ok(tell_answer(self.alloc, query, &answer, text)?)
+                tell_answer(self.alloc, query, &answer, text)
             }
-            Ask::TakeNotice => {
-                let notice = session.take_notice(&self.registry, hive);
-                text.reserve(NOTICE_REPLY_LIMIT)?;
-                write_notice(text, notice);
-                Ok(0)
-            }
+            Ask::TakeNotice => tell_notice(session.take_notice(&self.registry, hive), text),
         }
     }
 
@@ -171,21 +201,10 @@ impl Stage {
         if self.place.hive as usize >= self.registry.hives() {
             return Err("no such hive".into());
         }
-        match self
+        let registered = self
             .registry
-            .register(rt, self.place.hive, callback, *altitude)
-        {
-            Ok(cookie) => {
-                write!(text, "cookie {}\n", cookie.number)?;
-                Ok(0)
-            }
-            Err(CallbackFault::AltitudeTaken(callback)) => {
-                text.push_str("taken, ")?;
-                Ok(tell_callback(callback, text)?)
-            }
-            Err(CallbackFault::Memory(_)) => Ok(NO_MEMORY),
-            Err(_) => Err("a callback was refused".into()),
-        }
+            .register(rt, self.place.hive, callback, *altitude);
+        tell_registered(registered, text)
     }
 
     /// Takes a callback out.
@@ -198,7 +217,7 @@ impl Stage {
             .registry
             .unregister(rt, self.place.hive, Cookie { number })
         {
-            Ok(callback) => Ok(tell_callback(callback, text)?),
+            Ok(callback) => tell_callback(callback, text),
             Err(_) => Err("a callback was not taken out".into()),
         }
     }
@@ -300,6 +319,28 @@ impl Stage {
         Ok(statuses)
     }
 
+    /// Carries out the line of a step, whose first word this is. Whether it was answered: else it was refused its memory, which it says.
+    fn answers<Rt: Print + Threads + Wait + Sync>(
+        &mut self,
+        rt: &Rt,
+        word: &str,
+        line: &str,
+        text: &mut String,
+    ) -> Result<bool, Fail> {
+        if word == "drive" {
+            println!(rt; "drive")?;
+        }
+        let status = self.take(rt, line, text)?;
+        if status == NO_MEMORY && word != "close" {
+            println!(rt; "{word}: no memory")?;
+            return Ok(false);
+        }
+        if word == "drive" {
+            println!(rt; "drive: answered")?;
+        }
+        Ok(true)
+    }
+
     /// Carries out a step, a line and ` -> ` and what is replied, with ` / ` between lines, or `..` where that may be anything; a line
     /// without has no reply. Fails where something else is replied. Says of a step that it was refused its memory; then it answers false.
     /// Of a `drive`, which may be answered all the same, it says where it begins, and that it was answered.
@@ -310,23 +351,12 @@ impl Stage {
     ) -> Result<bool, Fail> {
         let (line, wanted) = step.split_once(" -> ").unwrap_or((step, ""));
         let (word, _) = line.split_once(' ').unwrap_or((line, ""));
-        if word == "drive" {
-            println!(rt; "drive")?;
-        }
         let mut text = String::new(self.alloc);
-        let status = self.take(rt, line, &mut text)?;
-        if status == NO_MEMORY && word != "close" {
-            println!(rt; "{word}: no memory")?;
-            return Ok(false);
+        let is_answered = self.answers(rt, word, line, &mut text)?;
+        if is_answered {
+            check_reply(self.alloc, step, wanted, text.as_str())?;
         }
-        if word == "drive" {
-            println!(rt; "drive: answered")?;
-        }
-        let reply = text.as_str().trim_end().replace(self.alloc, '\n', " / ")?;
-        if wanted == ".." || reply.as_str() == wanted {
-            return Ok(true);
-        }
-        Err(Fail::new(format_args!("{step}: {}", reply.as_str())))
+        Ok(is_answered)
     }
 
     /// Takes a step, again where it was refused its memory, so many times in all. Whether it was answered.

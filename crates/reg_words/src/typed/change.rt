@@ -1,7 +1,7 @@
 //! What is changed.
 
 /// A value's type and data.
-#[derive(Debug, Drop)]
+#[derive(Drop)]
 pub struct Contents {
     /// The type's number.
     pub kind: u32,
@@ -9,7 +9,7 @@ pub struct Contents {
 }
 
 /// A change of one key. Its path leads from the root; the empty one is the root's.
-#[derive(Debug, Drop)]
+#[derive(Drop)]
 pub enum KeyChange {
     /// The key is made, where it isn't there.
     CreateKey {

@@ -6,7 +6,7 @@ ghost use Rattle.reg_words.specs.ChangeWords.{kind_is as kind_of_form, numbered 
 use crate::typed::numbers::read_number;
 
 /// How the data of a value are written in words.
-#[derive(Clone, Copy, Debug, PartialEq, Eq)]
+#[derive(Clone, Copy)]
 pub enum DataForm {
     /// One text.
     Text,
@@ -21,7 +21,7 @@ pub enum DataForm {
 }
 
 /// A type, and how data of it are written.
-#[derive(Clone, Copy, Debug, PartialEq, Eq)]
+#[derive(Clone, Copy)]
 pub struct Kind {
     pub number: u32,
     pub form: DataForm,

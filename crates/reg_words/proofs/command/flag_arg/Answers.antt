@@ -7,7 +7,7 @@ use Rattle.reg_words.proofs.command.flag_arg.Goals as goal
 
 pub returns : goal.returns
 returns c =
-    let long_is = ap rule_of c.long.ensures ∙ ap (λ (r : Rule). record r { long = Some c.args.name.now }) c.new.ensures.rule in
+    let long_is = ap rule_of c.long.ensures ∙ ap (λ (r : Rule). record r { long = Some c.args.row.name.now }) c.new.ensures.rule in
     let acting = ap rule_of c.action.ensures ∙ ap (λ (r : Rule). record r { action = Some SetTrue }) long_is in
     record {
       rule_is = ap rule_of c.help.ensures ∙ acting;

@@ -6,7 +6,7 @@ use Rattle.reg_words.proofs.command.option_arg.Goals as goal
 
 pub returns : goal.returns
 returns c =
-    let long_is = ap rule_of c.long.ensures ∙ ap (λ (r : Rule). record r { long = Some c.args.name.now }) c.new.ensures.rule in
+    let long_is = ap rule_of c.long.ensures ∙ ap (λ (r : Rule). record r { long = Some c.args.row.name.now }) c.new.ensures.rule in
     let named_is = ap rule_of c.value_name.ensures ∙ ap (λ (r : Rule). record r { value_names = 1 }) long_is in
     record {
       rule_is = ap rule_of c.help.ensures ∙ named_is;
