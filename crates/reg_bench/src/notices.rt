@@ -123,7 +123,7 @@ impl Exchange {
 }
 
 /// An exchange of so many looks and notices, which has told nothing yet.
-fn exchange<Rt: Clock>(bench: Bench<'_, Rt>, looks: u64, notices: u32) -> Result<Exchange> {
+fn begun<Rt: Clock>(bench: Bench<'_, Rt>, looks: u64, notices: u32) -> Result<Exchange> {
     let times = Vec::with_capacity(bench.alloc, notices as usize)?;
     let locked = bench.took();
     Ok(Exchange {
@@ -155,7 +155,7 @@ fn measure<Rt: Print + Clock + Threads + Wait + Sync>(
     let notices = if is_small { 6 } else { 2_000 };
     let mut free = host.bench.took();
     look(host, session, looks, &mut free)?;
-    let exchange = exchange(host.bench, looks, notices)?;
+    let exchange = begun(host.bench, looks, notices)?;
     exchange.run(host, sessions);
     let told = exchange.told.lock(rt);
     tell(host.bench, notices, &free, &told)
