@@ -2,7 +2,8 @@
 //!
 //!     bench_calls maps|sizes|watches     of each row of a subject: how many visits took how many nanoseconds, on both sides
 //!     bench_calls tree|cut|rounds        of hives alone: what memory they have is looked at from outside, at the lines that are printed
-//!     bench_calls --small                of all rows, with six keys and visits at most: how many entries both sides have then
+//!     bench_calls --small                of all rows, with six keys and visits at most: how many entries both sides have then; and of hives
+//!                                        alone, with few keys and calls: how many entries are cut, and how large an image is
 //!
 //! A row is a step on the keys of a place. Both sides make the calls of 100 visits by turns, in one process; they are made ready before the
 //! clock starts, and lent to both. Each has to be answered 0 by both, and a small run has to leave the entries that stand in the row: else
@@ -653,6 +654,13 @@ fn must(status: u32) -> Result<(), String> {
 }
 
 impl Hive {
+    /// A hive without room for answers: only its own memory is looked at.
+    fn alone() -> Result<Hive, String> {
+        let mut hive = Hive::new()?;
+        hive.room = Vec::new();
+        Ok(hive)
+    }
+
     /// Opens the root. Answers the handle.
     fn root(&mut self) -> Result<u64, String> {
         self.change(0, open_root())
@@ -666,12 +674,18 @@ impl Hive {
         Ok(cut)
     }
 
-    /// The hive's image.
-    fn image(&mut self) -> Result<Vec<u8>, String> {
+    /// How many bytes the hive's image has, and how many entries the hive has had.
+    fn image_size(&mut self) -> Result<(usize, u64), String> {
         let (mut size, mut entries) = (0, 0);
         // SAFETY: as in `apply`.
         must(unsafe { ffi::zug_image_size(&mut self.words, &mut size, &mut entries) })?;
-        let mut image = vec![0; size as usize];
+        Ok((size as usize, entries))
+    }
+
+    /// The hive's image.
+    fn image(&mut self) -> Result<Vec<u8>, String> {
+        let (size, entries) = self.image_size()?;
+        let mut image = vec![0; size];
         // SAFETY: as in `apply`.
         must(unsafe { ffi::zug_image_part(&mut self.words, MOMENT, 1, entries, 0, image.as_mut_ptr(), image.len()) })?;
         Ok(image)
@@ -687,7 +701,7 @@ impl Hive {
         must(self.apply(0, &Change::Close { handle: root }))
     }
 
-    /// Makes keys of so many numbers below a parent of its own, with a value of less data than a page has.
+    /// Makes keys below the parent of a number, with a value each of less data than a page has.
     fn make_keys(&mut self, parent: u32) -> Result<(), String> {
         let root = self.root()?;
         for key in 0..EACH {
@@ -702,48 +716,58 @@ impl Hive {
 
 /// Makes a hive of keys with a value each, whose journal begins anew behind each parent, and tells how many bytes its bins have.
 fn fill_tree(parents: u32) -> Result<(), String> {
-    let mut hive = Hive::new()?;
+    let mut hive = Hive::alone()?;
     for parent in 0..parents {
         hive.make_keys(parent)?;
         hive.cut()?;
     }
-    println!("tree of {} keys: {} bytes of bins", parents * EACH, hive.image()?.len() - BASE_BLOCK);
+    let (size, _) = hive.image_size()?;
+    println!("tree of {} keys: {} bytes of bins", parents * EACH, size - BASE_BLOCK);
     Ok(())
 }
 
-/// Cuts a hive's journal behind one change, and behind many.
-fn cut_behind(changes: u32) -> Result<(), String> {
-    let mut hive = Hive::new()?;
-    for changes in [1, changes] {
+/// Cuts a hive's journal behind one change, and behind many. Answers how many entries were cut.
+fn cut_behind(changes: u32) -> Result<[u64; 2], String> {
+    let mut hive = Hive::alone()?;
+    let mut cuts = [0; 2];
+    for (cut, changes) in cuts.iter_mut().zip([1, changes]) {
         hive.set_often(changes)?;
-        println!("cut behind {changes} changes: {} entries", hive.cut()?);
+        *cut = hive.cut()?;
+        println!("cut behind {changes} changes: {cut} entries");
     }
-    Ok(())
+    Ok(cuts)
 }
 
-/// Makes rounds of changes, behind each of which the image is taken and the journal cut.
-fn make_rounds(rounds: u32, changes: u32) -> Result<(), String> {
-    let mut hive = Hive::new()?;
+/// Makes rounds of changes, behind each of which the image is taken and the journal cut. Answers how many entries were cut last, and how many
+/// bytes the image had.
+fn make_rounds(rounds: u32, changes: u32) -> Result<(u64, usize), String> {
+    let mut hive = Hive::alone()?;
+    let mut last = (0, 0);
     for round in 0..rounds {
         hive.set_often(changes)?;
         let size = hive.image()?.len();
-        println!("round {round}: {} entries, an image of {size} bytes", hive.cut()?);
+        last = (hive.cut()?, size);
+        println!("round {round}: {} entries, an image of {size} bytes", last.0);
     }
-    Ok(())
+    Ok(last)
 }
 
-/// What `--small` does with hives alone.
+/// What `--small` does with hives alone. A round has a set for each change, and opens and closes the root. The image has its base block and
+/// one bin of a page.
 fn check_hives() -> Result<(), String> {
+    let each = u64::from(SMALL) + 2;
     fill_tree(2)?;
-    cut_behind(SMALL)?;
-    make_rounds(2, SMALL)
+    match (cut_behind(SMALL)?, make_rounds(2, SMALL)?) {
+        (cuts, last) if cuts == [3, each] && last == (each, 2 * BASE_BLOCK) => Ok(()),
+        (cuts, last) => Err(format!("{cuts:?} entries were cut, and behind rounds {last:?}")),
+    }
 }
 
 fn run(word: &str) -> Result<(), String> {
     match word {
         "tree" => fill_tree(720),
-        "cut" => cut_behind(1_000_000),
-        "rounds" => make_rounds(100, 200_000),
+        "cut" => cut_behind(1_000_000).map(drop),
+        "rounds" => make_rounds(100, 200_000).map(drop),
         "maps" => beside_maps().into_iter().try_for_each(Row::measure),
         "sizes" => at_two_sizes().into_iter().try_for_each(Row::measure),
         "watches" => with_watches().into_iter().try_for_each(Row::measure),

@@ -17,7 +17,7 @@ from repository import Failed, below, crates, folder_of
 
 # A chain with so much of the longest one's lines is nearly as long.
 NEAR = 0.8
-# How nice a check is that isn't on the longest chain.
+# How nice a check is of a crate that the longest chain need not wait for.
 BEHIND = "10"
 PAUSE = 0.1
 KEPT = "passed, and that is kept."
@@ -46,23 +46,24 @@ def with_jobs(checks):
     return given if checks is None else {**given, "RT_JOBS": str(checks)}
 
 
-def let_pass(session):
-    """Puts a session behind others, where Linux shares processors out among sessions: there `nice` tells within one alone."""
-    with suppress(OSError), open(f"/proc/{session}/autogroup", "w", encoding="utf-8") as share:
-        share.write(BEHIND)
-
-
 class Check:
     """A `rt ci` of one crate in a room, at work."""
 
-    def __init__(self, room, crate, has_jobs):
-        self.crate, self.said = crate, tempfile.TemporaryFile("w+", encoding="utf-8", errors="replace")
+    def __init__(self, room, crate, is_first, has_jobs):
+        self.crate, self.is_behind, self.said = crate, is_first, tempfile.TemporaryFile("w+", encoding="utf-8", errors="replace")
         # In a session of its own, so that Ctrl-C reaches this program alone.
         how = {"cwd": room, "env": with_jobs(None if has_jobs else 1), "stdin": subprocess.DEVNULL, "stdout": self.said, "stderr": subprocess.STDOUT}
-        first = [] if has_jobs else ["nice", "-n", BEHIND]
-        self.command = subprocess.Popen([*first, "rt", "ci", crate], start_new_session=True, **how)
-        if not has_jobs:
-            let_pass(self.command.pid)
+        nice = [] if is_first else ["nice", "-n", BEHIND]
+        self.command = subprocess.Popen([*nice, "rt", "ci", crate], start_new_session=True, **how)
+
+    def stay_behind(self):
+        """Puts its session behind those of others, if it isn't yet and is to be. Where Linux shares processors out among sessions, `nice`
+        tells within one alone; and it takes few of these notes a second, so this is tried again."""
+        with suppress(OSError):
+            if not self.is_behind:
+                with open(f"/proc/{self.command.pid}/autogroup", "w", encoding="utf-8") as share:
+                    share.write(BEHIND)
+                self.is_behind = True
 
     def has_ended(self):
         return self.command.poll() is not None
@@ -106,9 +107,11 @@ def prove_by_chains(room, names, built, at_once, note):
             ready = [it for it in left if done.issuperset(uses[it])]
             for crate in ready[: at_once - len(running)]:
                 left.remove(crate)
-                has_jobs = at_once > 1 and is_on_longest(crate, long, [*left, *(it.crate for it in running)])
-                running.append(Check(room, crate, has_jobs))
+                is_first = is_on_longest(crate, long, [*left, *(it.crate for it in running)])
+                running.append(Check(room, crate, is_first, is_first and at_once > 1))
             time.sleep(PAUSE)
+            for check in running:
+                check.stay_behind()
             for check in [it for it in running if it.has_ended()]:
                 running.remove(check)
                 said = check.text()

@@ -11,14 +11,14 @@ use Rattle.reg_model.specs.declared.notice.Reason.TheVariants.{Matched, Gone, Cl
 use Rattle.reg_model.specs.declared.step.Outcome.TheVariants.{Changed}
 use Rattle.reg_script.specs.declared.engine.TheConstants.{LINE_LIMIT, LINES_LIMIT}
 use Rattle.reg_script.specs.LineWords.{lines_of, words_of, number_of, unescaped, after_mark, name_of, data_of}
-use Rattle.reg_script.specs.LineMeanings.{first_of, ending, room_of, subtree_of, given_of, query_verb_of, key_verb_of, call_verb_of, verb_of, by_verb, meaning_in, meaning_of}
+use Rattle.reg_script.specs.LineMeanings.{first_of, ending, room_of, subtree_of, given_of, call_verb_of, verb_of, by_verb, meaning_in, meaning_of}
 use Rattle.reg_script.specs.LineMeanings.{nothing, at_moment, as_session, on_hive, asks, takes_notice, bad}
 use Rattle.reg_script.specs.ReplyTexts.{changed_text, answer_text, notice_text, outcome_text}
 use Rattle.reg_text.specs.Texts.{byte_text}
 
 -- what computes a line's meaning
 unfoldable pub on_lines : Unit {0}
-unfolding words_of number_of unescaped after_mark name_of data_of first_of ending room_of subtree_of given_of query_verb_of key_verb_of call_verb_of verb_of by_verb meaning_in hex_on_literals
+unfolding words_of number_of unescaped after_mark name_of data_of first_of ending room_of subtree_of given_of call_verb_of verb_of by_verb meaning_in hex_on_literals
 on_lines = tt
 
 -- ---- lines

@@ -69,26 +69,6 @@ given_of [] = Some None
 given_of (word ∷ []) = option_map Some (data_of word)
 given_of (word ∷ other ∷ words) = None
 
--- the first word of a question
-unfoldable pub query_verb_of : List ℕ → Option Verb
-query_verb_of word =
-    if bytes_eq word (codes "query") then Some QueryVerb
-    else if bytes_eq word (codes "enumkey") then Some EnumKeyVerb
-    else if bytes_eq word (codes "enumvalue") then Some EnumValueVerb
-    else if bytes_eq word (codes "info") then Some Info
-    else if bytes_eq word (codes "getsec") then Some GetSec
-    else None
-
--- the first word of a change of a key itself, or of a question
-unfoldable pub key_verb_of : List ℕ → Option Verb
-key_verb_of word =
-    if bytes_eq word (codes "delkey") then Some DelKey
-    else if bytes_eq word (codes "deltree") then Some DelTree
-    else if bytes_eq word (codes "setsec") then Some SetSec
-    else if bytes_eq word (codes "notify") then Some Notify
-    else if bytes_eq word (codes "close") then Some CloseVerb
-    else query_verb_of word
-
 -- the first word of a call
 unfoldable pub call_verb_of : List ℕ → Option Verb
 call_verb_of word =
@@ -97,7 +77,17 @@ call_verb_of word =
     else if bytes_eq word (codes "create") then Some Create
     else if bytes_eq word (codes "set") then Some Set
     else if bytes_eq word (codes "delvalue") then Some DelValue
-    else key_verb_of word
+    else if bytes_eq word (codes "delkey") then Some DelKey
+    else if bytes_eq word (codes "deltree") then Some DelTree
+    else if bytes_eq word (codes "setsec") then Some SetSec
+    else if bytes_eq word (codes "notify") then Some Notify
+    else if bytes_eq word (codes "close") then Some CloseVerb
+    else if bytes_eq word (codes "query") then Some QueryVerb
+    else if bytes_eq word (codes "enumkey") then Some EnumKeyVerb
+    else if bytes_eq word (codes "enumvalue") then Some EnumValueVerb
+    else if bytes_eq word (codes "info") then Some Info
+    else if bytes_eq word (codes "getsec") then Some GetSec
+    else None
 
 -- the first word of a setting, of a call, or of the taking of a notice
 unfoldable pub verb_of : List ℕ → Option Verb

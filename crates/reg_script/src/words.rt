@@ -4,7 +4,8 @@ ghost use Rattle.std.specs.Prelude.{◌≡◌, ◌<◌, ◌≤◌, ◌∷◌, []
 ghost use Rattle.hex.specs.Hex.{hex_digit_value};
 ghost use Rattle.reg_script.specs.declared.words.ParseFault.TheVariants.{Memory};
 ghost use Rattle.reg_script.specs.LineWords.{after_mark as after_mark_of, number_of, escaped_byte, unescaped, name_of, data_of};
-ghost use Rattle.reg_script.specs.LineMeanings.{small_number_of, session_number_of, hive_number_of, room_of, subtree_of, query_verb_of, key_verb_of, call_verb_of, verb_of};
+ghost use Rattle.reg_script.specs.LineMeanings.{small_number_of, session_number_of, hive_number_of, room_of, subtree_of, call_verb_of, verb_of};
+ghost use Rattle.reg_script.specs.Internal.Verbs.{query_verb_of, key_verb_of};
 
 use crate::line::{Session, Verb};
 use hex::FromHexError;
@@ -39,7 +40,7 @@ impl From<AllocError> for ParseFault {
 }
 
 /// The first word of a question.
-#[tactic(auto, unfolding(crate::specs::LineMeanings::query_verb_of))]
+#[tactic(auto, unfolding(crate::specs::Internal::Verbs::query_verb_of))]
 fn query_verb(word: &[u8]) -> Result<Verb, ParseFault>
     ensures { result ≡ ok_or (query_verb_of word.now) ParseFault.Form }
 {
@@ -61,8 +62,8 @@ fn query_verb(word: &[u8]) -> Result<Verb, ParseFault>
     Err(ParseFault::Form)
 }
 
-/// The first word of a change of a key itself, or of a question.
-#[tactic(auto, unfolding(crate::specs::LineMeanings::key_verb_of))]
+/// The first word of a call that neither opens a key nor changes a value.
+#[tactic(auto, unfolding(crate::specs::Internal::Verbs::key_verb_of))]
 fn key_verb(word: &[u8]) -> Result<Verb, ParseFault>
     ensures { result ≡ ok_or (key_verb_of word.now) ParseFault.Form }
 {
@@ -85,7 +86,7 @@ fn key_verb(word: &[u8]) -> Result<Verb, ParseFault>
 }
 
 /// The first word of a call.
-#[tactic(auto, unfolding(crate::specs::LineMeanings::call_verb_of))]
+#[tactic(auto, unfolding(crate::specs::LineMeanings::call_verb_of, crate::specs::Internal::Verbs::key_verb_of, crate::specs::Internal::Verbs::query_verb_of))]
 fn call_verb(word: &[u8]) -> Result<Verb, ParseFault>
     ensures { result ≡ ok_or (call_verb_of word.now) ParseFault.Form }
 {
