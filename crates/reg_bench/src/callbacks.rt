@@ -35,8 +35,17 @@ fn measure<Rt: Clock, C: Callback>(
     callbacks: Vec<C>,
 ) -> Result<(Took, Took)> {
     let mut hive = asking(bench.alloc, callbacks)?;
+    measure_beside(bench, act, &mut hive)
+}
+
+/// The same beside a hive without callbacks.
+fn measure_beside<Rt: Clock, C: Callback>(
+    bench: Bench<'_, Rt>,
+    act: Act,
+    hive: &mut SeatedHive<C>,
+) -> Result<(Took, Took)> {
     let mut other = asking(bench.alloc, Vec::<C>::new(bench.alloc))?;
-    by_turns(bench, act, &mut hive, &mut other)
+    by_turns(bench, act, hive, &mut other)
 }
 
 /// A hive that asks these callbacks, each at an altitude of its own.

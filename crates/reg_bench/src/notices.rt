@@ -122,6 +122,20 @@ impl Exchange {
     }
 }
 
+/// An exchange of so many looks and notices, which has told nothing yet.
+fn begun<Rt: Clock>(bench: Bench<'_, Rt>, looks: u64, notices: u32) -> Result<Exchange> {
+    let times = Vec::with_capacity(bench.alloc, notices as usize)?;
+    let locked = bench.took();
+    Ok(Exchange {
+        looks,
+        notices,
+        step: AtomicU64::new(0),
+        begun: AtomicU64::new(0),
+        start: Instant::now(bench.rt)?,
+        told: Mutex::new(Told { locked, times }),
+    })
+}
+
 /// Has two sessions of one hive tell each other.
 pub fn run<Rt: Print + Clock + Threads + Wait + Sync>(bench: Bench<'_, Rt>) -> Result<()> {
     let (registry, mut sessions) = started(bench.alloc, 1, 2)?;
@@ -141,17 +155,7 @@ fn measure<Rt: Print + Clock + Threads + Wait + Sync>(
     let notices = if is_small { 6 } else { 2_000 };
     let mut free = host.bench.took();
     look(host, session, looks, &mut free)?;
-    let exchange = Exchange {
-        looks,
-        notices,
-        step: AtomicU64::new(0),
-        begun: AtomicU64::new(0),
-        start: Instant::now(rt)?,
-        told: Mutex::new(Told {
-            locked: host.bench.took(),
-            times: Vec::with_capacity(host.bench.alloc, notices as usize)?,
-        }),
-    };
+    let exchange = begun(host.bench, looks, notices)?;
     exchange.run(host, sessions);
     let told = exchange.told.lock(rt);
     tell(host.bench, notices, &free, &told)

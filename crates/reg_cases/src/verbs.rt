@@ -273,37 +273,71 @@ fn lock(rt: &HostRuntime, path: &str, scene: &mut Scene) -> Result<()> {
     Ok(())
 }
 
-/// Does what changes files; `None` where the words ask for something else.
-fn change(
+/// Gives a file another owner and another group.
+fn own(rt: &HostRuntime, path: &str, user: &str, group: &str) -> Result<()> {
+    let (user, group) = (user.parse::<u32>()?, group.parse::<u32>()?);
+    chown(rt, path, Some(user), Some(group))?;
+    Ok(())
+}
+
+/// Writes a file, or changes what it holds. Whether the words ask for that.
+fn write_by(
     rt: &HostRuntime,
-    words: &[String],
+    verb: &str,
+    path: &str,
+    rest: &[String],
     given: &Given,
-    scene: &mut Scene,
-) -> Result<Option<()>> {
-    let [verb, path, rest @ ..] = words else {
-        return Ok(None);
-    };
-    let path = path.as_str();
-    match (verb.as_str(), rest) {
+) -> Result<bool> {
+    match (verb, rest) {
         ("put", _) => put(rt, path, rest, given)?,
         ("draft", _) => draft(rt, path, rest, given)?,
         ("patch", _) => patch(rt, path, rest)?,
         ("poke", _) => poke(rt, path, rest)?,
         ("cut", [len]) => cut(rt, path, len.as_str())?,
+        _ => return Ok(false),
+    }
+    Ok(true)
+}
+
+/// Does what changes files. Whether the words ask for that.
+fn change(rt: &HostRuntime, words: &[String], given: &Given, scene: &mut Scene) -> Result<bool> {
+    let [verb, path, rest @ ..] = words else {
+        return Ok(false);
+    };
+    let (verb, path) = (verb.as_str(), path.as_str());
+    match (verb, rest) {
         ("copy", [to]) => write(rt, to.as_str(), &bytes_of(rt, path)?)?,
         ("link", [to]) => symlink(rt, to.as_str(), path)?,
         ("permit", [mode]) => permit(rt, path, mode.as_str())?,
-        ("own", [user, group]) => {
-            let (user, group) = (
-                user.as_str().parse::<u32>()?,
-                group.as_str().parse::<u32>()?,
-            );
-            chown(rt, path, Some(user), Some(group))?;
-        }
+        ("own", [user, group]) => own(rt, path, user.as_str(), group.as_str())?,
         ("lock", []) => lock(rt, path, scene)?,
-        _ => return Ok(None),
+        _ => return write_by(rt, verb, path, rest, given),
     }
-    Ok(Some(()))
+    Ok(true)
+}
+
+/// What is told of the file that is named, or of the folder.
+fn told_by(
+    rt: &HostRuntime,
+    verb: &str,
+    path: &str,
+    rest: &[String],
+    scene: &Scene,
+) -> Result<String> {
+    let alloc = rt.alloc();
+    match (verb, rest) {
+        ("block", []) => block(rt, path),
+        ("moment", []) => century(rt, path),
+        ("names", []) => names(rt),
+        ("calls", []) => Ok(format!(in alloc;
+            "{} reads, {} writes, {} bytes\n",
+            scene.reads, scene.writes, scene.taken
+        )?),
+        ("size", []) => Ok(format!(in alloc; "{} bytes\n", fs::metadata(rt, path)?.len())?),
+        ("kind", []) => kind(rt, path),
+        ("owner", []) => owner(rt, path),
+        _ => bail!("{verb} isn't understood"),
+    }
 }
 
 /// What is told of files.
@@ -320,17 +354,7 @@ fn told(rt: &HostRuntime, words: &[String], scene: &Scene) -> Result<String> {
         ("cells", []) => cells_told(alloc, &bytes_of(rt, path)?),
         ("sizes", []) => sizes_told(alloc, &bytes_of(rt, path)?),
         ("lists", []) => lists_told(alloc, &bytes_of(rt, path)?),
-        ("block", []) => block(rt, path),
-        ("moment", []) => century(rt, path),
-        ("names", []) => names(rt),
-        ("calls", []) => Ok(format!(in alloc;
-            "{} reads, {} writes, {} bytes\n",
-            scene.reads, scene.writes, scene.taken
-        )?),
-        ("size", []) => Ok(format!(in alloc; "{} bytes\n", fs::metadata(rt, path)?.len())?),
-        ("kind", []) => kind(rt, path),
-        ("owner", []) => owner(rt, path),
-        _ => bail!("{verb} isn't understood"),
+        _ => told_by(rt, verb, path, rest, scene),
     }
 }
 
@@ -341,8 +365,8 @@ pub fn perform(
     given: &Given,
     scene: &mut Scene,
 ) -> Result<String> {
-    match change(rt, words, given, scene)? {
-        Some(()) => Ok(String::new(rt.alloc())),
-        None => told(rt, words, scene),
+    if change(rt, words, given, scene)? {
+        return Ok(String::new(rt.alloc()));
     }
+    told(rt, words, scene)
 }

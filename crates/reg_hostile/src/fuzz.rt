@@ -1,7 +1,7 @@
 //! Images and scripts that were changed at random, each by a seed of its own.
 use crate::changes::{change_image, changed_script};
 use crate::hives::{Subject, fresh_hive, run_on};
-use crate::seeds::{SCRIPTS, images};
+use crate::seeds::{SCRIPTS_LEN, images, script};
 use crate::verdicts::{Tally, Verdict, judge_bytes, verdict_on};
 use anyhow::Result;
 use reg_fixtures::Chance;
@@ -22,18 +22,16 @@ fn image_of_seed(alloc: Global, good: &[Vec<u8>], chance: &mut Chance) -> Result
 
 /// One of the good scripts.
 fn some_script(chance: &mut Chance) -> &'static [u8] {
-    SCRIPTS
-        .get(chance.below(SCRIPTS.len()))
-        .map_or(b"".as_slice(), |script| script.as_bytes())
+    script(chance.below(SCRIPTS_LEN))
 }
 
 /// The script of a seed.
 fn script_of_seed(alloc: Global, chance: &mut Chance) -> Result<Vec<u8>> {
-    let mut script = some_script(chance).to_vec(alloc)?;
+    let mut changed = some_script(chance).to_vec(alloc)?;
     for _turn in 0..chance.below(12).saturating_add(1) {
-        script = changed_script(alloc, &script, some_script(chance), chance)?;
+        changed = changed_script(alloc, &changed, some_script(chance), chance)?;
     }
-    Ok(script)
+    Ok(changed)
 }
 
 /// The verdict on a script: on what it makes of an image that was changed, if that is loaded, or else of a fresh hive.

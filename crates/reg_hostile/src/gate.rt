@@ -2,7 +2,7 @@
 use crate::fuzz::fuzz;
 use crate::hives::scripted;
 use crate::rows::run_rows;
-use crate::seeds::{RECORDS_END, SCRIPTS, every_record};
+use crate::seeds::{RECORDS_END, every_record, script};
 use crate::sweeps::{all_bits, fronts, readers, sealed_bits, some_bits};
 use crate::verdicts::Tally;
 use crate::ways::{same_bits, sizes_by_ways};
@@ -53,7 +53,7 @@ fn sweep_records(rt: &impl Print, alloc: Global, image: &mut [u8]) -> Result<()>
 
 /// Of how many bits of the records of an image of ours the same is told by either way.
 fn same_of_own(alloc: Global) -> Result<usize> {
-    let mut image = scripted::<PlainHive>(alloc, SCRIPTS[0].as_bytes())?;
+    let mut image = scripted::<PlainHive>(alloc, script(0))?;
     same_bits::<PlainHive>(alloc, &mut image, 4096, 4096 + OWN_BYTES)
 }
 

@@ -53,33 +53,61 @@ fn print_own_bits(rt: &impl Print, alloc: Global) -> Result<()> {
     Ok(())
 }
 
-/// Does what the words behind the program's name ask for, and tells whether they ask for anything.
-fn answer(rt: &impl Print, alloc: Global, words: &[&str]) -> Result<bool> {
+/// What is to be done.
+#[derive(Clone, Copy)]
+enum Job {
+    Gate,
+    Bits,
+    Rows,
+    Fuzz { first: u64, count: u64 },
+}
+
+/// What the words behind the program's name ask for, if they ask for anything.
+fn job_in(words: &[&str]) -> Option<Job> {
     match words {
-        [] => gate::run(rt, alloc)?,
-        ["bits"] => {
-            print_bits(rt, alloc)?;
-            print_own_bits(rt, alloc)?;
-        }
-        ["rows"] => rows::run_rows::<PlainHive>(rt, alloc)?,
-        ["fuzz", first, count] => {
-            print_fuzz(rt, alloc, first.parse::<u64>()?, count.parse::<u64>()?)?;
-        }
-        _ => return Ok(false),
+        [] => Some(Job::Gate),
+        ["bits"] => Some(Job::Bits),
+        ["rows"] => Some(Job::Rows),
+        ["fuzz", first, count] => Some(Job::Fuzz {
+            first: first.parse::<u64>().ok()?,
+            count: count.parse::<u64>().ok()?,
+        }),
+        _ => None,
     }
-    Ok(true)
+}
+
+fn perform(rt: &impl Print, alloc: Global, job: Job) -> Result<()> {
+    match job {
+        Job::Gate => gate::run(rt, alloc),
+        Job::Bits => {
+            print_bits(rt, alloc)?;
+            print_own_bits(rt, alloc)
+        }
+        Job::Rows => rows::run_rows::<PlainHive>(rt, alloc),
+        Job::Fuzz { first, count } => print_fuzz(rt, alloc, first, count),
+    }
+}
+
+/// What these words, behind the first, ask for.
+fn job_of(alloc: Global, given: &[String]) -> Result<Option<Job>> {
+    let mut words = Vec::new(alloc);
+    for word in given.iter().skip(1) {
+        words.push(word.as_str())?;
+    }
+    Ok(job_in(&words))
 }
 
 fn main(rt: HostRuntime) -> Result<ExitCode> {
     let alloc = rt.alloc();
     let given: Vec<String> = env::args(&rt)?.collect(alloc)?;
-    let mut words = Vec::new(alloc);
-    for word in given.iter().skip(1) {
-        words.push(word.as_str())?;
+    match job_of(alloc, &given)? {
+        Some(job) => {
+            perform(&rt, alloc, job)?;
+            Ok(ExitCode::SUCCESS)
+        }
+        None => {
+            eprintln!(rt; "{USAGE}")?;
+            Ok(ExitCode::from(2))
+        }
     }
-    if answer(&rt, alloc, &words)? {
-        return Ok(ExitCode::SUCCESS);
-    }
-    eprintln!(rt; "{USAGE}")?;
-    Ok(ExitCode::from(2))
 }

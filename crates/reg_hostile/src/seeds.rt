@@ -4,8 +4,11 @@ use anyhow::Result;
 use reg_fixtures::{drafted, put_changes};
 use std::alloc::Global;
 
+/// How many scripts there are.
+pub const SCRIPTS_LEN: usize = 5;
+
 /// Scripts that are accepted.
-pub const SCRIPTS: [&str; 5] = [
+const SCRIPTS: [&str; SCRIPTS_LEN] = [
     "\
 at 7
 root 983103
@@ -98,6 +101,14 @@ info 0
     "",
 ];
 
+/// The script of a number; an empty one where there is none.
+pub fn script(number: usize) -> &'static [u8] {
+    match SCRIPTS.get(number) {
+        Some(script) => script.as_bytes(),
+        None => b"",
+    }
+}
+
 /// Where the records of the image with every record end, and the segments begin.
 pub const RECORDS_END: usize = 4096 + 864;
 
@@ -146,8 +157,8 @@ pub fn every_record(alloc: Global) -> Result<Vec<u8>> {
 pub fn images<H: Subject>(alloc: Global) -> Result<Vec<Vec<u8>>> {
     let mut images = Vec::new(alloc);
     images.push(every_record(alloc)?)?;
-    for script in SCRIPTS {
-        images.push(scripted::<H>(alloc, script.as_bytes())?)?;
+    for number in 0..SCRIPTS_LEN {
+        images.push(scripted::<H>(alloc, script(number))?)?;
     }
     Ok(images)
 }

@@ -5,6 +5,7 @@ ghost use Rattle.hex.specs.Hex.{hex_digit_value};
 ghost use Rattle.reg_script.specs.declared.words.ParseFault.TheVariants.{Memory};
 ghost use Rattle.reg_script.specs.LineWords.{after_mark as after_mark_of, number_of, escaped_byte, unescaped, name_of, data_of};
 ghost use Rattle.reg_script.specs.LineMeanings.{small_number_of, session_number_of, hive_number_of, room_of, subtree_of, call_verb_of, verb_of};
+ghost use Rattle.reg_script.specs.Internal.Verbs.{query_verb_of, key_verb_of};
 
 use crate::line::{Session, Verb};
 use hex::FromHexError;
@@ -38,8 +39,54 @@ impl From<AllocError> for ParseFault {
     }
 }
 
+/// The first word of a question.
+#[tactic(auto, unfolding(crate::specs::Internal::Verbs::query_verb_of))]
+fn query_verb(word: &[u8]) -> Result<Verb, ParseFault>
+    ensures { result ≡ ok_or (query_verb_of word.now) ParseFault.Form }
+{
+    if word == b"query".as_slice() {
+        return Ok(Verb::Query);
+    }
+    if word == b"enumkey".as_slice() {
+        return Ok(Verb::EnumKey);
+    }
+    if word == b"enumvalue".as_slice() {
+        return Ok(Verb::EnumValue);
+    }
+    if word == b"info".as_slice() {
+        return Ok(Verb::Info);
+    }
+    if word == b"getsec".as_slice() {
+        return Ok(Verb::GetSec);
+    }
+    Err(ParseFault::Form)
+}
+
+/// The first word of a call that neither opens a key nor changes a value.
+#[tactic(auto, unfolding(crate::specs::Internal::Verbs::key_verb_of))]
+fn key_verb(word: &[u8]) -> Result<Verb, ParseFault>
+    ensures { result ≡ ok_or (key_verb_of word.now) ParseFault.Form }
+{
+    if word == b"delkey".as_slice() {
+        return Ok(Verb::DelKey);
+    }
+    if word == b"deltree".as_slice() {
+        return Ok(Verb::DelTree);
+    }
+    if word == b"setsec".as_slice() {
+        return Ok(Verb::SetSec);
+    }
+    if word == b"notify".as_slice() {
+        return Ok(Verb::Notify);
+    }
+    if word == b"close".as_slice() {
+        return Ok(Verb::Close);
+    }
+    query_verb(word)
+}
+
 /// The first word of a call.
-#[tactic(auto, unfolding(crate::specs::LineMeanings::call_verb_of))]
+#[tactic(auto, unfolding(crate::specs::LineMeanings::call_verb_of, crate::specs::Internal::Verbs::key_verb_of, crate::specs::Internal::Verbs::query_verb_of))]
 fn call_verb(word: &[u8]) -> Result<Verb, ParseFault>
     ensures { result ≡ ok_or (call_verb_of word.now) ParseFault.Form }
 {
@@ -58,37 +105,7 @@ fn call_verb(word: &[u8]) -> Result<Verb, ParseFault>
     if word == b"delvalue".as_slice() {
         return Ok(Verb::DelValue);
     }
-    if word == b"delkey".as_slice() {
-        return Ok(Verb::DelKey);
-    }
-    if word == b"deltree".as_slice() {
-        return Ok(Verb::DelTree);
-    }
-    if word == b"setsec".as_slice() {
-        return Ok(Verb::SetSec);
-    }
-    if word == b"notify".as_slice() {
-        return Ok(Verb::Notify);
-    }
-    if word == b"close".as_slice() {
-        return Ok(Verb::Close);
-    }
-    if word == b"query".as_slice() {
-        return Ok(Verb::Query);
-    }
-    if word == b"enumkey".as_slice() {
-        return Ok(Verb::EnumKey);
-    }
-    if word == b"enumvalue".as_slice() {
-        return Ok(Verb::EnumValue);
-    }
-    if word == b"info".as_slice() {
-        return Ok(Verb::Info);
-    }
-    if word == b"getsec".as_slice() {
-        return Ok(Verb::GetSec);
-    }
-    Err(ParseFault::Form)
+    key_verb(word)
 }
 
 /// What a line is, by its first word: a setting, a call, or the taking of a notice.

@@ -257,12 +257,32 @@ fn asked_in(
     let asked = Rc::new(alloc, Cell::new(0))?;
     let _made = replies(alloc, hive, setup)?;
     register(hive, status, &asked)?;
+    asked_of_call(alloc, hive, call, &asked)
+}
+
+/// The same of a call alone, with its cause before it.
+fn asked_of_call(
+    alloc: Global,
+    hive: &mut SeatedHive<Noting>,
+    call: &str,
+    asked: &Cell<u32>,
+) -> Result<String, Fail> {
     let cause = cause(alloc, hive, call)?;
     let asked_by_cause = asked.replace(0);
-    let reply = replies(alloc, hive, call)?;
-    let told = format!(in alloc; "{} | {}", reply.as_str().trim_end(), asked.get())?;
+    let told = told_of(alloc, hive, call, asked)?;
     check_cause(alloc, cause, asked_by_cause, told.as_str())?;
     Ok(told)
+}
+
+/// What a hive replies to a call, and which callbacks it asks.
+fn told_of(
+    alloc: Global,
+    hive: &mut SeatedHive<Noting>,
+    call: &str,
+    asked: &Cell<u32>,
+) -> Result<String, Fail> {
+    let reply = replies(alloc, hive, call)?;
+    Ok(format!(in alloc; "{} | {}", reply.as_str().trim_end(), asked.get())?)
 }
 
 /// What `asked_in` tells of the hive of a draft.

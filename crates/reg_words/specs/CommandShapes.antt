@@ -13,9 +13,19 @@ required a = record a { top = record a.top { subcommand_required = true } }
 abbrev pub option_rule : Text → Rule
 option_rule name = record (new_rule name) { long = Some name; value_names = 1 }
 
--- an option with one value, which must be given
-abbrev pub required_rule : Text → Rule
-required_rule name = record (option_rule name) { required = true }
+-- an option with one value, which must be given or may be left out
+abbrev pub valued_rule : Text → Bool → Rule
+valued_rule name is_required = record (option_rule name) { required = is_required }
+
+-- an option with a number of 32 bits, with one of 64 bits, and with one from 1 to 16
+abbrev pub half_rule : Text → Rule
+half_rule name = record (option_rule name) { parser = Some (parser.Signed (pos 0) (pos 4294967295)) }
+
+abbrev pub whole_rule : Text → Rule
+whole_rule name = record (option_rule name) { parser = Some (parser.Unsigned 0 18446744073709551615) }
+
+abbrev pub count_rule : Text → Rule
+count_rule name = record (option_rule name) { parser = Some (parser.Signed (pos 1) (pos 16)) }
 
 -- an option without a value
 abbrev pub flag_rule : Text → Rule
@@ -33,25 +43,26 @@ short_rule name letter = record (flag_rule name) { short = Some letter }
 abbrev pub file_rule : Bool → Rule
 file_rule is_required = place_rule (codes "file") is_required
 
--- files by their places: one or more where any is given
-abbrev pub files_rule : Rule
-files_rule = record (new_rule (codes "files")) {
+-- arguments by their places, one or more where any is given; one must be given, or none need be
+abbrev pub many_rule : Text → Bool → Rule
+many_rule name is_required = record (new_rule name) {
   value_names = 1;
   action = Some action.Append;
   range = Some (record { start_inclusive = 1; end_inclusive = usize_max });
+  required = is_required;
 }
+
+-- files by their places
+abbrev pub files_rule : Rule
+files_rule = many_rule (codes "files") false
 
 -- files by their places, of which one must be given
 abbrev pub hives_rule : Rule
-hives_rule = record files_rule { required = true }
+hives_rule = many_rule (codes "files") true
 
--- the data of a value by their places: one or more where any is given
+-- the data of a value by their places
 abbrev pub data_rule : Rule
-data_rule = record (new_rule (codes "data")) {
-  value_names = 1;
-  action = Some action.Append;
-  range = Some (record { start_inclusive = 1; end_inclusive = usize_max });
-}
+data_rule = many_rule (codes "data") false
 
 -- the flag `--ignore-case`, or `-i`
 abbrev pub case_rule : Rule
@@ -59,19 +70,19 @@ case_rule = short_rule (codes "ignore-case") 105
 
 -- the option `--at`: a moment, a number of 64 bits
 abbrev pub at_rule : Rule
-at_rule = record (option_rule (codes "at")) { parser = Some (parser.Unsigned 0 18446744073709551615) }
+at_rule = whole_rule (codes "at")
 
 -- the option `--wait`: a number of seconds, of 32 bits
 abbrev pub wait_rule : Rule
-wait_rule = record (option_rule (codes "wait")) { parser = Some (parser.Signed (pos 0) (pos 4294967295)) }
+wait_rule = half_rule (codes "wait")
 
 -- the option `--image`: a sequence number, of 32 bits
 abbrev pub image_rule : Rule
-image_rule = record (option_rule (codes "image")) { parser = Some (parser.Signed (pos 0) (pos 4294967295)) }
+image_rule = half_rule (codes "image")
 
 -- the option `--workers`: a number of hives, from 1 to 16
 abbrev pub workers_rule : Rule
-workers_rule = record (option_rule (codes "workers")) { parser = Some (parser.Signed (pos 1) (pos 16)) }
+workers_rule = count_rule (codes "workers")
 
 -- `run`, which may be asked for an image, or for workers on several hives
 abbrev pub run_command : App
@@ -154,7 +165,7 @@ timeline_command =
 abbrev pub export_command : App
 export_command =
     with_rule
-    (with_rule (with_rule (keyed_command (codes "export") false) (required_rule (codes "as"))) (flag_rule (codes "utf8")))
+    (with_rule (with_rule (keyed_command (codes "export") false) (valued_rule (codes "as") true)) (flag_rule (codes "utf8")))
     (option_rule (codes "prefix"))
 
 -- `new`, of a file, and the name of its root

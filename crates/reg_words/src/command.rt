@@ -3,16 +3,17 @@
 ghost use Rattle.std.specs.Prelude.{IfOk, codes};
 ghost use Rattle.clap.specs.Words.{App, new_app, with_subcommand};
 ghost use Rattle.reg_words.specs.CommandShapes.{option_rule, flag_rule, short_rule, place_rule, required, regtool as regtool_shape};
+ghost use Rattle.reg_words.specs.CommandShapes.{valued_rule, half_rule, whole_rule, count_rule, many_rule};
 ghost use Rattle.reg_words.specs.CommandShapes.{list_command as list_shape, get_command as get_shape, find_command as find_shape};
 ghost use Rattle.reg_words.specs.CommandShapes.{stream_commands as stream_shape, query_commands as query_shape};
 ghost use Rattle.reg_words.specs.CommandShapes.{saving_commands as saved_shape, changing_commands as changed_shape};
 ghost use Rattle.reg_words.specs.Internal.Commands.{IsRule, IsCommand, IsMade};
-ghost use Rattle.reg_words.specs.Internal.CommandRows.{rule_in, with_rules, app_in, valued_rule, half_rule, whole_rule, count_rule, many_rule};
+ghost use Rattle.reg_words.specs.Internal.CommandRows.{rule_in, with_rules, app_in};
 
 use crate::builder::CommandBuilder;
 use crate::commands::{
-    ArgRow, CHECK, COMPLETIONS, COPY, CREATE, CommandRow, DELETE, DIFF, DUMP, EDIT, EXPORT, FIND,
-    Form, GET, IMPORT, LIST, MANUAL, NEW, RUN, SET, TIMELINE, VERSION,
+    ArgForm, ArgRow, CHECK, COMPLETIONS, COPY, CREATE, CommandRow, DELETE, DIFF, DUMP, EDIT,
+    EXPORT, FIND, GET, IMPORT, LIST, MANUAL, NEW, RUN, SET, TIMELINE, VERSION,
 };
 use clap::{Arg, ArgAction, Command};
 use std::alloc::{AllocError, Global};
@@ -99,14 +100,14 @@ fn arg_of<'a>(alloc: Global, row: ArgRow) -> Arg<'a>
     ensures { IsRule (rule_in row) result }
 {
     match row.form {
-        Form::Flag => flag_arg(alloc, row),
-        Form::Letter(letter) => letter_arg(alloc, row, letter),
-        Form::Valued { is_required } => valued_arg(alloc, row, is_required),
-        Form::Half => half_arg(alloc, row),
-        Form::Whole => whole_arg(alloc, row),
-        Form::Count => count_arg(alloc, row),
-        Form::Place { is_required } => place_arg(alloc, row, is_required),
-        Form::Places { is_required } => many_arg(alloc, row, is_required),
+        ArgForm::Flag => flag_arg(alloc, row),
+        ArgForm::Letter(letter) => letter_arg(alloc, row, letter),
+        ArgForm::Valued { is_required } => valued_arg(alloc, row, is_required),
+        ArgForm::Half => half_arg(alloc, row),
+        ArgForm::Whole => whole_arg(alloc, row),
+        ArgForm::Count => count_arg(alloc, row),
+        ArgForm::Place { is_required } => place_arg(alloc, row, is_required),
+        ArgForm::Places { is_required } => many_arg(alloc, row, is_required),
     }
 }
 

@@ -2,7 +2,7 @@
 
 /// How an argument is given.
 #[derive(Clone, Copy)]
-pub enum Form {
+pub enum ArgForm {
     /// By its name, without a value.
     Flag,
     /// The same, and also by a letter.
@@ -25,7 +25,7 @@ pub enum Form {
 #[derive(Clone, Copy)]
 pub struct ArgRow {
     pub name: &'static str,
-    pub form: Form,
+    pub form: ArgForm,
     /// What stands for its value in the help; nothing where it has none.
     pub value: &'static str,
     pub help: &'static str,
@@ -42,7 +42,7 @@ pub struct CommandRow {
 /// A hive that a command looks into.
 const HIVE: ArgRow = ArgRow {
     name: "file",
-    form: Form::Place { is_required: true },
+    form: ArgForm::Place { is_required: true },
     value: "FILE",
     help: "The hive",
 };
@@ -50,14 +50,14 @@ const HIVE: ArgRow = ArgRow {
 /// One that it saves.
 const SAVED: ArgRow = ArgRow {
     name: "file",
-    form: Form::Place { is_required: true },
+    form: ArgForm::Place { is_required: true },
     value: "FILE",
     help: "The hive, which is saved in place",
 };
 
 const DIRTY: ArgRow = ArgRow {
     name: "dirty",
-    form: Form::Flag,
+    form: ArgForm::Flag,
     value: "",
     help: "Read a file as it stands, too, that wasn't written to its end",
 };
@@ -65,7 +65,7 @@ const DIRTY: ArgRow = ArgRow {
 /// A key, by its path.
 const PATH: ArgRow = ArgRow {
     name: "path",
-    form: Form::Place { is_required: true },
+    form: ArgForm::Place { is_required: true },
     value: "PATH",
     help: "The key, as it is typed: %HH stands for that byte; '' is the root",
 };
@@ -73,63 +73,63 @@ const PATH: ArgRow = ArgRow {
 /// The same where the root is meant without it.
 const ANY_PATH: ArgRow = ArgRow {
     name: "path",
-    form: Form::Place { is_required: false },
+    form: ArgForm::Place { is_required: false },
     value: "PATH",
     help: "The key, as it is typed: %HH stands for that byte; '' is the root",
 };
 
 const SLASH: ArgRow = ArgRow {
     name: "slash",
-    form: Form::Flag,
+    form: ArgForm::Flag,
     value: "",
     help: "Read / in PATH as a backslash",
 };
 
 const WHOLE: ArgRow = ArgRow {
     name: "whole",
-    form: Form::Flag,
+    form: ArgForm::Flag,
     value: "",
     help: "Test the whole hive first",
 };
 
 const UTF8: ArgRow = ArgRow {
     name: "utf8",
-    form: Form::Flag,
+    form: ArgForm::Flag,
     value: "",
     help: "Write a .reg text in UTF-8",
 };
 
 const OUTPUT: ArgRow = ArgRow {
     name: "output",
-    form: Form::Valued { is_required: false },
+    form: ArgForm::Valued { is_required: false },
     value: "FILE",
     help: "Save in this new file instead",
 };
 
 const NOW: ArgRow = ArgRow {
     name: "now",
-    form: Form::Flag,
+    form: ArgForm::Flag,
     value: "",
     help: "Begin at the moment of the clock, as without --at",
 };
 
 const AT: ArgRow = ArgRow {
     name: "at",
-    form: Form::Whole,
+    form: ArgForm::Whole,
     value: "MOMENT",
     help: "Begin at this moment, in units of 100 ns since 1601",
 };
 
 const DRY_RUN: ArgRow = ArgRow {
     name: "dry-run",
-    form: Form::Flag,
+    form: ArgForm::Flag,
     value: "",
     help: "Save nothing",
 };
 
 const WAIT: ArgRow = ArgRow {
     name: "wait",
-    form: Form::Half,
+    form: ArgForm::Half,
     value: "SECONDS",
     help: "Wait so long for a file that somebody else edits",
 };
@@ -141,13 +141,13 @@ pub const RUN: CommandRow = CommandRow {
     args: &[
         ArgRow {
             name: "image",
-            form: Form::Half,
+            form: ArgForm::Half,
             value: "SEQ",
             help: "Write the hive's image with this sequence number, and no replies",
         },
         ArgRow {
             name: "workers",
-            form: Form::Count,
+            form: ArgForm::Count,
             value: "N",
             help: "Run each session on a thread of its own, on N fresh hives",
         },
@@ -161,7 +161,7 @@ pub const DUMP: CommandRow = CommandRow {
     args: &[
         ArgRow {
             name: "file",
-            form: Form::Place { is_required: false },
+            form: ArgForm::Place { is_required: false },
             value: "FILE",
             help: "The hive, in place of standard input",
         },
@@ -176,14 +176,14 @@ pub const CHECK: CommandRow = CommandRow {
     args: &[
         ArgRow {
             name: "files",
-            form: Form::Places { is_required: false },
+            form: ArgForm::Places { is_required: false },
             value: "FILE",
             help: "The hives, in place of standard input",
         },
         DIRTY,
         ArgRow {
             name: "verbose",
-            form: Form::Letter('v'),
+            form: ArgForm::Letter('v'),
             value: "",
             help: "Tell of a faulty file why, at which offset of its bins, and in which key",
         },
@@ -201,32 +201,32 @@ pub const LIST: CommandRow = CommandRow {
         SLASH,
         ArgRow {
             name: "tree",
-            form: Form::Flag,
+            form: ArgForm::Flag,
             value: "",
             help: "List all that is below it",
         },
         WHOLE,
         ArgRow {
             name: "long",
-            form: Form::Letter('l'),
+            form: ArgForm::Letter('l'),
             value: "",
             help: "Tell the data of values, too",
         },
         ArgRow {
             name: "time",
-            form: Form::Flag,
+            form: ArgForm::Flag,
             value: "",
             help: "Tell when keys were last written",
         },
         ArgRow {
             name: "security",
-            form: Form::Flag,
+            form: ArgForm::Flag,
             value: "",
             help: "Tell the descriptors of keys",
         },
         ArgRow {
             name: "null",
-            form: Form::Flag,
+            form: ArgForm::Flag,
             value: "",
             help: "End each line by a zero",
         },
@@ -244,19 +244,19 @@ pub const GET: CommandRow = CommandRow {
         SLASH,
         ArgRow {
             name: "value",
-            form: Form::Place { is_required: false },
+            form: ArgForm::Place { is_required: false },
             value: "NAME",
             help: "The value, as it is typed; @, or nothing, for the default one",
         },
         ArgRow {
             name: "raw",
-            form: Form::Flag,
+            form: ArgForm::Flag,
             value: "",
             help: "Write its bytes",
         },
         ArgRow {
             name: "type",
-            form: Form::Flag,
+            form: ArgForm::Flag,
             value: "",
             help: "Tell its type, and the form of its data, too",
         },
@@ -273,19 +273,19 @@ pub const FIND: CommandRow = CommandRow {
         DIRTY,
         ArgRow {
             name: "pattern",
-            form: Form::Place { is_required: true },
+            form: ArgForm::Place { is_required: true },
             value: "PATTERN",
             help: "A regular expression",
         },
         ArgRow {
             name: "in",
-            form: Form::Valued { is_required: false },
+            form: ArgForm::Valued { is_required: false },
             value: "PLACES",
             help: "Search in these, parted by commas: keys, names, data, paths, bytes",
         },
         ArgRow {
             name: "ignore-case",
-            form: Form::Letter('i'),
+            form: ArgForm::Letter('i'),
             value: "",
             help: "Pass over upper and lower case",
         },
@@ -299,13 +299,13 @@ pub const DIFF: CommandRow = CommandRow {
     args: &[
         ArgRow {
             name: "old",
-            form: Form::Place { is_required: true },
+            form: ArgForm::Place { is_required: true },
             value: "OLD",
             help: "A hive",
         },
         ArgRow {
             name: "new",
-            form: Form::Place { is_required: true },
+            form: ArgForm::Place { is_required: true },
             value: "NEW",
             help: "Another one",
         },
@@ -314,13 +314,13 @@ pub const DIFF: CommandRow = CommandRow {
         SLASH,
         ArgRow {
             name: "ignore",
-            form: Form::Valued { is_required: false },
+            form: ArgForm::Valued { is_required: false },
             value: "FIELDS",
             help: "Pass over these, parted by commas: time, security, order, class, marks",
         },
         ArgRow {
             name: "as",
-            form: Form::Valued { is_required: false },
+            form: ArgForm::Valued { is_required: false },
             value: "FORM",
             help: "reg: write a .reg text that makes NEW of OLD",
         },
@@ -339,14 +339,14 @@ pub const EXPORT: CommandRow = CommandRow {
         SLASH,
         ArgRow {
             name: "as",
-            form: Form::Valued { is_required: true },
+            form: ArgForm::Valued { is_required: true },
             value: "FORM",
             help: "The form of the text: reg, json, jsonl, csv or html",
         },
         UTF8,
         ArgRow {
             name: "prefix",
-            form: Form::Valued { is_required: false },
+            form: ArgForm::Valued { is_required: false },
             value: "FRONT",
             help: "What stands in a .reg text for the hive's root, its name where none is given",
         },
@@ -360,26 +360,26 @@ pub const TIMELINE: CommandRow = CommandRow {
     args: &[
         ArgRow {
             name: "files",
-            form: Form::Places { is_required: true },
+            form: ArgForm::Places { is_required: true },
             value: "FILE",
             help: "The hives",
         },
         DIRTY,
         ArgRow {
             name: "from",
-            form: Form::Valued { is_required: false },
+            form: ArgForm::Valued { is_required: false },
             value: "TIME",
             help: "From this moment on: 2022-06-18T04:26:40Z, a date, or units of 100 ns since 1601",
         },
         ArgRow {
             name: "to",
-            form: Form::Valued { is_required: false },
+            form: ArgForm::Valued { is_required: false },
             value: "TIME",
             help: "Up to this moment",
         },
         ArgRow {
             name: "as",
-            form: Form::Valued { is_required: false },
+            form: ArgForm::Valued { is_required: false },
             value: "FORM",
             help: "The form of the text: text, csv or bodyfile",
         },
@@ -393,13 +393,13 @@ pub const NEW: CommandRow = CommandRow {
     args: &[
         ArgRow {
             name: "file",
-            form: Form::Place { is_required: true },
+            form: ArgForm::Place { is_required: true },
             value: "FILE",
             help: "The file, which must not be there yet",
         },
         ArgRow {
             name: "name",
-            form: Form::Valued { is_required: false },
+            form: ArgForm::Valued { is_required: false },
             value: "NAME",
             help: "The root's name, ROOT where none is given",
         },
@@ -419,7 +419,7 @@ pub const EDIT: CommandRow = CommandRow {
         WAIT,
         ArgRow {
             name: "keep-going",
-            form: Form::Flag,
+            form: ArgForm::Flag,
             value: "",
             help: "Go on after a line that fails, and save what the others changed",
         },
@@ -439,19 +439,19 @@ pub const IMPORT: CommandRow = CommandRow {
         WAIT,
         ArgRow {
             name: "text",
-            form: Form::Place { is_required: false },
+            form: ArgForm::Place { is_required: false },
             value: "TEXT",
             help: "The .reg text, standard input where none is given",
         },
         ArgRow {
             name: "prefix",
-            form: Form::Valued { is_required: false },
+            form: ArgForm::Valued { is_required: false },
             value: "FRONT",
             help: "What stands in the text for the hive's root, its name where none is given",
         },
         ArgRow {
             name: "all-errors",
-            form: Form::Flag,
+            form: ArgForm::Flag,
             value: "",
             help: "Tell all lines that aren't understood, and save nothing where there are any",
         },
@@ -473,25 +473,25 @@ pub const SET: CommandRow = CommandRow {
         SLASH,
         ArgRow {
             name: "value",
-            form: Form::Place { is_required: true },
+            form: ArgForm::Place { is_required: true },
             value: "NAME",
             help: "The value, @ for the default one",
         },
         ArgRow {
             name: "type",
-            form: Form::Place { is_required: true },
+            form: ArgForm::Place { is_required: true },
             value: "TYPE",
             help: "sz, expand, multi, dword, qword, binary, none or a number",
         },
         ArgRow {
             name: "data",
-            form: Form::Places { is_required: false },
+            form: ArgForm::Places { is_required: false },
             value: "DATA",
             help: "Its data: a text, texts, a number, or bytes as digits",
         },
         ArgRow {
             name: "parents",
-            form: Form::Flag,
+            form: ArgForm::Flag,
             value: "",
             help: "Make the key and those above it where they are missing",
         },
@@ -513,7 +513,7 @@ pub const CREATE: CommandRow = CommandRow {
         SLASH,
         ArgRow {
             name: "parents",
-            form: Form::Flag,
+            form: ArgForm::Flag,
             value: "",
             help: "Make the keys above it where they are missing",
         },
@@ -535,13 +535,13 @@ pub const DELETE: CommandRow = CommandRow {
         SLASH,
         ArgRow {
             name: "value",
-            form: Form::Place { is_required: false },
+            form: ArgForm::Place { is_required: false },
             value: "NAME",
             help: "The value, @ for the default one; the key where none is given",
         },
         ArgRow {
             name: "tree",
-            form: Form::Flag,
+            form: ArgForm::Flag,
             value: "",
             help: "Take all keys below it away, too",
         },
@@ -559,13 +559,13 @@ pub const COPY: CommandRow = CommandRow {
         SLASH,
         ArgRow {
             name: "to-file",
-            form: Form::Place { is_required: true },
+            form: ArgForm::Place { is_required: true },
             value: "TO-FILE",
             help: "The hive to copy to, which is saved in place",
         },
         ArgRow {
             name: "to-path",
-            form: Form::Place { is_required: true },
+            form: ArgForm::Place { is_required: true },
             value: "TO-PATH",
             help: "The key there, right below which the copy stands, as it is typed",
         },
@@ -590,7 +590,7 @@ pub const COMPLETIONS: CommandRow = CommandRow {
     about: "Writes the completions of a shell",
     args: &[ArgRow {
         name: "shell",
-        form: Form::Place { is_required: true },
+        form: ArgForm::Place { is_required: true },
         value: "SHELL",
         help: "bash, zsh or fish",
     }],

@@ -7,8 +7,9 @@
 //! [`ListRequest`] with [`Columns`], [`GetRequest`] with [`DataForm`], [`FindRequest`] with [`Places`], [`DiffForm`] with [`Ignored`],
 //! [`Form`], [`TimelineRequest`] with [`TimelineForm`], [`EditRequest`] with [`Begin`], [`KeyChange`] with [`Contents`], and [`Shell`].
 //!
-//! `command` is the command as `clap` reads it; `asked`, `forms` and `changes` say what its matches ask for, `places` reads where a pattern
-//! is searched for, `fields` what `diff` passes over, `moments` a moment, `typed` a change, and `reasons` says which word isn't understood.
+//! `commands` has the commands in rows, and `command` makes that of them which `clap` reads; `asked`, `forms` and `changes` say what its
+//! matches ask for, `places` reads where a pattern is searched for, `fields` what `diff` passes over, `moments` a moment, `typed` a change,
+//! and `reasons` says which word isn't understood.
 #![tactic(auto)]
 
 mod asked;

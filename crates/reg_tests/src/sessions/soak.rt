@@ -67,6 +67,30 @@ const NAMES: [&str; 6] = [
 /// Sizes of data, some of it of more than one segment.
 const SIZES: [usize; 7] = [0, 3, 4, 5, 100, 2_000, 17_000];
 
+/// Writes a line of a value that is set, of a size and with a byte at random.
+fn push_set(
+    alloc: Global,
+    chance: &mut Chance,
+    handle: u8,
+    text: &mut String,
+) -> Result<(), AllocError> {
+    let digits = format!(in alloc; "{:02x}", chance.byte())?;
+    let size = chance.item_of(&SIZES).unwrap_or(4);
+    let digits = digits.as_str().repeat(alloc, size)?;
+    write!(text, "set {handle} =v 3 x{}", digits.as_str())
+}
+
+/// Writes a line with the name of a key at random.
+fn push_named(chance: &mut Chance, handle: u8, text: &mut String) -> Result<(), AllocError> {
+    let name = chance.item_of(&NAMES).unwrap_or("Alpha");
+    match chance.below(4) {
+        0 => write!(text, "open {handle} ={name} 983103"),
+        1 => write!(text, "create {handle} ={name} 983103"),
+        2 => write!(text, "delkey {handle} ={name}"),
+        _ => write!(text, "deltree {handle} ={name}"),
+    }
+}
+
 /// Writes a line at random by a handle.
 fn push_line(
     alloc: Global,
@@ -74,25 +98,16 @@ fn push_line(
     handle: u8,
     text: &mut String,
 ) -> Result<(), AllocError> {
-    let name = chance.item_of(&NAMES).unwrap_or("Alpha");
     match chance.below(15) {
         0 => write!(text, "query {handle} =V 4000"),
         1 => write!(text, "enumkey {handle} 0 255"),
         2 => write!(text, "info {handle}"),
-        3 => write!(text, "open {handle} ={name} 983103"),
-        4 => write!(text, "create {handle} ={name} 983103"),
-        5 => write!(text, "delvalue {handle} =v"),
-        6 => write!(text, "delkey {handle} ={name}"),
-        7 => write!(text, "deltree {handle} ={name}"),
+        3..=6 => push_named(chance, handle, text),
+        7 => write!(text, "delvalue {handle} =v"),
         8 => write!(text, "setsec {handle} x{:02x}01", chance.byte()),
         9 => write!(text, "notify {handle} 5 1"),
         10 => write!(text, "close {}", chance.below(400)),
-        11 => {
-            let digits = format!(in alloc; "{:02x}", chance.byte())?;
-            let size = chance.item_of(&SIZES).unwrap_or(4);
-            let digits = digits.as_str().repeat(alloc, size)?;
-            write!(text, "set {handle} =v 3 x{}", digits.as_str())
-        }
+        11 => push_set(alloc, chance, handle, text),
         _ => text.push_str("notice"),
     }
 }
