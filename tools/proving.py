@@ -50,20 +50,20 @@ class Check:
     """A `rt ci` of one crate in a room, at work."""
 
     def __init__(self, room, crate, is_first, has_jobs):
-        self.crate, self.is_behind, self.said = crate, is_first, tempfile.TemporaryFile("w+", encoding="utf-8", errors="replace")
+        self.crate, self.is_placed, self.said = crate, is_first, tempfile.TemporaryFile("w+", encoding="utf-8", errors="replace")
         # In a session of its own, so that Ctrl-C reaches this program alone.
         how = {"cwd": room, "env": with_jobs(None if has_jobs else 1), "stdin": subprocess.DEVNULL, "stdout": self.said, "stderr": subprocess.STDOUT}
         nice = [] if is_first else ["nice", "-n", BEHIND]
         self.command = subprocess.Popen([*nice, "rt", "ci", crate], start_new_session=True, **how)
 
     def stay_behind(self):
-        """Puts its session behind those of others, if it isn't yet and is to be. Where Linux shares processors out among sessions, `nice`
-        tells within one alone; and it takes few of these notes a second, so this is tried again."""
+        """Puts its session behind those of others, unless that is done or its crate goes first. Where Linux shares processors out among
+        sessions, `nice` tells within one alone; and it takes few of these notes a second, so this is tried again."""
         with suppress(OSError):
-            if not self.is_behind:
+            if not self.is_placed:
                 with open(f"/proc/{self.command.pid}/autogroup", "w", encoding="utf-8") as share:
                     share.write(BEHIND)
-                self.is_behind = True
+                self.is_placed = True
 
     def has_ended(self):
         return self.command.poll() is not None
