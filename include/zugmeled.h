@@ -260,7 +260,8 @@ uint32_t zug_query_value(zug_hive *hive, uint8_t session, uint64_t handle, const
                          uint8_t *room, size_t room_length, uint32_t *kind, uint32_t *size);
 
 /* The subkey at an index, from 0 in the order of names: its name in the room, the name's size, and when the key was last written.
- * 5: the handle lacks ZUG_ENUMERATE_SUB_KEYS. 6, 8. 234: the room is too short; the size is told. 259: no subkey has the index. 1018. */
+ * 5: the handle lacks ZUG_ENUMERATE_SUB_KEYS. 6. 234: the room is too short; the size is told. 259: no subkey has the index. 1018. It takes
+ * no memory. */
 uint32_t zug_enum_key(zug_hive *hive, uint8_t session, uint64_t handle, uint32_t index,
                       uint8_t *name_room, size_t name_room_length, uint32_t *name_size, uint64_t *time);
 

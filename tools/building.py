@@ -1,10 +1,10 @@
-"""Proves and builds a program, or libraries, with all below: by `rt ci` in a room, which is a copy of their sources.
+"""Proves and builds libraries with all below by `rt ci`, in a room, which is a copy of their sources, and the tool over them.
 
 `rt ci` keeps what is done for its next run and for the gate's, where the kit has a place for that. So each crate is proved by a run of its
 own (proving.py), a last run for all builds the highest and gives what was kept of the rest, and a build that is stopped goes on from
 there. Its libraries have statements in the place of proofs, which a check above reads sooner. The room has no wrong bodies, which the gate
 tries. What was built goes from there to out/ of its crate. `rt ci` leaves libraries without the stamp by which the kit's other commands know
-what they were built of; they get it here, so that `rt check` begins at once.
+what they were built of; they get it here, so that `rt check` begins at once, and `rt run`, which builds the tool over them.
 """
 import fcntl
 import importlib.util
@@ -26,6 +26,8 @@ from repository import TOP, Failed, Untried, folder_of, kit, tell
 LEFT_OUT = ("out", "must-fail", "wrong-bodies", "tested-bodies")
 # What a check takes of memory, in bytes. `rt ci` by itself counts up to four times as much, and leaves processors idle.
 MEMORY = 3_600_000_000
+# The program that is built by one compiler alone.
+TOOL = "regtool"
 DONE = re.compile(r"rt: (\w+) (?:proved|is kept: .*)$")
 
 
@@ -118,11 +120,11 @@ class Progress:
         return found
 
 
-def prove(room, progress, built, at_once):
+def prove(room, names, progress, built, at_once):
     """Proves and builds the crates of a room, but for libraries that are built. Raises `Failed` where one isn't; what is done stands there."""
     at_once = at_once or checks_at_once()
     try:
-        left = prove_by_chains(room, progress.names, built, at_once, progress.note_said)
+        left = prove_by_chains(room, names, built, at_once, progress.note_said)
     except Failed as why:
         ended = told(progress, why)
         leave(room, progress.done)
@@ -250,13 +252,54 @@ def build(*crates, at_once=None, out=sys.stdout):
         os.makedirs(f"{folder_of(it)}/out", exist_ok=True)
     progress = Progress(names, f"{folder_of(names[-1])}/out/build.log", out)
     begun, before = time.time(), stamps(names)
-    with room_for(names) as room:
+    # Without stamps `rt run` would prove all below it anew.
+    alone = [it for it in crates if it == TOOL and before]
+    libraries = [it for it in names if it not in alone]
+    with room_for(libraries) as room:
         try:
-            prove(room, progress, built_now(before), at_once)
+            prove(room, libraries, progress, built_now(before), at_once)
         finally:
             for it in progress.given:
                 put(room, it, begun)
             stamp(progress.given, before)
+    for it in alone:
+        build_program(it, progress)
+
+
+def build_program(crate, progress):
+    """Proves and builds a program over the libraries in out/, as LLVM builds it, and has it do its stored run. `rt ci` would build it a second
+    time, as Rattle's own compiler does."""
+    begun, folder = time.time(), folder_of(crate)
+    made = f"{folder}/out/{crate}"
+    env = {name: value for name, value in os.environ.items() if name != "RT_BACKEND"}
+    how = {"stdin": subprocess.DEVNULL, "stdout": subprocess.PIPE, "stderr": subprocess.STDOUT, "text": True, "errors": "replace"}
+    # In a session of its own, so that Ctrl-C reaches this program alone.
+    command = subprocess.Popen(["rt", "run", "--", "run"], cwd=folder, env=env, start_new_session=True, **how)
+    try:
+        for line in command.stdout:
+            progress.note_said(line)
+        status = command.wait()
+    finally:
+        command.terminate()
+        command.wait()
+    if status or not os.path.exists(made):
+        raise told(progress, Failed(f"rt run of {crate} ended with {status}"))
+    if said_of(made, folder) != read(f"{folder}/stdout"):
+        raise Failed(f"{os.path.relpath(made)} prints otherwise than its stored run")
+    # As old as what it was built of, so that a source that was changed since is newer.
+    os.utime(made, (begun, begun))
+    progress.note(crate)
+
+
+def said_of(program, folder):
+    """What a program prints with the stored words and input of its crate."""
+    with open(f"{folder}/stdin", encoding="utf-8") as given:
+        return subprocess.run([program, *read(f"{folder}/args").split("\n")[:-1]], stdin=given, stdout=subprocess.PIPE, text=True).stdout
+
+
+def read(path):
+    with open(path, encoding="utf-8") as it:
+        return it.read()
 
 
 def is_older(path, crate):

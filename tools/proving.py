@@ -1,4 +1,4 @@
-"""In which order ./build proves crates, and with how many jobs: each by a `rt ci NAME` of its own, once all below it are kept.
+"""In which order ./build proves libraries, and with how many jobs: each by a `rt ci NAME` of its own, once all below it are kept.
 
 What stands on one another is proved one after another, so the longest such chain tells when the build can end. Its next crate may have
 several jobs, as many as the kit allows it, and so may one of a chain that is nearly as long. The others, side by side, get one each, which

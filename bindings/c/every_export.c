@@ -687,13 +687,6 @@ static uint32_t query_call(zug_hive *hive, uint64_t handle) {
     return zug_query_value(hive, 0, handle, TEXT("value of many letters"), room, 32, &kind, &size);
 }
 
-static uint32_t enum_key_call(zug_hive *hive, uint64_t handle) {
-    uint8_t room[32];
-    uint32_t size;
-    uint64_t time;
-    return zug_enum_key(hive, 0, handle, 0, room, 32, &size, &time);
-}
-
 static uint32_t enum_value_call(zug_hive *hive, uint64_t handle) {
     uint8_t room[32], name[32];
     uint32_t name_size, kind, size;
@@ -725,8 +718,8 @@ static uint32_t delete_tree_call(zug_hive *hive, uint64_t handle) {
 /* Those that take no memory, and so never answer 8, with none granted. */
 static void without_memory(void) {
     zug_hive hive = {0};
-    uint64_t root = 7, watch = 7, size = 7, entries = 7, kept = 7, cut = 7, ended = 7, entry = 7;
-    uint32_t count = 7, reason = 7;
+    uint64_t root = 7, watch = 7, size = 7, entries = 7, kept = 7, cut = 7, ended = 7, entry = 7, time = 7;
+    uint32_t count = 7, reason = 7, kind = 7, name_size = 7, data_size = 7;
     uint8_t room[96];
     zug_info info;
     zug_subkey row;
@@ -737,9 +730,14 @@ static void without_memory(void) {
     IS(zug_close(&hive, 0, MOMENT, soft), 0);
     IS(zug_notify(&hive, 0, MOMENT, root, ZUG_FILTER_LAST_SET, false, &watch), 0);
     IS(set_call(&hive, root), 0);
+    IS(zug_set_value(&hive, 0, MOMENT, root, TEXT("of 16 characters"), 3, TEXT("more bytes than sixteen")), 0);
     granted = 0;
     IS(zug_query_info(&hive, 0, root, &info), 0);
-    IS(info.subkeys == 1 && info.values == 1, true);
+    IS(info.subkeys == 1 && info.values == 2, true);
+    IS(zug_query_value(&hive, 0, root, TEXT("of 16 characters"), room, sizeof room, &kind, &data_size), 0);
+    IS(kind == 3 && data_size == 23 && memcmp(room, "more bytes than sixteen", 23) == 0, true);
+    IS(zug_enum_key(&hive, 0, root, 0, room, sizeof room, &name_size, &time), 0);
+    IS(name_size == 21 && memcmp(room, "Soft, of many letters", 21) == 0, true);
     IS(zug_key_at(&hive, TEXT("Soft, of many letters"), &row, room, sizeof room), 0);
     IS(row.name_size, 21);
     IS(zug_subkeys_at(&hive, TEXT(""), 0, &row, 1, room, sizeof room, &count), 0);
@@ -773,7 +771,7 @@ static void refusals(void) {
     free(saved);
     IS(zug_open_root(&hive, 0, MOMENT, ZUG_ALL_ACCESS, &root), 0);
     key(&hive, root, "Soft, of many letters");
-    uint32_t (*const calls[])(zug_hive *, uint64_t) = {open_key_call, create_call, set_call, security_call, query_call, enum_key_call,
+    uint32_t (*const calls[])(zug_hive *, uint64_t) = {open_key_call, create_call, set_call, security_call, query_call,
         enum_value_call, get_security_call, cause_call, delete_value_call, delete_key_call, delete_tree_call};
     for (unsigned at = 0; at < sizeof calls / sizeof *calls; at++)
         until_granted(calls[at], &hive, root);

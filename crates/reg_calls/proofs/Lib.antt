@@ -9,6 +9,7 @@ pub mod StoreAfterChange
 pub mod HiveInvariantLemmas
 pub mod AdmittedChanges
 pub mod QueryAnswers
+pub mod RoomsTold
 pub mod NewHives
 pub mod HandedNotices
 pub mod PathFronts

@@ -20,6 +20,8 @@ use Rattle.reg_tree.specs.declared.value.ValueFound.{ValueFound}
 use Rattle.reg_tree.specs.ValueAnswers.{IsFound}
 use Rattle.reg_calls.specs.declared.store.Store.{Store}
 use Rattle.reg_calls.specs.Internal.Stores.{at, IsTarget}
+use Rattle.reg_calls.specs.Internal.RoomQuestions.{IsSubkeyTold}
+use Rattle.reg_calls.specs.Rooms.{due_by}
 use Rattle.reg_calls.specs.Views.{IsReadBy, IsTold, is_told}
 use Rattle.reg_calls.proofs.HandleLookUps.{by_handle-at, target-at}
 use Rattle.reg_model.proofs.HandleInvariant.{has-put}
@@ -29,6 +31,13 @@ use Rattle.reg_calls.proofs.RefusalTests.{Refuses, first}
 -- a refusal is told
 pub refused : (s : State) (session c status : ℕ) (q : Query) → query_cause s session q c ≡ Some status → IsReadBy c s session q (Refused status)
 refused s session c status q e = rw e (inl refl)
+
+-- a refusal is due, or what is told
+pub refusal-due : (s : State) (session c status : ℕ) (q : Query) → query_cause s session q c ≡ Some status → due_by c s session q ≡ Refused status
+refusal-due s session c status q e = ap (λ (o : Option ℕ). is_told o (body_of s session q)) e
+
+pub body-due : (s : State) (session c : ℕ) (q : Query) (body : AnswerBody) → query_cause s session q c ≡ None → body_of s session q ≡ body → due_by c s session q ≡ body
+body-due s session c q body none is = ap (λ (o : Option ℕ). is_told o (body_of s session q)) none ∙ is
 
 -- the answer due is told, or 8 in its place
 pub told : (s : State) (session c : ℕ) (q : Query) (due body : AnswerBody) → query_cause s session q c ≡ None → body_of s session q ≡ due → IsTold due body → IsReadBy c s session q body
@@ -46,10 +55,10 @@ module _ (n : JournalEnd) (store : Store) (session h c : ℕ) where
 
   -- ---- QueryValue
 
-  pub value-refused : (name : List ℕ) (room : Option ℕ) (status : ℕ) → Refuses store session h status → IsReadBy c s session (QueryValue h name room) (Refused status)
+  pub value-refused : (name : List ℕ) (room : Option ℕ) (status : ℕ) → Refuses store session h status → due_by c s session (QueryValue h name room) ≡ Refused status
   unfolding early_query_cause late_query_cause
   value-refused name room status r =
-      refused s session c status (QueryValue h name room) (first _ _ _ status (r (λ x. refuse (not (is_value_name name)) 87 or refuse (not (has 1 x.mask)) 5)))
+      refusal-due s session c status (QueryValue h name room) (first _ _ _ status (r (λ x. refuse (not (is_value_name name)) 87 or refuse (not (has 1 x.mask)) 5)))
 
   pub value-causes : (name : List ℕ) (room : Option ℕ) (mask : ℕ) (g : t) → mask ≡ g.handle.mask →
       query_cause s session (QueryValue h name room) c ≡ (refuse (not (is_value_name name)) 87 or refuse (not (has 1 mask)) 5 or asked c or refuse
@@ -65,11 +74,26 @@ module _ (n : JournalEnd) (store : Store) (session h c : ℕ) where
   unfolding body_of
   value-due name room g = ap (λ (q : Path). value_told (value_named name (values_at tree q)) room) (target-at store session h g)
 
+  -- what is told of the value of a name, or that there is none, is due
+  pub value-read : (name : List ℕ) (room : Option ℕ) (mask : ℕ) (g : t) → mask ≡ g.handle.mask → is_value_name name ≡ true → has 1 mask ≡ true → asked c ≡ None →
+      due_by c s session (QueryValue h name room) ≡ value_told (value_named name (values_at tree g.path)) room
+  value-read name room mask g m named right asks =
+      by (value-causes name room mask g m) (value-due name room g) (value_named name (values_at tree g.path)) refl
+    where
+      by : query_cause s session (QueryValue h name room) c ≡ (refuse (not (is_value_name name)) 87 or refuse (not (has 1 mask)) 5 or asked c or refuse
+          (not (is_some (value_named name (values_at tree g.path)))) 2) →
+          body_of s session (QueryValue h name room) ≡ value_told (value_named name (values_at tree g.path)) room →
+          (o : Option Member) → value_named name (values_at tree g.path) ≡ o →
+          due_by c s session (QueryValue h name room) ≡ value_told (value_named name (values_at tree g.path)) room
+      by chain due None e =
+          refusal-due s session c 2 (QueryValue h name room) (chain ∙ rw (named, right, asks, e) refl) ∙ ap (λ (o : Option Member). value_told o room) (sym e)
+      by chain due (Some x) e = body-due s session c (QueryValue h name room) _ (chain ∙ rw (named, right, asks, e) refl) due
+
   -- ---- EnumKey
 
-  pub key-refused : (index room status : ℕ) → Refuses store session h status → IsReadBy c s session (EnumKey h index room) (Refused status)
+  pub key-refused : (index room status : ℕ) → Refuses store session h status → due_by c s session (EnumKey h index room) ≡ Refused status
   unfolding early_query_cause late_query_cause
-  key-refused index room status r = refused s session c status (EnumKey h index room) (first _ _ _ status (r (λ x. refuse (not (has 8 x.mask)) 5)))
+  key-refused index room status r = refusal-due s session c status (EnumKey h index room) (first _ _ _ status (r (λ x. refuse (not (has 8 x.mask)) 5)))
 
   pub key-causes : (index room mask : ℕ) (g : t) → mask ≡ g.handle.mask →
       query_cause s session (EnumKey h index room) c ≡ (refuse (not (has 8 mask)) 5 or asked c or refuse
@@ -83,6 +107,16 @@ module _ (n : JournalEnd) (store : Store) (session h c : ℕ) where
   pub key-due : (index room : ℕ) (g : t) → body_of s session (EnumKey h index room) ≡ key_told (get tree (get_or (children_of tree g.path) index [])) room
   unfolding body_of
   key-due index room g = ap (λ (q : Path). key_told (get tree (get_or (children_of tree q) index [])) room) (target-at store session h g)
+
+  -- what is told of the subkey at an index, or that there is none, is due
+  pub key-read : (index room mask : ℕ) (g : t) (body : AnswerBody) → mask ≡ g.handle.mask → has 8 mask ≡ true → asked c ≡ None →
+      IsSubkeyTold tree g.path index room body → due_by c s session (EnumKey h index room) ≡ body
+  key-read index room mask g body m right asks (inl x) =
+      let past : nat_le (length (children_of tree g.path)) index ≡ true = let l = x.0 in grind (arith, nat_tests, l) in
+      refusal-due s session c 259 (EnumKey h index room) (key-causes index room mask g m ∙ rw (right, asks, past) refl) ∙ sym x.1
+  key-read index room mask g body m right asks (inr x) =
+      let below : nat_le (length (children_of tree g.path)) index ≡ false = let l = x.0 in grind (arith, nat_tests, l) in
+      body-due s session c (EnumKey h index room) _ (key-causes index room mask g m ∙ rw (right, asks, below) refl) (key-due index room g ∙ sym x.1)
 
   -- ---- EnumValue
 
@@ -190,9 +224,12 @@ pub found_not : (members : List Member) (o : Option Member) → IsFound members 
 found_not members None h = refl
 found_not members (Some m) h = absurd h
 
--- a mask that has QUERY_VALUE
+-- a mask that has QUERY_VALUE, or ENUMERATE_SUB_KEYS
 pub allowed_is : (mask : ℕ) → bit_and mask 1 ≡ 1 → has 1 mask ≡ true
 allowed_is mask e = grind (arith, nat_tests)
+
+pub enumerable_is : (mask : ℕ) → bit_and mask 8 ≡ 8 → has 8 mask ≡ true
+enumerable_is mask e = grind (arith, nat_tests)
 
 -- a tree made of its root has it
 pub made-rooted : (t : Tree) (r : Rec) → t ≡ insert empty [] r → IsSome (get t [])

@@ -19,17 +19,20 @@ ghost use Rattle.reg_callbacks.specs.declared.callbacks.TheConstants.{REGISTRATI
 ghost use Rattle.reg_callbacks.specs.Rows.{is_falling, is_among, IsOneMore};
 ghost use Rattle.reg_callbacks.specs.Lists.{rows_of, altitudes_of, cookies_of, made_of};
 ghost use Rattle.reg_calls.specs.Cuts.{fault_of_cut, IsCut};
+ghost use Rattle.reg_calls.specs.Rooms.{IsValueRead, IsKeyRead, TellsValue, TellsKey};
 ghost use Rattle.reg_calls.specs.Views.{next_of, state, told_in, IsApplied, IsRead, IsHive, IsNoticeTaken};
 
 use crate::cut::CutFault;
+use crate::enum_key::KeyTold;
 use crate::hive_core::{Core, refuse};
+use crate::query_value::ValueTold;
 use reg_arena::Arena;
 use reg_callbacks::{Callback, CallbackFault, Callbacks, Cookie};
 use reg_heap::limits::DESCRIPTOR_LIMIT;
 use reg_journal::{SeatFault, Share};
 use reg_model::statuses::BAD_DATABASE;
 use reg_model::{
-    Answer, AnswerBody, Call, Change, ChangeReply, Entry, Notice, Outcome, Query, Step,
+    Answer, AnswerBody, Bytes, Call, Change, ChangeReply, Entry, Notice, Outcome, Query, Step,
 };
 use reg_names::check_key_name;
 use reg_tree::Tree;
@@ -347,6 +350,40 @@ impl<C: Callback> Hive<C> {
             };
         }
         self.core.read(&self.callbacks, share.session(), query)
+    }
+
+    /// Answers a QueryValue of a share's session for a value of that name, as `read` does, with the value's data written over the front of
+    /// a room, which else stays as it was. A room of no byte asks for the size alone. 234 where the data has more bytes than the room, with
+    /// its type and size. It takes no memory, so 8 comes only where a callback answers it.
+    pub fn read_value(&self, share: &Share, handle: u64, name: Bytes, room: &mut [u8]) -> ValueTold
+        ensures order { is_falling (altitudes_of (callbacks_of self.now)) ≡ true }
+        ensures told { IsCurrent (noted_of self.now) (view_of self.now).journal share.now →
+            IsValueRead (asks_of C.answers self.now) (state (view_of self.now)) share.now.session handle name result room.old room.new }
+        ensures stale { (IsCurrent (noted_of self.now) (view_of self.now).journal share.now → ⊥) →
+            TellsValue (Refused BAD_DATABASE) result room.old room.new }
+    {
+        if !self.core.is_current(share) {
+            return ValueTold::refused(BAD_DATABASE);
+        }
+        self.core
+            .read_value(&self.callbacks, share.session(), handle, name, room)
+    }
+
+    /// Answers an EnumKey of a share's session for the subkey at an index, as `read` does, with its name written over the front of a
+    /// room, which else stays as it was. 234 where the name has more bytes than the room, with its size. It takes no memory, so 8 comes only
+    /// where a callback answers it.
+    pub fn read_subkey(&self, share: &Share, handle: u64, index: u32, room: &mut [u8]) -> KeyTold
+        ensures order { is_falling (altitudes_of (callbacks_of self.now)) ≡ true }
+        ensures told { IsCurrent (noted_of self.now) (view_of self.now).journal share.now →
+            IsKeyRead (asks_of C.answers self.now) (state (view_of self.now)) share.now.session handle index result room.old room.new }
+        ensures stale { (IsCurrent (noted_of self.now) (view_of self.now).journal share.now → ⊥) →
+            TellsKey (Refused BAD_DATABASE) result room.old room.new }
+    {
+        if !self.core.is_current(share) {
+            return KeyTold::refused(BAD_DATABASE);
+        }
+        self.core
+            .read_subkey(&self.callbacks, share.session(), handle, index, room)
     }
 
     /// The refusal that a change of a share's session would meet at this moment (100 ns units since 1601), if there is one: 1009 as of

@@ -14,9 +14,12 @@ ghost use Rattle.reg_callbacks.specs.Asking.{asks};
 ghost use Rattle.reg_callbacks.specs.Lists.{answers_of};
 ghost use Rattle.reg_calls.specs.Shortages.{is_closing};
 ghost use Rattle.reg_calls.specs.Cuts.{fault_of_cut, IsCut};
+ghost use Rattle.reg_calls.specs.Rooms.{IsValueRead, IsKeyRead};
 ghost use Rattle.reg_calls.specs.Views.{next_of, state, told_in, IsApplied, IsRead, IsHive, IsNoticeTaken};
 
 use crate::cut::CutFault;
+use crate::enum_key::KeyTold;
+use crate::query_value::{ValueTold, asked_room, size_in_32_bits};
 use crate::quiet::Quiet;
 use crate::store::{JournalEnd, Store};
 use reg_arena::Arena;
@@ -25,7 +28,7 @@ use reg_handles::Handles;
 use reg_journal::{Journal, SeatFault, Share};
 use reg_model::limits::NUMBERS_LIMIT;
 use reg_model::statuses::NOT_ENOUGH_MEMORY;
-use reg_model::{Answer, Change, ChangeReply, Entry, Notice, Query};
+use reg_model::{Answer, Bytes, Change, ChangeReply, Entry, Notice, Query};
 use reg_notify::Watches;
 use reg_tree::Tree;
 use std::alloc::{AllocError, Global};
@@ -430,5 +433,43 @@ impl Core {
             at: self.journal.len() as u64,
             body,
         }
+    }
+
+    /// Answers a QueryValue, with the value's data written over the front of a room.
+    pub fn read_value<C: Callback>(
+        &self,
+        callbacks: &Callbacks<C>,
+        session: u8,
+        handle: u64,
+        name: Bytes,
+        room: &mut [u8],
+    ) -> ValueTold
+        ensures { IsValueRead (asks (answers_of C.answers callbacks.now)) (state self.now.view) session handle name result room.old room.new }
+    {
+        let query = Query::QueryValue {
+            handle,
+            name,
+            room: asked_room(room),
+        };
+        self.store.answer_value(callbacks, session, &query, room)
+    }
+
+    /// Answers an EnumKey, with the subkey's name written over the front of a room.
+    pub fn read_subkey<C: Callback>(
+        &self,
+        callbacks: &Callbacks<C>,
+        session: u8,
+        handle: u64,
+        index: u32,
+        room: &mut [u8],
+    ) -> KeyTold
+        ensures { IsKeyRead (asks (answers_of C.answers callbacks.now)) (state self.now.view) session handle index result room.old room.new }
+    {
+        let query = Query::EnumKey {
+            handle,
+            index,
+            room: size_in_32_bits(room),
+        };
+        self.store.answer_subkey(callbacks, session, &query, room)
     }
 }

@@ -40,7 +40,8 @@
 //! that what it does to them; and its `commit`, which takes just what was found and searches the tree no more. All watches are ended at
 //! one place, in `announced.rt`, by what was announced. Where a path's text is copied, `find` makes all tests first, and `admit` copies it
 //! behind them; so `cause.rt` tells the first refusal without memory. A question's file has its `answer`. 234, of a descriptor 122,
-//! tells that the room is short, with the size.
+//! tells that the room is short, with the size. [`Hive::read_value`] and [`Hive::read_subkey`] answer a QueryValue and an EnumKey by the
+//! caller's room, without a copy between.
 //!
 //! DeleteTree by the empty path asks 0x1000B and never answers 2: the handle's key stays, but loses all keys below it and its values;
 //! its time is set where it had any of them.
@@ -82,5 +83,7 @@ mod store;
 mod value_copy;
 
 pub use cut::CutFault;
+pub use enum_key::KeyTold;
 pub use hive::{Hive, NewFault, RunFault};
+pub use query_value::{ValueTold, asked_room, size_in_32_bits};
 pub use seated::{SeatedHive, apply_by, read_by};

@@ -3,9 +3,13 @@ ghost use Rattle.reg_calls.specs.Internal.Stores.{at, KnowsKeys};
 ghost use Rattle.reg_callbacks.specs.Asking.{asks};
 ghost use Rattle.reg_callbacks.specs.Lists.{answers_of};
 ghost use Rattle.reg_calls.specs.Views.{IsRead};
+ghost use Rattle.reg_calls.specs.Rooms.{due, TellsValue, TellsKey};
+ghost use Rattle.reg_calls.specs.Internal.RoomQuestions.{AsksValue, AsksKey};
 ghost use Rattle.reg_calls.specs.declared.store.JournalEnd.{JournalEnd};
 
 use crate::asking::Asking;
+use crate::enum_key::KeyTold;
+use crate::query_value::ValueTold;
 use crate::store::Store;
 use crate::{enum_key, enum_value, get_security, query_info, query_value};
 use reg_callbacks::{Callback, Callbacks, Seen};
@@ -59,6 +63,62 @@ impl Store {
             Query::GetSecurity { handle, room } => {
                 get_security::answer(self, &asking, alloc, session, *handle, *room)
             }
+        }
+    }
+
+    /// Answers a QueryValue, as `answer` does, with the value's data written over the front of a room. It takes no memory.
+    pub fn answer_value<C: Callback>(
+        &self,
+        callbacks: &Callbacks<C>,
+        session: u8,
+        query: &Query,
+        room: &mut [u8],
+    ) -> ValueTold
+        requires keys { KnowsKeys self.now }
+        requires value { AsksValue query.now room.old }
+        ensures { (end : JournalEnd) → TellsValue (due (asks (answers_of C.answers callbacks.now)) (at end self.now) session query.now) result room.old room.new }
+    {
+        let asking = Asking {
+            callbacks,
+            session,
+            moment: 0,
+            seen: Seen::Query(query),
+        };
+        match query {
+            Query::QueryValue {
+                handle,
+                name,
+                room: _,
+            } => query_value::answer_into(self, &asking, session, *handle, name.as_slice(), room),
+            _ => unreachable!(),
+        }
+    }
+
+    /// Answers an EnumKey, as `answer` does, with the subkey's name written over the front of a room. It takes no memory.
+    pub fn answer_subkey<C: Callback>(
+        &self,
+        callbacks: &Callbacks<C>,
+        session: u8,
+        query: &Query,
+        room: &mut [u8],
+    ) -> KeyTold
+        requires keys { KnowsKeys self.now }
+        requires subkey { AsksKey query.now room.old }
+        ensures { (end : JournalEnd) → TellsKey (due (asks (answers_of C.answers callbacks.now)) (at end self.now) session query.now) result room.old room.new }
+    {
+        let asking = Asking {
+            callbacks,
+            session,
+            moment: 0,
+            seen: Seen::Query(query),
+        };
+        match query {
+            Query::EnumKey {
+                handle,
+                index,
+                room: _,
+            } => enum_key::answer_into(self, &asking, session, *handle, *index, room),
+            _ => unreachable!(),
         }
     }
 }

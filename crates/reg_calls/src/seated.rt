@@ -7,13 +7,16 @@ ghost use Rattle.reg_calls.specs.HiveView.{view_of, noted_of, callbacks_of, asks
 ghost use Rattle.reg_journal.specs.Kept.{row_of};
 ghost use Rattle.reg_calls.specs.Cuts.{fault_of_cut, IsCut};
 ghost use Rattle.reg_calls.specs.Views.{next_of, state, IsApplied, IsNoticeTaken, IsRead};
+ghost use Rattle.reg_calls.specs.Rooms.{IsValueRead, IsKeyRead};
 ghost use Rattle.reg_calls.specs.Seats.{AreSeated};
 
 use crate::cut::CutFault;
+use crate::enum_key::KeyTold;
 use crate::hive::Hive;
+use crate::query_value::ValueTold;
 use reg_callbacks::Callback;
 use reg_journal::{SeatFault, Share};
-use reg_model::{Answer, Change, ChangeReply, Notice, Query};
+use reg_model::{Answer, Bytes, Change, ChangeReply, Notice, Query};
 
 /// Answers a change of a session, below 64, as [`Hive::apply`] does, by its share among those of all sessions. The share is current: 1009
 /// comes only where a callback answers it.
@@ -49,6 +52,38 @@ pub fn read_by<C: Callback>(
     ensures body { IsRead (asks_of C.answers hive.now) (state (view_of hive.now)) session query.now result.body }
 {
     hive.read(&shares[session as usize], query)
+}
+
+/// Answers a question for a value of a session, below 64, as [`Hive::read_value`] does, by its share among those of all sessions.
+fn read_value_by<C: Callback>(
+    hive: &Hive<C>,
+    shares: &Vec<Share>,
+    session: u8,
+    handle: u64,
+    name: Bytes,
+    room: &mut [u8],
+) -> ValueTold
+    requires seated { AreSeated (noted_of hive.now) (view_of hive.now).journal shares.now.items }
+    requires session { session < SESSIONS_LIMIT }
+    ensures { IsValueRead (asks_of C.answers hive.now) (state (view_of hive.now)) session handle name result room.old room.new }
+{
+    hive.read_value(&shares[session as usize], handle, name, room)
+}
+
+/// Answers a question for a subkey of a session, below 64, as [`Hive::read_subkey`] does, by its share among those of all sessions.
+fn read_subkey_by<C: Callback>(
+    hive: &Hive<C>,
+    shares: &Vec<Share>,
+    session: u8,
+    handle: u64,
+    index: u32,
+    room: &mut [u8],
+) -> KeyTold
+    requires seated { AreSeated (noted_of hive.now) (view_of hive.now).journal shares.now.items }
+    requires session { session < SESSIONS_LIMIT }
+    ensures { IsKeyRead (asks_of C.answers hive.now) (state (view_of hive.now)) session handle index result room.old room.new }
+{
+    hive.read_subkey(&shares[session as usize], handle, index, room)
 }
 
 /// A hive with the shares of its 64 sessions: their calls name the session, whose share is current.
@@ -93,6 +128,22 @@ impl<C: Callback> SeatedHive<C> {
         ensures body { IsRead (asks_of C.answers self.now.hive) (state (view_of self.now.hive)) session query.now result.body }
     {
         read_by(&self.hive, &self.shares, session, query)
+    }
+
+    /// Answers a QueryValue of a session, below 64, for a value of that name, as [`Hive::read_value`] does.
+    pub fn read_value(&self, session: u8, handle: u64, name: Bytes, room: &mut [u8]) -> ValueTold
+        requires { session < SESSIONS_LIMIT }
+        ensures told { IsValueRead (asks_of C.answers self.now.hive) (state (view_of self.now.hive)) session handle name result room.old room.new }
+    {
+        read_value_by(&self.hive, &self.shares, session, handle, name, room)
+    }
+
+    /// Answers an EnumKey of a session, below 64, for the subkey at an index, as [`Hive::read_subkey`] does.
+    pub fn read_subkey(&self, session: u8, handle: u64, index: u32, room: &mut [u8]) -> KeyTold
+        requires { session < SESSIONS_LIMIT }
+        ensures told { IsKeyRead (asks_of C.answers self.now.hive) (state (view_of self.now.hive)) session handle index result room.old room.new }
+    {
+        read_subkey_by(&self.hive, &self.shares, session, handle, index, room)
     }
 
     /// Hands a session its next notice, as [`Hive::take_notice`] does.

@@ -72,7 +72,7 @@ impl Tree {
     ghost use Rattle.reg_tree.specs.CellSizes.{BelongsThere, create_sizes, security_sizes, value_sizes, LacksRoom};
     ghost use Rattle.reg_tree.specs.NewHive.{IsNewHive};
     ghost use Rattle.reg_tree.specs.KeyLengths.{ChangesLengths, KeepsLengths, NotesMade, lengths_at, no_lengths, with_value_lengths, with_first_length};
-    ghost use Rattle.reg_tree.specs.ValueAnswers.{IsFound, without_value_at};
+    ghost use Rattle.reg_tree.specs.ValueAnswers.{IsFound, fitted_by, without_value_at};
     ghost use Rattle.reg_tree.specs.Reaching.{IsWalkedTo};
     ghost use Rattle.reg_tree.specs.SubkeyWalk.{IsSubkeyAt, name_length};
     ghost use Rattle.reg_tree.specs.BuiltKeys.{TakesCells};
@@ -331,7 +331,20 @@ impl Tree {
         if self.names.lacks(node.offset, name) {
             return None;
         }
-        values::find(&self.arena, node.offset, name)
+        values::find_into(&self.arena, node.offset, name, &mut [])
+    }
+
+    /// The same, with the value's data copied over the front of a room that has place for it. The rest of the room stays as it was, and so
+    /// does a room that has none. It takes no memory.
+    pub fn find_value_into(&self, node: Node, name: &[u8], room: &mut [u8]) -> Option<ValueFound>
+        requires { IsThere self.now node }
+        ensures found { (p : Path) → IsAt self.now p node → IsFound (values_at self.now.tree p) (value_named name.now (values_at self.now.tree p)) result }
+        ensures room { (p : Path) → IsAt self.now p node → room.new ≡ fitted_by (value_named name.now (values_at self.now.tree p)) room.old }
+    {
+        if self.names.lacks(node.offset, name) {
+            return None;
+        }
+        values::find_into(&self.arena, node.offset, name, room)
     }
 
     /// The index of a key's value of that name, after folding, counted from 0, if it has one. That serves `set_at` and

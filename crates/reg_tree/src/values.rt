@@ -16,7 +16,7 @@ ghost use Rattle.reg_tree.specs.TreeKeys.{tree_in};
 ghost use Rattle.reg_tree.specs.Internal.TreeInvariant.{IsHere, IsChanged};
 ghost use Rattle.reg_tree.specs.KeyLengths.{with_value_lengths};
 ghost use Rattle.reg_tree.specs.Internal.LengthChanges.{LengthsChange, LengthsStay};
-ghost use Rattle.reg_tree.specs.ValueAnswers.{IsFound, without_value_at};
+ghost use Rattle.reg_tree.specs.ValueAnswers.{IsFound, fitted_by, without_value_at};
 
 use crate::key::{note_values, values_list};
 use crate::{TreeFault, ValueFound};
@@ -41,18 +41,21 @@ pub fn index(arena: &Arena, key: u32, name: &[u8]) -> Option<u32>
     reg_values::find(arena, values_list(arena, key), name)
 }
 
-/// The value of that name, after folding, with its index, if the key has one.
-pub fn find(arena: &Arena, key: u32, name: &[u8]) -> Option<ValueFound>
+/// The value of that name, after folding, with its index, if the key has one. Its data is copied over the front of a room that has place
+/// for it; the rest of the room stays as it was, and so does a room that has none. It takes no memory.
+pub fn find_into(arena: &Arena, key: u32, name: &[u8], room: &mut [u8]) -> Option<ValueFound>
     requires { IsHere arena.now.bytes key }
-    ensures { (t : IsHere arena.now.bytes key) →
+    ensures found { (t : IsHere arena.now.bytes key) →
         IsFound (values_at (tree_in arena.now.bytes t.root) t.path)
         (value_named name.now (values_at (tree_in arena.now.bytes t.root) t.path)) result }
+    ensures room { (t : IsHere arena.now.bytes key) →
+        room.new ≡ fitted_by (value_named name.now (values_at (tree_in arena.now.bytes t.root) t.path)) room.old }
 {
     let list = values_list(arena, key);
     let Some(index) = reg_values::find(arena, list, name) else {
         return None;
     };
-    let value = reg_values::at(arena, list, index);
+    let value = reg_values::at_into(arena, list, index, room);
     Some(ValueFound {
         index,
         kind: value.kind,

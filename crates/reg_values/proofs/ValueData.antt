@@ -2,6 +2,7 @@
 pub mod DataPieces
 pub mod SegmentReading
 pub mod FilledRooms
+pub mod FittedRooms
 pub mod DataForms
 pub mod FilledCells
 pub mod StoredData

@@ -1,6 +1,6 @@
 -- Lists of values, before and after a change (Suhanov, Windows registry file format specification, "Key values list",
 -- "Key value").
-use Rattle.std.specs.Prelude.{◌≡◌, ℕ, ◌+◌, ◌<◌, ◌≤◌, IsSome, Some, None, List, map, length}
+use Rattle.std.specs.Prelude.{◌≡◌, ℕ, ◌+◌, ◌<◌, ◌≤◌, ◌++◌, nat_lt, if◌then◌else◌, IsSome, Some, None, List, map, length, drop}
 use Rattle.reg_heap.specs.Paths.{Member}
 use Rattle.reg_heap.specs.Members.{value_named}
 use Rattle.reg_heap.specs.Heaps.{Heap, CellFrame, allocated}
@@ -52,6 +52,10 @@ pub record Tells (member : Member) (name : List ℕ) (kind size : ℕ) : Type 0 
   pub name_is : name ≡ member.name
   pub kind_is : kind ≡ member.kind
   pub size_is : size ≡ length member.bytes
+
+-- a room with all of these bytes over its front, and the rest as it was; a room that has no place for them all as it was
+abbrev pub fitted : List ℕ → List ℕ → List ℕ
+fitted bytes room = if nat_lt (length room) (length bytes) then room else bytes ++ drop (length bytes) room
 
 -- each cell that was there, and still is, holds as many bytes as before
 abbrev pub KeepsSizes : Heap → Heap → Type 0

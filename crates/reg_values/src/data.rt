@@ -9,13 +9,13 @@ ghost use Rattle.reg_heap.specs.Paths.{Member};
 ghost use Rattle.reg_heap.specs.Kinds.{Found};
 ghost use Rattle.reg_arena.specs.Arena.{heap_of};
 ghost use Rattle.reg_shape.specs.Nodes.{members_at, data_at};
-ghost use Rattle.reg_values.specs.ValueLists.{AreValues, OfRead};
+ghost use Rattle.reg_values.specs.ValueLists.{AreValues, OfRead, Tells, fitted};
 ghost use Rattle.reg_values.specs.Internal.ValueListParts.{Owns, GivesUpRead, Fills, HaveRoom, HoldsData};
 ghost use Rattle.reg_values.specs.ValueSizes.{data_sizes};
 
 use crate::big::{big_bytes, fill_big, free_big, put_big};
 use crate::finding::{cell_of, record_at, size_in};
-use crate::{INLINE, INLINE_LIMIT, ValuesList};
+use crate::{INLINE, INLINE_LIMIT, Value, ValuesList};
 use reg_arena::Arena;
 use reg_records::{SEGMENT_SIZE, ValueFields};
 use std::alloc::{AllocError, Global};
@@ -80,6 +80,28 @@ pub fn fill_bytes(arena: &Arena, list: ValuesList, index: u32, room: &mut [u8])
 {
     let fields = record_at(arena, cell_of(arena, list, index)).fields;
     fill_data(arena, fields, room);
+}
+
+/// The value at an index of the list, counted from 0, with its data copied over the front of a room that has place for it. The rest of
+/// the room stays as it was, and so does a room that has no place for it. It takes no memory.
+pub fn at_into<'a>(arena: &'a Arena, list: ValuesList, index: u32, room: &mut [u8]) -> Value<'a>
+    requires values { AreValues (heap_of arena.now) list.count list.offset }
+    requires index { index < list.count }
+    ensures { OfRead (members_at list.count list.offset) (heap_of arena.now) (λ members met. (member : Member)
+        × (slice_get members index ≡ Some member) × Tells member result.name.now result.kind result.size
+        × (room.new ≡ fitted member.bytes room.old)) }
+{
+    let record = record_at(arena, cell_of(arena, list, index));
+    let value = Value {
+        name: record.name,
+        kind: record.fields.kind,
+        size: size_in(record.fields.size),
+    };
+    if room.len() < value.size as usize {
+        return value;
+    }
+    fill_data(arena, record.fields, room);
+    value
 }
 
 /// Copies bytes over the front of a room that has place for them. The rest of the room stays as it was.

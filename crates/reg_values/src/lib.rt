@@ -26,7 +26,7 @@ mod removing;
 mod replace;
 mod setting;
 
-pub use data::{bytes_of, fill_bytes};
+pub use data::{at_into, bytes_of, fill_bytes};
 pub use extending::extend;
 pub use finding::{LargestValues, Value, at, find, largest};
 pub use making::{NewValue, front_of_one_carve, front_of_one_more_carve, make};

@@ -1,5 +1,5 @@
 -- What calls do with the hive that C holds.
-use Rattle.std.specs.Prelude.{◌≡◌, ℕ, ◌<◌, ◌≤◌, ◌⊎◌, List, [], length, Option, Some, None, unwrap_or}
+use Rattle.std.specs.Prelude.{◌≡◌, ℕ, ◌<◌, ◌≤◌, ◌⊎◌, nat_lt, if◌then◌else◌, List, [], length, Option, Some, None, unwrap_or}
 use Rattle.reg_model.specs.declared.statuses.TheConstants.{INVALID_HANDLE, INVALID_PARAMETER, NOT_ENOUGH_MEMORY}
 use Rattle.reg_model.specs.declared.limits.TheConstants.{SESSIONS_LIMIT}
 use Rattle.reg_model.specs.Replies.{refusal}
@@ -16,6 +16,7 @@ use Rattle.reg_callbacks.specs.declared.callback.NoCallback.{NoCallback}
 use Rattle.reg_callbacks.specs.Asking.{Answers as Answering}
 use Rattle.reg_calls.specs.HiveView.{view_of, asks_of}
 use Rattle.reg_calls.specs.Views.{View, state, IsApplied, IsRead}
+use Rattle.reg_calls.specs.Rooms.{due}
 use Rattle.zugmeled.specs.Held.{HeldHive}
 
 -- no callback refuses
@@ -94,3 +95,14 @@ Replies old new session moment change Tells = (reply : ChangeReply) × IsReplied
 
 abbrev pub Answers : Option HeldHive → ℕ → Query → (AnswerBody → Type 0) → Type 0
 Answers hive session query Tells = (body : AnswerBody) × IsAnswered hive session query body × Tells body
+
+-- the answer that is due to a question of a session; with no hive 6, else of a session from 64 on 87
+abbrev pub due_of : Option HeldHive → ℕ → Query → AnswerBody
+due_of None session query = Refused INVALID_HANDLE
+due_of (Some hive) session query =
+    if nat_lt session SESSIONS_LIMIT then due (asks hive) (state (seen hive)) session query else Refused INVALID_PARAMETER
+
+-- that answer is told, or that memory is lacking for a copy of what was given
+abbrev pub IsDueTold : Option HeldHive → ℕ → Query → (AnswerBody → Type 0) → Type 0
+IsDueTold hive session query Tells =
+    (QueryTakesMemory query × (status : ℕ) × IsLack hive session status × Tells (Refused status)) ⊎ Tells (due_of hive session query)

@@ -1,23 +1,16 @@
 -- What goes out of an answer or a notice to the caller's variables and rooms. Each question is answered by bodies of its own kind, by short ones
 -- and by refusals; of another one, which never comes, 87 is told.
-use Rattle.std.specs.Prelude.{◌≡◌, ℕ, min, nat_eq, List, length, if◌then◌else◌, Option, Some, None}
+use Rattle.std.specs.Prelude.{◌≡◌, ℕ, List, Option, Some, None}
 use Rattle.std.specs.Option.{unwrap_or}
 use Rattle.reg_model.specs.declared.statuses.TheConstants.{INVALID_PARAMETER, NO_MORE_ITEMS}
 use Rattle.reg_model.specs.declared.answer.AnswerBody.{AnswerBody}
-use Rattle.reg_model.specs.declared.answer.AnswerBody.TheVariants.{Refused, Short, Value, Key, Member, Info, Security}
+use Rattle.reg_model.specs.declared.answer.AnswerBody.TheVariants.{Refused, Short, Member, Info, Security}
 use Rattle.reg_model.specs.declared.notice.Notice.{Notice}
 use Rattle.reg_model.specs.declared.notice.Reason.{Reason}
 use Rattle.reg_model.specs.declared.notice.Reason.TheVariants.{Matched, Gone, Closed}
 use Rattle.reg_tree_image.specs.Rooms.{filled}
+use Rattle.reg_calls.specs.Rooms.{size_of}
 use Rattle.zugmeled.specs.declared.told.ZugInfo.{ZugInfo}
-
--- how many bytes there are, as 32 bits tell it
-abbrev pub size_of : List ℕ → ℕ
-size_of bytes = min (length bytes) 4294967295
-
--- how many bytes a room asks for: one of no byte asks for the size alone
-abbrev pub asked_of : List ℕ → Option ℕ
-asked_of room = if nat_eq (length room) 0 then None else Some (size_of room)
 
 -- a number that is there, or 0
 abbrev pub or_zero : Option ℕ → ℕ
@@ -27,20 +20,6 @@ or_zero number = unwrap_or number 0
 abbrev pub filled_if : Option (List ℕ) → List ℕ → List ℕ
 filled_if None room = room
 filled_if (Some bytes) room = filled bytes room
-
--- a value: its type, its size, and its bytes over the front of the room, where they are told
-abbrev pub TellsValue : AnswerBody → (status kind size : ℕ) → (old new : List ℕ) → Type 0
-TellsValue (Value k n bytes) status kind size old new = (status ≡ 0) × (kind ≡ k) × (size ≡ n) × (new ≡ filled_if bytes old)
-TellsValue (Short s k n) status kind size old new = (status ≡ s) × (kind ≡ k) × (size ≡ n) × (new ≡ old)
-TellsValue (Refused s) status kind size old new = (status ≡ s) × (kind ≡ 0) × (size ≡ 0) × (new ≡ old)
-TellsValue other status kind size old new = (status ≡ INVALID_PARAMETER) × (kind ≡ 0) × (size ≡ 0) × (new ≡ old)
-
--- a subkey: its name over the front of the room, with its size, and its time; of a room that is too short the size alone
-abbrev pub TellsKey : AnswerBody → (status size time : ℕ) → (old new : List ℕ) → Type 0
-TellsKey (Key name t) status size time old new = (status ≡ 0) × (size ≡ size_of name) × (time ≡ t) × (new ≡ filled name old)
-TellsKey (Short s k n) status size time old new = (status ≡ s) × (size ≡ n) × (time ≡ 0) × (new ≡ old)
-TellsKey (Refused s) status size time old new = (status ≡ s) × (size ≡ 0) × (time ≡ 0) × (new ≡ old)
-TellsKey other status size time old new = (status ≡ INVALID_PARAMETER) × (size ≡ 0) × (time ≡ 0) × (new ≡ old)
 
 -- a value at a place: its name over the front of one room, with its size, its type, and its bytes over the front of the other room, where
 -- they are told, with their size; of rooms of which one is too short the type and the size of the bytes

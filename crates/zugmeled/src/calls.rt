@@ -1,13 +1,15 @@
 //! The calls of the rules, answered by the hive that C holds.
 ghost use Rattle.std.specs.Prelude.{◌≡◌, ℕ, IfOk, OnErr};
 ghost use Rattle.reg_model.specs.Replies.{refusal};
-ghost use Rattle.reg_model.specs.declared.answer.AnswerBody.TheVariants.{Refused};
-ghost use Rattle.zugmeled.specs.Calls.{IsChanged, IsAsked, IsLack};
+ghost use Rattle.reg_model.specs.declared.call.Query.TheVariants.{QueryValue, EnumKey};
+ghost use Rattle.reg_calls.specs.Rooms.{size_of, asked_of, TellsValue, TellsKey};
+ghost use Rattle.zugmeled.specs.Calls.{IsChanged, IsAsked, IsLack, due_of};
 
 use crate::hive::ZugHive;
+use reg_calls::{KeyTold, ValueTold};
 use reg_model::limits::SESSIONS_LIMIT;
 use reg_model::statuses::{INVALID_HANDLE, INVALID_PARAMETER, NOT_ENOUGH_MEMORY};
-use reg_model::{AnswerBody, Change, ChangeReply, Query};
+use reg_model::{AnswerBody, Bytes, Change, ChangeReply, Query};
 use std::alloc::{AllocError, Global};
 
 /// A refusal.
@@ -98,21 +100,50 @@ pub(crate) fn ask(alloc: Global, hive: &mut ZugHive, session: u8, query: &Query)
     answer.body
 }
 
-/// Answers a question that was made, or refuses one for want of memory.
-pub(crate) fn ask_if(
+/// Answers a question of a session for a value, whose data goes over the front of a room.
+pub(crate) fn ask_value(
     alloc: Global,
     hive: &mut ZugHive,
     session: u8,
-    made: Result<Query, AllocError>,
-) -> AnswerBody
+    handle: u64,
+    name: Bytes,
+    room: &mut [u8],
+) -> ValueTold
     ensures same { hive.new.held.value ≡ hive.old.held.value }
-    ensures made { IfOk made (λ query. IsAsked hive.old.held.value session query result) }
-    ensures lack { OnErr made ((status : ℕ) × IsLack hive.old.held.value session status × (result ≡ Refused status)) }
+    ensures told { TellsValue (due_of hive.old.held.value session (QueryValue handle name (asked_of room.old))) result room.old room.new }
 {
-    match made {
-        Ok(query) => ask(alloc, hive, session, &query),
-        Err(_) => AnswerBody::Refused {
-            status: lack(alloc, hive, session),
-        },
+    let Some(held) = hive.take(alloc) else {
+        return ValueTold::refused(INVALID_HANDLE);
+    };
+    if session as usize >= SESSIONS_LIMIT {
+        hive.put(held);
+        return ValueTold::refused(INVALID_PARAMETER);
     }
+    let told = held.read_value(session, handle, name, room);
+    hive.put(held);
+    told
+}
+
+/// Answers a question of a session for a subkey, whose name goes over the front of a room.
+pub(crate) fn ask_subkey(
+    alloc: Global,
+    hive: &mut ZugHive,
+    session: u8,
+    handle: u64,
+    index: u32,
+    room: &mut [u8],
+) -> KeyTold
+    ensures same { hive.new.held.value ≡ hive.old.held.value }
+    ensures told { TellsKey (due_of hive.old.held.value session (EnumKey handle index (size_of room.old))) result room.old room.new }
+{
+    let Some(held) = hive.take(alloc) else {
+        return KeyTold::refused(INVALID_HANDLE);
+    };
+    if session as usize >= SESSIONS_LIMIT {
+        hive.put(held);
+        return KeyTold::refused(INVALID_PARAMETER);
+    }
+    let told = held.read_subkey(session, handle, index, room);
+    hive.put(held);
+    told
 }

@@ -11,8 +11,8 @@
 //! keeps the rest as it was.
 //!
 //! `lives` makes, loads (from an `input`) and closes a hive, `journals` counts and cuts its entries, `images` hands out its image.
-//! `changes` and `questions` are the calls of the rules, which `calls` answers; `makers` copies what a change or a question needs, `told`
-//! writes an answer to the caller's rooms. `lists` tells keys by their paths, with no handle and no copy between, and `with_values` subkeys
+//! `changes` and `questions` are the calls of the rules, which `calls` answers; `makers` copies what a change needs, `told` writes an answer
+//! to the caller's rooms, but for a value's data and a subkey's name, which the hive writes there. `lists` tells keys by their paths, with no handle and no copy between, and `with_values` subkeys
 //! with all their values. `notices` hands out notices, `causes` tells the refusal that a change would meet.
 #![tactic(auto)]
 

@@ -1,11 +1,10 @@
-//! Changes and questions, with a copy of what they need. A copy lacks memory only where it takes some.
+//! Changes, with a copy of what they need. A copy lacks memory only where it takes some.
 ghost use Rattle.std.specs.Prelude.{◌≡◌, IfOk, OnErr};
 ghost use Rattle.reg_model.specs.declared.call.Change.TheVariants.{OpenKey, CreateKey, SetValue, DeleteValue, DeleteKey, DeleteTree, SetSecurity};
-ghost use Rattle.reg_model.specs.declared.call.Query.TheVariants.{QueryValue};
-ghost use Rattle.zugmeled.specs.Calls.{IsLong, ChangeTakesMemory, QueryTakesMemory};
+ghost use Rattle.zugmeled.specs.Calls.{IsLong, ChangeTakesMemory};
 ghost use Rattle.zugmeled.specs.Makers.{given_of};
 
-use reg_model::{Bytes, Change, Query};
+use reg_model::{Bytes, Change};
 use std::alloc::{AllocError, Global};
 
 #[tactic(auto, unfolding(crate::specs::Calls::ChangeTakesMemory))]
@@ -124,22 +123,6 @@ pub(crate) fn set_security(
 {
     match Bytes::from_slice(alloc, descriptor) {
         Ok(descriptor) => Ok(Change::SetSecurity { handle, descriptor }),
-        Err(lack) => Err(lack),
-    }
-}
-
-#[tactic(auto, unfolding(crate::specs::Calls::QueryTakesMemory))]
-pub(crate) fn query_value(
-    alloc: Global,
-    handle: u64,
-    name: &[u8],
-    room: Option<u32>,
-) -> Result<Query, AllocError>
-    ensures made { IfOk result (λ query. query ≡ QueryValue handle name.now room) }
-    ensures lack { OnErr result (QueryTakesMemory (QueryValue handle name.now room)) }
-{
-    match Bytes::from_slice(alloc, name) {
-        Ok(name) => Ok(Query::QueryValue { handle, name, room }),
         Err(lack) => Err(lack),
     }
 }

@@ -1,15 +1,35 @@
 //! The calls that ask a hive.
 ghost use Rattle.std.specs.Prelude.{◌≡◌, []};
 ghost use Rattle.reg_model.specs.declared.call.Query.TheVariants.{QueryValue, EnumKey, EnumValue, QueryInfo, GetSecurity};
-ghost use Rattle.zugmeled.specs.Calls.{Answers};
-ghost use Rattle.zugmeled.specs.Told.{size_of, asked_of, TellsValue, TellsKey, TellsMember, TellsInfo, TellsSecurity};
+ghost use Rattle.zugmeled.specs.Calls.{Answers, IsDueTold, due_of};
+ghost use Rattle.reg_calls.specs.Rooms.{size_of, asked_of, TellsValue, TellsKey};
+ghost use Rattle.zugmeled.specs.Told.{TellsMember, TellsInfo, TellsSecurity};
 
-use crate::calls::{ask, ask_if};
+use crate::calls::{ask, ask_subkey, ask_value, lack};
 use crate::hive::ZugHive;
+use crate::told;
 use crate::told::ZugInfo;
-use crate::{makers, told};
-use reg_model::Query;
+use reg_calls::{ValueTold, asked_room, size_in_32_bits};
+use reg_model::{Bytes, Query};
 use std::alloc::Global;
+
+/// Tells a value by its name, of which it makes a copy.
+fn value_told(
+    alloc: Global,
+    hive: &mut ZugHive,
+    session: u8,
+    handle: u64,
+    name: &[u8],
+    room: &mut [u8],
+) -> ValueTold
+    ensures same { hive.new.held.value ≡ hive.old.held.value }
+    ensures told { IsDueTold hive.old.held.value session (QueryValue handle name.now (asked_of room.old)) (λ body. TellsValue body result room.old room.new) }
+{
+    match Bytes::from_slice(alloc, name) {
+        Ok(name) => ask_value(alloc, hive, session, handle, name, room),
+        Err(_) => ValueTold::refused(lack(alloc, hive, session)),
+    }
+}
 
 /// Asks for a value by its name. A room of no byte asks for the size alone.
 #[unsafe(no_mangle)]
@@ -24,11 +44,10 @@ pub extern "C" fn zug_query_value(
     size: &mut u32,
 ) -> u32
     ensures same { hive.new.held.value ≡ hive.old.held.value }
-    ensures told { Answers hive.old.held.value session (QueryValue handle name.now (asked_of room.old))
-        (λ body. TellsValue body result kind.new size.new room.old room.new) }
+    ensures told { IsDueTold hive.old.held.value session (QueryValue handle name.now (asked_of room.old))
+        (λ body. TellsValue body (record { status = result; kind = kind.new; size = size.new }) room.old room.new) }
 {
-    let made = makers::query_value(alloc, handle, name, told::asked(room));
-    let value = told::tell_value(ask_if(alloc, hive, session, made), room);
+    let value = value_told(alloc, hive, session, handle, name, room);
     *kind = value.kind;
     *size = value.size;
     value.status
@@ -47,15 +66,10 @@ pub extern "C" fn zug_enum_key(
     time: &mut u64,
 ) -> u32
     ensures same { hive.new.held.value ≡ hive.old.held.value }
-    ensures told { Answers hive.old.held.value session (EnumKey handle index (size_of name_room.old))
-        (λ body. TellsKey body result name_size.new time.new name_room.old name_room.new) }
+    ensures told { TellsKey (due_of hive.old.held.value session (EnumKey handle index (size_of name_room.old)))
+        (record { status = result; size = name_size.new; time = time.new }) name_room.old name_room.new }
 {
-    let query = Query::EnumKey {
-        handle,
-        index,
-        room: told::size(name_room),
-    };
-    let key = told::tell_key(ask(alloc, hive, session, &query), name_room);
+    let key = ask_subkey(alloc, hive, session, handle, index, name_room);
     *name_size = key.size;
     *time = key.time;
     key.status
@@ -82,8 +96,8 @@ pub extern "C" fn zug_enum_value(
     let query = Query::EnumValue {
         handle,
         index,
-        name_room: told::size(name_room),
-        room: told::asked(room),
+        name_room: size_in_32_bits(name_room),
+        room: asked_room(room),
     };
     let member = told::tell_member(ask(alloc, hive, session, &query), name_room, room);
     *name_size = member.name_size;
@@ -125,7 +139,7 @@ pub extern "C" fn zug_get_security(
 {
     let query = Query::GetSecurity {
         handle,
-        room: told::size(room),
+        room: size_in_32_bits(room),
     };
     let told = told::tell_security(ask(alloc, hive, session, &query), room);
     *size = told.size;

@@ -1,8 +1,9 @@
 //! Answers, written to the caller's variables and rooms.
 ghost use Rattle.std.specs.Prelude.{◌≡◌};
-ghost use Rattle.zugmeled.specs.Told.{size_of, asked_of, filled_if, TellsValue, TellsKey, TellsMember, TellsInfo, TellsSecurity, reason_number};
+ghost use Rattle.zugmeled.specs.Told.{filled_if, TellsMember, TellsInfo, TellsSecurity, reason_number};
 ghost use Rattle.reg_model.specs.declared.answer.AnswerBody.TheVariants.{Refused};
 
+use reg_calls::size_in_32_bits;
 use reg_model::statuses::INVALID_PARAMETER;
 use reg_model::{AnswerBody, Bytes, Reason};
 use reg_tree_image::fill;
@@ -21,63 +22,11 @@ pub struct ZugInfo {
     pub time: u64,
 }
 
-/// How many bytes there are, at most 4,294,967,295.
-pub(crate) fn size(bytes: &[u8]) -> u32
-    ensures { result ≡ size_of bytes.now }
-{
-    bytes.len().min(4_294_967_295) as u32
-}
-
-/// How many bytes a room asks for: one of no byte asks for the size alone.
-pub(crate) fn asked(room: &[u8]) -> Option<u32>
-    ensures { result ≡ asked_of room.now }
-{
-    if room.len() == 0 {
-        return None;
-    }
-    Some(size(room))
-}
-
 fn fill_if(room: &mut [u8], bytes: Option<Bytes>)
     ensures { room.new ≡ filled_if bytes room.old }
 {
     if let Some(bytes) = bytes {
         fill(room, bytes.as_slice());
-    }
-}
-
-/// A status, with a type and a size.
-#[derive(Clone, Copy)]
-pub(crate) struct Sized {
-    pub(crate) status: u32,
-    pub(crate) kind: u32,
-    pub(crate) size: u32,
-}
-
-/// Writes a value's bytes to a room.
-pub(crate) fn tell_value(body: AnswerBody, room: &mut [u8]) -> Sized
-    ensures { TellsValue body result.status result.kind result.size room.old room.new }
-{
-    match body {
-        AnswerBody::Value { kind, size, bytes } => {
-            fill_if(room, bytes);
-            Sized {
-                status: 0,
-                kind,
-                size,
-            }
-        }
-        AnswerBody::Short { status, kind, size } => Sized { status, kind, size },
-        AnswerBody::Refused { status } => Sized {
-            status,
-            kind: 0,
-            size: 0,
-        },
-        _ => Sized {
-            status: INVALID_PARAMETER,
-            kind: 0,
-            size: 0,
-        },
     }
 }
 
@@ -87,41 +36,6 @@ pub(crate) struct Timed {
     pub(crate) status: u32,
     pub(crate) size: u32,
     pub(crate) time: u64,
-}
-
-/// Writes a subkey's name to a room.
-pub(crate) fn tell_key(body: AnswerBody, room: &mut [u8]) -> Timed
-    ensures { TellsKey body result.status result.size result.time room.old room.new }
-{
-    match body {
-        AnswerBody::Key { name, time } => {
-            fill(room, name.as_slice());
-            Timed {
-                status: 0,
-                size: size(name.as_slice()),
-                time,
-            }
-        }
-        AnswerBody::Short {
-            status,
-            kind: _,
-            size,
-        } => Timed {
-            status,
-            size,
-            time: 0,
-        },
-        AnswerBody::Refused { status } => Timed {
-            status,
-            size: 0,
-            time: 0,
-        },
-        _ => Timed {
-            status: INVALID_PARAMETER,
-            size: 0,
-            time: 0,
-        },
-    }
 }
 
 /// A status, with a name's size, a type and a size.
@@ -148,7 +62,7 @@ pub(crate) fn tell_member(body: AnswerBody, name_room: &mut [u8], room: &mut [u8
             fill_if(room, bytes);
             Listed {
                 status: 0,
-                name_size: size(name.as_slice()),
+                name_size: size_in_32_bits(name.as_slice()),
                 kind,
                 size: long,
             }
@@ -238,7 +152,7 @@ pub(crate) fn tell_security(body: AnswerBody, room: &mut [u8]) -> Timed
             fill(room, bytes.as_slice());
             Timed {
                 status: 0,
-                size: size(bytes.as_slice()),
+                size: size_in_32_bits(bytes.as_slice()),
                 time: 0,
             }
         }

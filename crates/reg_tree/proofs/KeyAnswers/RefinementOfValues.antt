@@ -7,7 +7,7 @@ use Rattle.reg_heap.specs.Members.{value_named, index_named}
 use Rattle.reg_heap.specs.Edits.{values_at}
 use Rattle.reg_arena.specs.Cells.{cell_at}
 use Rattle.reg_shape.specs.Nodes.{members_at}
-use Rattle.reg_values.specs.ValueLists.{Tells}
+use Rattle.reg_values.specs.ValueLists.{Tells, fitted}
 use Rattle.std.proofs.lemmas.Option.{same_Some}
 use Rattle.reg_values.proofs.ValueListing.FoundValues.{offset-within}
 use Rattle.reg_values.proofs.ValueListing.ToldValues.{named-at}
@@ -20,7 +20,7 @@ use Rattle.reg_tree.specs.declared.fault.TreeFault.{TreeFault}
 use Rattle.reg_tree.specs.declared.fault.TreeFault.TheVariants.{Limit}
 use Rattle.reg_tree.specs.Internal.TreeFaults.{of_arena}
 use Rattle.reg_tree.specs.Internal.KeyNodeChanges.{HasList}
-use Rattle.reg_tree.specs.ValueAnswers.{IsFound}
+use Rattle.reg_tree.specs.ValueAnswers.{IsFound, fitted_by}
 use Rattle.reg_tree.proofs.Invariant.KeyOfTree.{branch, values_are, list_reads, list_length}
 
 module _ (bytes : List ℕ) (key : ℕ) (t : IsHere bytes key) (count offset : ℕ) (has : HasList (cell_at bytes) key count offset) (name : List ℕ) where
@@ -63,6 +63,20 @@ module _ (bytes : List ℕ) (key : ℕ) (t : IsHere bytes key) (count offset : �
       let m = of_members (λ ms. (member : Member) × (slice_get ms index ≡ Some member) × Tells member told kind size) k in
       let is : value_named name members ≡ Some m.0 = named-at name members ∙ (ap (option_and_then (slice_get members)) (sym at) ∙ m.1) in
       subst (λ (o : Option Member). IsFound members o (Some (record { index = index; kind = kind; size = size }))) (sym is) (m.1, m.2.kind_is, m.2.size_is)
+
+  -- the room of a value that wasn't found, and of one that was
+  pub none_fitted : (found : Option ℕ) → ((ms : List Member) (met : List Found) → members_at count offset (cell_at bytes) ≡ Some (ms, met) →
+      found ≡ index_named name ms) → found ≡ None → (room : List ℕ) → room ≡ fitted_by (value_named name members) room
+  none_fitted found h none room = ap (λ (o : Option Member). fitted_by o room) (sym (found_none found h none))
+
+  pub some_fitted : (index : ℕ) → ((ms : List Member) (met : List Found) → members_at count offset (cell_at bytes) ≡ Some (ms, met) → Some index ≡ index_named name ms)
+      → (old new : List ℕ) → ((ms : List Member) (met : List Found) → members_at count offset (cell_at bytes) ≡ Some (ms, met) →
+      (member : Member) × (slice_get ms index ≡ Some member) × (new ≡ fitted member.bytes old)) → new ≡ fitted_by (value_named name members) old
+  some_fitted index h old new k =
+      let at = of_members (λ ms. Some index ≡ index_named name ms) h in
+      let m = of_members (λ ms. (member : Member) × (slice_get ms index ≡ Some member) × (new ≡ fitted member.bytes old)) k in
+      let is : value_named name members ≡ Some m.0 = named-at name members ∙ (ap (option_and_then (slice_get members)) (sym at) ∙ m.1) in
+      subst (λ (o : Option Member). new ≡ fitted_by o old) (sym is) m.2
 
   -- what is told of the value at an index
   pub value_at_told : (index : ℕ) (told : List ℕ) (kind size : ℕ) → ((ms : List Member) (met : List Found) →

@@ -21,7 +21,7 @@ use Rattle.reg_values.specs.ValueLists.{Tells}
 use Rattle.reg_security.specs.Rings.{DescriptorCells}
 use Rattle.reg_tree.specs.declared.names_seen.NamesSeen.{NamesSeen}
 use Rattle.reg_tree.specs.TreeKeys.{tree_in}
-use Rattle.reg_tree.specs.ValueAnswers.{IsFound}
+use Rattle.reg_tree.specs.ValueAnswers.{IsFound, fitted_by}
 use Rattle.reg_tree.specs.Internal.NamesSeen.{may_have, HasNoted, AreNoted}
 use Rattle.reg_tree.specs.Internal.TreeInvariant.{TreeInvariant, IsHere, IsChanged}
 use Rattle.reg_tree.proofs.PruneTree.TreesWithout.{get-edited, same-true}
@@ -113,6 +113,9 @@ module _ (seen : NamesSeen) (bytes : List ℕ) (root : ℕ) (are : AreNoted seen
   lacking_found =
       subst (λ (o : Option Member). IsFound (values_at (tree_in bytes root) path) o None)
       (sym (unnamed name (values_at (tree_in bytes root) path) lacking)) tt
+
+  pub lacking_room : (room : List ℕ) → room ≡ fitted_by (value_named name (values_at (tree_in bytes root) path)) room
+  lacking_room room = ap (λ (o : Option Member). fitted_by o room) (sym (unnamed name (values_at (tree_in bytes root) path) lacking))
 
 -- ---- a value set on a key, whose name was expected
 

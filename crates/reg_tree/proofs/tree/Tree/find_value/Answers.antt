@@ -13,10 +13,10 @@ returns-then-lacks c = λ p at.
     (lacking_found _ _ _ c.self.invariant.1 _ p (here_at _ _ c.self.invariant.0 _ c.self.view_is c.args.node p at).at _
     (c.lacks.ensures.noted c.if-lacks.true) (c.lacks.ensures.lacks c.if-lacks.true))
 
-pub find-requires : goal.find-requires
-find-requires c = there_at _ _ c.self.invariant.0 _ c.self.view_is _ c.requires
+pub find_into-requires : goal.find_into-requires
+find_into-requires c = there_at _ _ c.self.invariant.0 _ c.self.view_is _ c.requires
 
 pub returns : goal.returns
 returns c = λ p at.
-    of_tree _ _ c.self.invariant.0 _ c.self.view_is (λ (t : Tree). IsFound (values_at t p) (value_named c.args.name.now (values_at t p)) c.find.result)
-    (c.find.ensures (here_at _ _ c.self.invariant.0 _ c.self.view_is c.args.node p at))
+    of_tree _ _ c.self.invariant.0 _ c.self.view_is (λ (t : Tree). IsFound (values_at t p) (value_named c.args.name.now (values_at t p)) c.find_into.result)
+    (c.find_into.ensures.found (here_at _ _ c.self.invariant.0 _ c.self.view_is c.args.node p at))

@@ -1,0 +1,14 @@
+use Rattle.std.proofs.Common.{ℕ, subst}
+use Rattle.reg_calls.specs.HiveView.{view_of, noted_of, asks_of}
+use Rattle.reg_calls.specs.Rooms.{IsKeyRead}
+use Rattle.reg_calls.specs.Views.{state}
+use Rattle.reg_calls.proofs.SharesOfHives.{seat-found}
+use Rattle.reg_calls.proofs.seated.read_subkey_by.Goals as goal
+
+pub returns : goal.returns
+returns g c =
+    let hive = c.args.hive.now in
+    let found = seat-found (noted_of hive) (view_of hive).journal c.args.shares.now.items c.args.session c.index.result.now
+    (c.requires.seated.all c.args.session c.requires.session) c.index.ensures in
+    subst (λ (n : ℕ). IsKeyRead (asks_of g.C.Callback.answers hive) (state (view_of hive)) n c.args.handle c.args.index c.read_subkey.result c.args.room.now c.read_subkey.new.room) found.0
+    (c.read_subkey.ensures.told found.1)
