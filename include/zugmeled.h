@@ -23,7 +23,7 @@
  * that needed some. No call ends the process while the stack is enough.
  *
  * What goes out. A call that answers another status than 0 changes nothing of the hive, sets each number that it hands out to 0, and leaves
- * each room, a buffer of yours, as it was. Only 234 and 122 tell a size, and 234 a type, or the first row of several. With 0 a room has the
+ * each room, a buffer of yours, as it was. Only 234 and 122 tell a size, and 234 a type, or a key's row, or the first of several. With 0 a room has the
  * answer at its front; what is behind that stays as it was. Ask the status, not the handle: 0 is a handle's number too.
  *
  * Units. A moment is in units of 100 ns since 1601, in UTC: now it is (uint64_t)(time(NULL) + 11644473600) * 10000000. It becomes the last

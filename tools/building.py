@@ -285,6 +285,8 @@ def build_program(crate, progress):
     if status or not os.path.exists(made):
         raise told(progress, Failed(f"rt run of {crate} ended with {status}"))
     if said_of(made, folder) != read(f"{folder}/stdout"):
+        # Nobody is to be answered by it.
+        os.remove(made)
         raise Failed(f"{os.path.relpath(made)} prints otherwise than its stored run")
     # As old as what it was built of, so that a source that was changed since is newer.
     os.utime(made, (begun, begun))

@@ -1,5 +1,5 @@
-/* Goes through every function of zugmeled.h, and every status that it can answer but 1450 for a journal or for bins that are full, which
- * takes gigabytes, and for 10^18 entries. Then it makes, saves, loads and closes 10,000 hives.
+/* Goes through every function of zugmeled.h, and every status that it can answer but 1450 for a journal that is full, which takes gigabytes,
+ * and for 10^18 entries. Then it makes, saves, loads and closes 10,000 hives.
  *
  *     cc -O2 bindings/c/every_export.c -Wl,--wrap=malloc -Wl,--wrap=realloc \
  *         $(PKG_CONFIG_PATH=dist pkg-config --cflags --libs zugmeled) && ./a.out
@@ -506,6 +506,44 @@ static void counts(void) {
     zug_hive_close(&hive);
 }
 
+/* Sets values of so many bytes until the bins have no room for one more. Their entries are cut meanwhile, which takes a root handle's end. */
+static unsigned fill(zug_hive *hive, char kind, size_t size) {
+    char name[8];
+    for (unsigned made = 0;; made++) {
+        uint64_t root = 7, cut = 7;
+        IS(zug_open_root(hive, 0, MOMENT, ZUG_ALL_ACCESS, &root), 0);
+        snprintf(name, sizeof name, "%c%u", kind, made);
+        uint32_t status = zug_set_value(hive, 0, MOMENT, root, (const uint8_t *)name, strlen(name), 3, long_bytes, size);
+        IS(zug_close(hive, 0, MOMENT, root), 0);
+        IS(zug_hive_cut(hive, &cut), 0);
+        if (status) {
+            IS(status, ZUG_NO_SYSTEM_RESOURCES);
+            return made;
+        }
+    }
+}
+
+/* 1450 where the bins, of 256 MiB at most, have no room. */
+static void full_bins(void) {
+    zug_hive hive = {0};
+    uint64_t root = 7, opened = 7;
+    uint32_t disposition = 7;
+    make(&hive, &root);
+    IS(zug_close(&hive, 0, MOMENT, root), 0);
+    uint64_t cut = 7;
+    IS(zug_hive_cut(&hive, &cut), 0);
+    unsigned made = fill(&hive, 'm', ZUG_DATA_LIMIT);
+    IS(made > 200 && made < 256, true);
+    fill(&hive, 'k', 16000);
+    IS(zug_open_root(&hive, 0, MOMENT, ZUG_ALL_ACCESS, &root), 0);
+    IS(zug_set_security(&hive, 0, MOMENT, root, long_bytes, ZUG_DESCRIPTOR_LIMIT), ZUG_NO_SYSTEM_RESOURCES);
+    IS(zug_create_key(&hive, 0, MOMENT, root, TEXT("k"), 1, long_bytes, ZUG_DESCRIPTOR_LIMIT, &opened, &disposition), ZUG_NO_SYSTEM_RESOURCES);
+    IS(opened == 0 && disposition == 0, true);
+    IS(zug_delete_value(&hive, 0, MOMENT, root, TEXT("m0")), 0);
+    IS(zug_set_security(&hive, 0, MOMENT, root, long_bytes, ZUG_DESCRIPTOR_LIMIT), 0);
+    zug_hive_close(&hive);
+}
+
 static void journals(void) {
     zug_hive hive = {0};
     uint64_t root = 7, entries = 7, kept = 7, cut = 7;
@@ -831,6 +869,7 @@ int main(int count, char **words) {
     nothing_given();
     calls_of_a_hive();
     counts();
+    full_bins();
     journals();
     refusals();
     many(count > 1 ? (unsigned)atoi(words[1]) : 10000);

@@ -90,6 +90,32 @@ class OpenTest(FileTest):
         del hive
         Hive.open(self.path).close()
 
+    def test_lock_beside_a_child(self):
+        hive = Hive.open(self.path)
+        ready, end = os.pipe()
+        child = os.fork()
+        if child == 0:
+            # The child has the descriptor until it ends.
+            os.close(end)
+            os.read(ready, 1)
+            os._exit(0)
+        try:
+            hive.close()
+            Hive.open(self.path).close()
+        finally:
+            os.close(ready)
+            os.close(end)
+            os.waitpid(child, 0)
+
+    def test_a_child_gives_up_no_lock(self):
+        with Hive.open(self.path) as hive:
+            child = os.fork()
+            if child == 0:
+                hive._file.close()
+                os._exit(0)
+            self.assertEqual(os.waitpid(child, 0)[1], 0)
+            self.assertInUse(lambda: Hive.open(self.path))
+
     def test_read_only(self):
         with Hive.open(self.path), Hive.open(self.path, read_only=True) as hive:
             self.assertIsNone(hive.path)
@@ -177,6 +203,36 @@ class SaveTest(FileTest):
             with mock.patch.object(os, "fchown", side_effect=PermissionError(errno.EPERM, "no")):
                 hive.save()
         self.assertEqual(stat.S_IMODE(self.path.stat().st_mode), 0o604)
+
+    def access_list(self):
+        """The file's access list, by its entries: a tag, rights and a number each (acl(5))."""
+        return [*struct.iter_unpack("<HHI", os.getxattr(self.path, _files._ACCESS_LIST)[4:])]
+
+    def test_access_list_is_kept(self):
+        # The owner, user 12345, the group, what all but the owner may at most, and others.
+        nobody = 0xFFFFFFFF
+        entries = [(1, 6, nobody), (2, 6, 12345), (4, 0, nobody), (16, 6, nobody), (32, 0, nobody)]
+        try:
+            os.setxattr(self.path, _files._ACCESS_LIST, struct.pack("<I", 2) + b"".join(struct.pack("<HHI", *it) for it in entries))
+        except (AttributeError, OSError):
+            self.skipTest("the system keeps no access lists here")
+        with Hive.open(self.path) as hive:
+            hive.save()
+        self.assertEqual(self.access_list(), entries)
+        with Hive.open(self.path) as hive, mock.patch.object(os, "setxattr", side_effect=OSError(errno.ENOSPC, "full")):
+            with self.assertRaises(OSError):
+                hive.save()
+        self.assertEqual(self.access_list(), entries)
+        os.removexattr(self.path, _files._ACCESS_LIST)
+        self.path.chmod(0o640)
+        # A folder may give each new file a list.
+        folder = [(1, 7, nobody), (2, 7, 12345), (4, 7, nobody), (16, 7, nobody), (32, 7, nobody)]
+        os.setxattr(self.folder, "system.posix_acl_default", struct.pack("<I", 2) + b"".join(struct.pack("<HHI", *it) for it in folder))
+        with Hive.open(self.path) as hive:
+            hive.save()
+        with open(self.path, "rb") as file:
+            self.assertIsNone(_files._access_list(file.fileno()))
+        self.assertEqual(stat.S_IMODE(self.path.stat().st_mode), 0o640)
 
     def test_links_are_followed(self):
         link = self.folder / "link.hive"

@@ -652,6 +652,11 @@ class ValueTest(HiveTest):
         self.assertStatus(87, self.root.set, name + "n", 3, b"")
         self.assertStatus(87, self.root.set, "\u65e5", 3, b"")
 
+    def test_names_past_ascii_are_none(self):
+        self.assertNotIn("\u65e5", self.root)
+        self.assertEqual(self.root.get("\u65e5", 7), 7)
+        self.assertStatus(87, self.root.value, "\u65e5")
+
     def test_contains(self):
         self.root["Name"] = "n" * 5000
         self.assertIn("NAME", self.root)

@@ -294,6 +294,13 @@ class KeyTest(WinregTest):
         self.assertIsInstance(raised, FileNotFoundError)
         self.assertStatus(2, winreg.DeleteKey, HKEY_CURRENT_USER, "None")
 
+    def test_names_past_ascii_are_missing(self):
+        for call in (winreg.OpenKey, winreg.OpenKeyEx, winreg.DeleteKey, winreg.DeleteKeyEx, winreg.QueryValue, winreg.QueryValueEx, winreg.DeleteValue):
+            with self.subTest(call=call.__name__):
+                self.assertIsInstance(self.assertStatus(2, call, HKEY_CURRENT_USER, "\u65e5"), FileNotFoundError)
+        self.assertStatus(87, winreg.CreateKey, HKEY_CURRENT_USER, "\u65e5")
+        self.assertStatus(87, winreg.SetValueEx, HKEY_CURRENT_USER, "\u65e5", 0, winreg.REG_SZ, "")
+
     def test_paths(self):
         winreg.CreateKey(HKEY_CURRENT_USER, "A\\B").Close()
         for path in ("A\\B\\", "A\\\\B", "a\\b"):

@@ -7,7 +7,7 @@ import errno
 import fcntl
 import os
 import stat
-from typing import Tuple, Union
+from typing import Optional, Tuple, Union
 
 from ._errors import SHARING_VIOLATION, error, with_winerror
 
@@ -16,6 +16,9 @@ Path = Union[str, "os.PathLike[str]"]
 # The bits of a mode by which a program that is run has its file's owner or group, and those that are a group's.
 _RUNNER_BITS = stat.S_ISUID | stat.S_ISGID
 _GROUP_BITS = stat.S_IRWXG
+
+# Where Linux keeps a file's access list. With one the group's bits of the mode say what each on the list may do at most.
+_ACCESS_LIST = "system.posix_acl_access"
 
 # The mode of a file that its owner alone may open, and that of one that is made, less what the program takes from all it makes.
 _OWN_MODE = 0o600
@@ -61,6 +64,7 @@ class HeldFile:
         """Opens a file and takes its lock. InUse where somebody else has it, or just saved the file."""
         # Links are followed now, so that a save replaces the file and no link to it.
         self.path = os.path.realpath(path)
+        self._process = os.getpid()
         self._descriptor = os.open(self.path, os.O_RDWR | os.O_CLOEXEC)
         try:
             _lock(self._descriptor)
@@ -82,14 +86,14 @@ class HeldFile:
 
     @with_winerror
     def replace(self, data: bytes) -> None:
-        """Puts other bytes in the file's place, with its owner, group and permissions. After a fault the file is as it was."""
+        """Puts other bytes in the file's place, with its owner, group, permissions and access list. After a fault the file is as it was."""
         self._check()
         # Nobody but its owner may open it before it has the rights of the other.
         descriptor, name = _create_beside(self.path, _OWN_MODE)
         try:
             # The lock is taken before the name is, so that nobody comes between two saves.
             _lock(descriptor)
-            _permit(descriptor, os.fstat(self._descriptor))
+            _permit(descriptor, self._descriptor)
             _write(descriptor, data)
             os.rename(name, self.path)
         except BaseException:
@@ -109,6 +113,9 @@ class HeldFile:
 
     def close(self) -> None:
         """Gives up the lock. A second time nothing happens."""
+        # A child of this process has the descriptor too, and with it the lock; and it is no child that gives up its parent's.
+        if self._descriptor >= 0 and self._process == os.getpid():
+            fcntl.flock(self._descriptor, fcntl.LOCK_UN)
         self._hold(-1)
 
     def _hold(self, descriptor: int) -> None:
@@ -187,10 +194,35 @@ def _create_beside(path: str, mode: int) -> Tuple[int, str]:
             number += 1
 
 
-def _permit(descriptor: int, standing: os.stat_result) -> None:
-    """Gives a new file what another one has: its owner and group, as far as the system allows it, and its permissions."""
-    others = _give_owner(descriptor, standing)
-    os.fchmod(descriptor, stat.S_IMODE(standing.st_mode) & ~others)
+def _permit(descriptor: int, standing: int) -> None:
+    """Gives a new file what another one has: its owner and group, as far as the system allows it, its permissions, and its access list."""
+    state = os.fstat(standing)
+    others = _give_owner(descriptor, state)
+    listed = _access_list(standing)
+    if listed is None:
+        _unlist(descriptor)
+        os.fchmod(descriptor, stat.S_IMODE(state.st_mode) & ~others)
+        return
+    # Until the list stands, the group's bits would give the group what is another's.
+    os.fchmod(descriptor, stat.S_IMODE(state.st_mode) & ~(others | _GROUP_BITS))
+    if not others & _GROUP_BITS:
+        os.setxattr(descriptor, _ACCESS_LIST, listed)
+
+
+def _access_list(descriptor: int) -> Optional[bytes]:
+    """A file's access list, where it has one and the system keeps such."""
+    try:
+        return os.getxattr(descriptor, _ACCESS_LIST)
+    except (AttributeError, OSError):
+        return None
+
+
+def _unlist(descriptor: int) -> None:
+    """Takes the access list off a new file that its folder gave it, where it has one."""
+    try:
+        os.removexattr(descriptor, _ACCESS_LIST)
+    except (AttributeError, OSError):
+        pass
 
 
 def _give_owner(descriptor: int, standing: os.stat_result) -> int:

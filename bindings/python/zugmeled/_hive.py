@@ -12,7 +12,7 @@ from typing import Any, Callable, Deque, Iterator, List, NamedTuple, Optional, S
 
 from . import _files
 from . import _library as c
-from ._errors import error, load_error
+from ._errors import Error, error, load_error
 from ._values import Value, from_data, kind_for, to_data
 from ._walk import KeyRow, KeyWithValues, Rooms, Step
 
@@ -571,8 +571,10 @@ class Key:
         """What `key[name]` is, or the default where there is no such value."""
         try:
             return self[name]
-        except FileNotFoundError:
-            return default
+        except Error as refused:
+            if _is_absent(refused.winerror, name):
+                return default
+            raise
 
     def set(self, name: str, kind: int, data: bytes) -> None:
         """Sets a value to a type and data, as they are."""
@@ -667,7 +669,7 @@ class Key:
         kind, size = c_uint32(), c_uint32()
         # A room of length 0 asks for type and size alone.
         status = self.hive._ask(c.library.zug_query_value, self, text, len(text), None, 0, kind, size)
-        if status == c.FILE_NOT_FOUND:
+        if _is_absent(status, name):
             return False
         _told(status)
         return True
@@ -774,6 +776,11 @@ def _bytes_of(data: Any) -> bytes:
 def _encoded(text: str) -> bytes:
     # The library refuses what isn't ASCII, in its own order of refusals, so it is handed all that a text may have.
     return text.encode("utf-8", "surrogatepass")
+
+
+def _is_absent(status: Optional[int], name: str) -> bool:
+    """Whether an answer to a question for a value says that there is none of the name. None has letters past ASCII."""
+    return status == c.FILE_NOT_FOUND or status == c.INVALID_PARAMETER and not name.isascii()
 
 
 def _decoded(room: Any, size: int) -> str:

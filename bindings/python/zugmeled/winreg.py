@@ -13,8 +13,9 @@ Instead of hives that Windows has open there are files, which are saved by `Flus
 import itertools
 import os
 import sys
+from contextlib import contextmanager
 from types import TracebackType
-from typing import Any, Dict, List, NamedTuple, Optional, Tuple, Type, Union
+from typing import Any, Dict, Iterator, List, NamedTuple, Optional, Tuple, Type, Union
 
 from . import _files
 from . import _library as _c
@@ -385,7 +386,8 @@ def DeleteValue(key: _KeyType, value: Optional[str], /) -> None:
     """Deletes a value of a key."""
     name = _text(value, "DeleteValue", "value")
     _audit("DeleteValue", key, value)
-    _to_change(_place(key, "")).key.delete_value(name)
+    with _looked_for(name):
+        _to_change(_place(key, "")).key.delete_value(name)
 
 
 def EnumKey(key: _KeyType, index: int, /) -> str:
@@ -447,14 +449,16 @@ def OpenKey(key: _KeyType, sub_key: Optional[str], reserved: int = 0, access: in
     """Opens a key with the rights of a mask."""
     path = _text(sub_key, "OpenKey", "sub_key")
     _audit("OpenKey", key, sub_key, access)
-    return _audited(_open(_place(key, path), access))
+    with _looked_for(path):
+        return _audited(_open(_place(key, path), access))
 
 
 def OpenKeyEx(key: _KeyType, sub_key: Optional[str], reserved: int = 0, access: int = KEY_READ) -> HKEYType:
     """Opens a key with the rights of a mask."""
     path = _text(sub_key, "OpenKeyEx", "sub_key")
     _audit("OpenKey", key, sub_key, access)
-    return _audited(_open(_place(key, path), access))
+    with _looked_for(path):
+        return _audited(_open(_place(key, path), access))
 
 
 def QueryInfoKey(key: _KeyType, /) -> Tuple[int, int, int]:
@@ -471,7 +475,7 @@ def QueryValue(key: _KeyType, sub_key: Optional[str], /) -> str:
     _audit("QueryValue", key, sub_key, None)
     if not path:
         return _default_text(key)
-    with _open(_place(key, path), KEY_QUERY_VALUE) as opened:
+    with _looked_for(path), _open(_place(key, path), KEY_QUERY_VALUE) as opened:
         return _default_text(opened)
 
 
@@ -479,7 +483,8 @@ def QueryValueEx(key: _KeyType, name: Optional[str], /) -> Tuple[Value, int]:
     """The data and the type of a value."""
     text = _text(name, "QueryValueEx", "name")
     _audit("QueryValue", key, None, name)
-    kind, data = _opened_of(key).key.value(text)
+    with _looked_for(text):
+        kind, data = _opened_of(key).key.value(text)
     return from_data(data, kind), kind
 
 
@@ -764,7 +769,19 @@ def _delete(key: Any, path: str) -> None:
         raise _error(_c.ACCESS_DENIED)
     if not place.mount._writable and not _is_there(place.key, place.path):
         raise _error(_c.FILE_NOT_FOUND)
-    _to_change(place).key.delete(place.path)
+    with _looked_for(path):
+        _to_change(place).key.delete(place.path)
+
+
+@contextmanager
+def _looked_for(name: str) -> Iterator[None]:
+    """Tells of a name past ASCII that it isn't there, where the library says that it is none: on Windows it might be one."""
+    try:
+        yield
+    except Error as refused:
+        if refused.winerror == _c.INVALID_PARAMETER and not name.isascii():
+            raise _error(_c.FILE_NOT_FOUND) from None
+        raise
 
 
 def _is_mount_at_or_below(place: _Place) -> bool:

@@ -22,7 +22,7 @@ const FIRST_ROOM: usize = 1024;
 /// A key that was deleted answers [`Status::KEY_DELETED`] to all calls, even where one was made
 /// again under its name. A change may answer [`Status::NO_SYSTEM_RESOURCES`], where a limit is met,
 /// or the hive or its journal is full. A call that is refused changes nothing. Each call but
-/// [`Key::info`] may be [`Status::NOT_ENOUGH_MEMORY`].
+/// [`Key::info`] and [`Key::keys`] may be [`Status::NOT_ENOUGH_MEMORY`].
 pub struct Key<'hive> {
     hive: &'hive Hive,
     handle: Handle,

@@ -1,5 +1,5 @@
-//! Tests that no text can say: which callbacks are asked, copies, images of many bytes, texts of faults, and sessions on threads. There is
-//! nothing here but tests, and so no contract. Tests that are texts are cases of reg_cases.
+//! Tests that no text can say: which callbacks are asked, rows of cells, copies, images of many bytes, texts of faults, and sessions on
+//! threads. There is nothing here but tests, and so no contract. Tests that are texts are cases of reg_cases.
 //!
 //! The wanted replies come from the rules of the calls, the wanted bytes and faults from the format's tables. What a clause says of a
 //! function isn't tested again. A test and each of its helpers are proved, too: so there are few, and they go over tables of rows. Calls
@@ -8,6 +8,8 @@
 
 #[cfg(test)]
 mod asked;
+#[cfg(test)]
+mod cells;
 #[cfg(test)]
 mod copies;
 #[cfg(test)]

@@ -81,6 +81,23 @@ close 1 -> #4 0
 hive 1
 root 983103 -> #1 0 handle 1";
 
+/// Row 16: the callback at the higher altitude is asked first, an altitude is taken once, and a Close is never refused. The first two answer
+/// all calls by `A`'s handles.
+const BY_ALTITUDE: &str = "\
+root 983103 -> #0 0 handle 0
+create 0 =A 983103 -> #1 0 handle 1 disposition 1
+open 0 =A 983103 -> #2 0 handle 2
+open 0 =A 983103 -> #3 0 handle 3
+register 100 87 15 -> cookie 0
+register 200 5 15 -> cookie 1
+set 1 =v 4 x01 -> 5
+close 1 -> #4 0
+unregister 1 -> the box answers 0
+set 2 =v 4 x01 -> 87
+close 2 -> #5 0
+register 100 9 0 -> taken, the box answers 9
+close 3 -> #6 0";
+
 /// A notice is taken of its hive, by its session.
 const TOLD: &str = "\
 hive 1
@@ -313,6 +330,7 @@ fn sessions_in_turn_are_told_what_is_so(rt: HostRuntime) -> Result<(), Fail> {
     play(&rt, alloc, &Cast(KEYED, 1, 1, &[]), GUARDED, "2 ")?;
     play(&rt, alloc, &Cast(KEYED, 2, 2, &[]), IN_TURN, "3 2 ")?;
     play(&rt, alloc, &Cast("", 2, 1, &[]), TWO_GUARDS, "5 2 ")?;
+    play(&rt, alloc, &Cast("", 1, 1, &[]), BY_ALTITUDE, "7 ")?;
     play(&rt, alloc, &Cast("", 2, 2, &[]), TOLD, "0 3 ")?;
     play(&rt, alloc, &Cast("", 1, 1, &[]), ANEW, "7 ")?;
     play(&rt, alloc, &Cast("", 4, 2, &[]), RINGS, "74 74 75 73 ")
