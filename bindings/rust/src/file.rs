@@ -56,8 +56,8 @@ impl HeldFile {
         Ok(bytes)
     }
 
-    /// Puts another file in this one's place, with its owner, group and permissions. After an error
-    /// the file is as it was.
+    /// Puts another file in this one's place, with its owner, group and permissions, but without
+    /// an access list. After an error the file is as it was.
     pub fn replace(&mut self, write: impl FnOnce(&File) -> Result<()>) -> Result<()> {
         self.check()?;
         // Nobody but its owner may open it before it has the rights of the other.

@@ -312,7 +312,8 @@ impl Hive {
     }
 
     /// Saves the hive to its own file: another one is written beside it, synced, and put in its
-    /// place, with its owner, group and permissions. The lock is kept.
+    /// place, with its owner, group and permissions, but without an access list: what the mode gives
+    /// the group then is the group's. The lock is kept.
     ///
     /// # Errors
     /// [`Status::INVALID_HANDLE`] where the hive has no file; [`Status::SHARING_VIOLATION`] where

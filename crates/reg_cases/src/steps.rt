@@ -48,11 +48,11 @@ fn outcome_of<T: Threads + Wait + Sync>(
     })
 }
 
-/// Whether an output is the front of what is wanted that its device takes.
-fn is_front(given: &Given, output: &str) -> bool {
+/// Whether an output of so many bytes is the front of what is wanted that its device takes.
+fn is_front(given: &Given, bytes: usize, output: &str) -> bool {
     let wanted = given.output.as_str();
     let room = given.conditions.writes.room;
-    let is_all = room == usize::MAX || output.len() == room.min(wanted.len());
+    let is_all = room == usize::MAX || bytes == room.min(wanted.len());
     given.conditions.is_front && is_all && wanted.starts_with(output)
 }
 
@@ -66,7 +66,7 @@ fn fault_in(rt: &HostRuntime, given: &Given, outcome: &Outcome) -> Result<Option
         return Ok(Some(fault));
     }
     let wanted = given.output.as_str();
-    if !is_front(given, output.as_str())
+    if !is_front(given, outcome.output.len(), output.as_str())
         && let Some(fault) = difference(alloc, "standard output", wanted, output.as_str())?
     {
         return Ok(Some(fault));
