@@ -539,8 +539,10 @@ static void full_bins(void) {
     IS(zug_set_security(&hive, 0, MOMENT, root, long_bytes, ZUG_DESCRIPTOR_LIMIT), ZUG_NO_SYSTEM_RESOURCES);
     IS(zug_create_key(&hive, 0, MOMENT, root, TEXT("k"), 1, long_bytes, ZUG_DESCRIPTOR_LIMIT, &opened, &disposition), ZUG_NO_SYSTEM_RESOURCES);
     IS(opened == 0 && disposition == 0, true);
+    /* What a value leaves are cells of some 16,000 bytes each. */
+    IS(zug_set_security(&hive, 0, MOMENT, root, long_bytes, 16000), ZUG_NO_SYSTEM_RESOURCES);
     IS(zug_delete_value(&hive, 0, MOMENT, root, TEXT("m0")), 0);
-    IS(zug_set_security(&hive, 0, MOMENT, root, long_bytes, ZUG_DESCRIPTOR_LIMIT), 0);
+    IS(zug_set_security(&hive, 0, MOMENT, root, long_bytes, 16000), 0);
     zug_hive_close(&hive);
 }
 
