@@ -116,6 +116,19 @@ class OpenTest(FileTest):
             self.assertEqual(os.waitpid(child, 0)[1], 0)
             self.assertInUse(lambda: Hive.open(self.path))
 
+    def test_a_child_leaves_a_hive_alone(self):
+        hive = Hive.open(self.path)
+        with hive._lock:
+            child = os.fork()
+            if child == 0:
+                signal.alarm(30)
+                # The lock is of a thread that the child lacks.
+                del hive
+                os._exit(0)
+        self.assertEqual(os.waitpid(child, 0)[1], 0)
+        self.assertInUse(lambda: Hive.open(self.path))
+        hive.close()
+
     def test_read_only(self):
         with Hive.open(self.path), Hive.open(self.path, read_only=True) as hive:
             self.assertIsNone(hive.path)

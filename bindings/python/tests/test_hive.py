@@ -652,6 +652,14 @@ class ValueTest(HiveTest):
         self.assertStatus(87, self.root.set, name + "n", 3, b"")
         self.assertStatus(87, self.root.set, "\u65e5", 3, b"")
 
+    def test_what_tells_another_length(self):
+        class Longer(bytes):
+            def __len__(self):
+                return 100
+
+        self.root.set("Name", REG_BINARY, Longer(b"data"))
+        self.assertEqual(self.root.value("Name"), (REG_BINARY, b"data"))
+
     def test_names_past_ascii_are_none(self):
         self.assertNotIn("\u65e5", self.root)
         self.assertEqual(self.root.get("\u65e5", 7), 7)

@@ -2,6 +2,7 @@
 
 import datetime
 import itertools
+import os
 import threading
 import time
 import weakref
@@ -80,6 +81,7 @@ class Hive:
         """For the three makers: takes over a hive, with the sequence number of its image."""
         self._words = words
         self._sequence = sequence
+        self._process = os.getpid()
         self._file: Optional[_files.HeldFile] = None
         self._lock = threading.Lock()
         # One save at a time: it is held from the image to the file, and taken before the other.
@@ -287,8 +289,8 @@ class Hive:
         self.close()
 
     def __del__(self) -> None:
-        # It is without a file where making it failed.
-        if hasattr(self, "_file"):
+        # It is without a file where making it failed. A child of the process leaves it alone: a lock may be held by a thread that it lacks.
+        if hasattr(self, "_file") and self._process == os.getpid():
             self.close()
 
     def __repr__(self) -> str:
@@ -769,13 +771,13 @@ def _moment_of(clock: Callable[[], int]) -> int:
 
 
 def _bytes_of(data: Any) -> bytes:
-    # bytes() would take a number too, for so many zeros.
-    return data if isinstance(data, bytes) else memoryview(data).tobytes()
+    # bytes() would take a number too, for so many zeros. What is derived of bytes may tell another length than it has.
+    return data if type(data) is bytes else memoryview(data).tobytes()
 
 
 def _encoded(text: str) -> bytes:
     # The library refuses what isn't ASCII, in its own order of refusals, so it is handed all that a text may have.
-    return text.encode("utf-8", "surrogatepass")
+    return str.encode(text, "utf-8", "surrogatepass")
 
 
 def _is_absent(status: Optional[int], name: str) -> bool:
