@@ -506,7 +506,7 @@ static void counts(void) {
     zug_hive_close(&hive);
 }
 
-/* Sets values of so many bytes until the bins have no room for one more. Their entries are cut meanwhile, which takes a root handle's end. */
+/* Sets values of so many bytes until the bins have no room for one more. Their entries are cut meanwhile, for which no handle may be open. */
 static unsigned fill(zug_hive *hive, char kind, size_t size) {
     char name[8];
     for (unsigned made = 0;; made++) {
